@@ -1,0 +1,3 @@
+pub mod Vocabulary
+pub mod Strands
+pub mod Refusals
