@@ -35,8 +35,8 @@ arcsCross = 7
 abbrev pub workTooShort : ℕ
 workTooShort = 8
 
-abbrev pub sliceTooShort : ℕ
-sliceTooShort = 9
+abbrev pub wrongSlice : ℕ
+wrongSlice = 9
 
 abbrev pub notWholeBlocks : ℕ
 notWholeBlocks = 10

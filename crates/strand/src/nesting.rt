@@ -20,7 +20,7 @@ pub fn lowest_outside(mates: &[u16]) -> usize
     i
 }
 
-// The lowest position whose mate's mate is another position, or the length.
+// The lowest position whose mate's mate is another position, or the length. Callers have found the mates in range.
 pub fn lowest_not_mutual(mates: &[u16]) -> usize
     requires { ⌜ ((i : ℕ) → i < length (now mates) → nth (now mates) i < length (now mates)) ⌝ }
     ensures { λ r. ⌜ r ≡ lowest (length (now (mates .entry))) (notMutual (now (mates .entry))) ⌝ }
@@ -59,7 +59,7 @@ fn closes(mates: &[u16], i: usize) -> bool
     true
 }
 
-// Whether no two arcs cross, in linear time.
+// Whether no two arcs cross, in linear time. Callers have found the mates in range and mutual.
 pub fn arcs_close(mates: &[u16]) -> bool
     requires { ⌜ Mutual (nth (now mates)) (length (now mates)) ⌝ }
     ensures { λ r. ⌜ r ≡ not (some (length (now (mates .entry))) (crossedAt (now (mates .entry)))) ⌝ }

@@ -1,0 +1,52 @@
+-- `strand_test::make::lay` meets its contract.
+use Prim.Native.Nat.{_-_, _≤_}
+use mathlib.Core.Path.{_≡_, refl, _∙_}
+use native.Mathlib.Omega.{arith}
+use lib.ListN.{length}
+use Rattle.strand_test.proofs.make.lay.Statement.{statement}
+use Rattle.strand_test.proofs.make.lay.Tie as tie
+
+abbrev Inv-loop : tie.InvT-loop
+Inv-loop form n mates₀ i₀ mates i = (i ≤ n) × (length mates ≡ length mates₀)
+
+abbrev μ-loop : tie.MeasureT-loop
+μ-loop form n mates₀ i₀ mates i = n - i
+
+loop-holds : tie.Need-loop-holds Inv-loop μ-loop
+loop-holds c = (omega arith, refl)
+
+by-rule-requires : tie.Need-by-rule-requires Inv-loop μ-loop
+by-rule-requires c κs = tt
+
+set-requires : tie.Need-set-requires Inv-loop μ-loop
+set-requires c κs = tt
+
+add-i : tie.Need-add-i Inv-loop μ-loop
+add-i c = omega arith
+
+loop-less : tie.Need-loop-less Inv-loop μ-loop
+loop-less c = omega arith
+
+loop-again : tie.Need-loop-again Inv-loop μ-loop
+loop-again c = (omega arith, c .before .before .set .kept .0 ∙ c .before .before .before .before .before .before .loop .inv .1)
+
+same-length : tie.Need-same-length Inv-loop μ-loop
+same-length c = c .before .loop .inv .1
+
+returns : tie.Need-returns Inv-loop μ-loop
+returns c = tt
+
+pub lay-spec : {M : Type 1} → statement M
+lay-spec =
+    tie.close
+    (tie.spec
+    Inv-loop
+    μ-loop
+    loop-holds
+    by-rule-requires
+    set-requires
+    add-i
+    loop-less
+    loop-again
+    same-length
+    returns)

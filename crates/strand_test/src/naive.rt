@@ -1,0 +1,84 @@
+// The table's rows 1 to 7, written out word by word.
+use super::make::entry;
+use super::tell::code;
+
+fn letter(b: u8) -> bool {
+    match b {
+        b'A' | b'C' | b'G' | b'U' => true,
+        _ => false,
+    }
+}
+
+// Two arcs cross when a < i < b < j for arcs (a, b) and (i, j).
+fn cross(a: usize, b: usize, i: usize, j: usize) -> bool {
+    if a < i {
+        if i < b {
+            return b < j;
+        }
+    }
+    false
+}
+
+// Some arc (a, b) crosses the arc (i, j).
+fn crossed(mates: &[u16], i: usize) -> bool {
+    let j = entry(mates, i);
+    let mut a = 0;
+    while a < mates.len() {
+        if cross(a, entry(mates, a), i, j) {
+            return true;
+        }
+        a += 1;
+    }
+    false
+}
+
+// The row applies at position i.
+fn applies(row: usize, bases: &[u8], mates: &[u16], i: usize) -> bool {
+    if bases.len() <= i {
+        return false;
+    }
+    if row == 4 {
+        return !letter(bases[i]);
+    }
+    if row == 5 {
+        return bases.len() <= entry(mates, i);
+    }
+    if row == 6 {
+        return entry(mates, entry(mates, i)) != i;
+    }
+    crossed(mates, i)
+}
+
+// The lowest position at which the row applies, or the length.
+fn lowest(row: usize, bases: &[u8], mates: &[u16]) -> usize {
+    let mut i = 0;
+    while i < bases.len() {
+        if applies(row, bases, mates, i) {
+            return i;
+        }
+        i += 1;
+    }
+    i
+}
+
+// The answer for a strand of one side whose length has limits.
+pub fn answer(bases: &[u8], mates: &[u16], side: usize, least: usize, greatest: usize) -> usize {
+    if bases.len() != mates.len() {
+        return code(1, side, 0);
+    }
+    if bases.len() < least {
+        return code(2, side, 0);
+    }
+    if bases.len() > greatest {
+        return code(3, side, 0);
+    }
+    let mut row = 4;
+    while row < 8 {
+        let i = lowest(row, bases, mates);
+        if i < bases.len() {
+            return code(row, side, i);
+        }
+        row += 1;
+    }
+    0
+}
