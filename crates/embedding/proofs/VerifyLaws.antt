@@ -1,0 +1,88 @@
+-- The refusals and the answers of verify, case by case. Assumes nothing.
+use Prim.Native.Nat.{ℕ, _<_}
+use mathlib.Core.Path.{_≡_, refl, sym, ap, _∙_}
+use mathlib.Core.Bool.{Bool, true, false, not, true≢false}
+use mathlib.Core.List.{List}
+use mathlib.Core.Logic.{_↔_}
+use native.Mathlib.Omega.{arith}
+use lib.ListN.{length}
+use borrow.Author.Tests.{eq-eqb, ne-eqb, eqb-true}
+use Rattle.strand.specs.declared.Refusal.{Refusal}
+use Rattle.strand.specs.declared.Verdict.{Verdict}
+use Rattle.strand.specs.declared.Verdict.the-variants as verdict
+use Rattle.strand.specs.Vocabulary.{nth, choose}
+use Rattle.strand.specs.Strands.{lettersMatch}
+use Rattle.strand.specs.Refusals.{refusal, first, pairVerdict}
+use Rattle.strand.proofs.ListLaws.{not-not}
+use Rattle.strand.proofs.VerdictLaws.{first-pass, row-yes, row-no, row-pass, pair-proper}
+use Rattle.embedding.specs.declared.Verified.the-variants.{Yes, No, Refused}
+use Rattle.embedding.specs.Embedding.{letters, Emb}
+use Rattle.embedding.specs.Longest.{verified}
+use Rattle.embedding.specs.Verify.{verifyVerdict, answerOf, verifyAnswer}
+use Rattle.embedding.proofs.Answers.{not-true-is}
+use Rattle.embedding.proofs.Computed.{verified-iff}
+
+module _ (p pm q qm v : List ℕ) where
+  -- What the judge finds.
+  pub judged-pair : (x : Refusal) → pairVerdict p pm q qm ≡ verdict.Refused x → verdict.Refused x ≡ verifyVerdict p pm q qm v
+  unfolding verifyVerdict first
+  judged-pair x e = rw e
+
+  pub judged-count : pairVerdict p pm q qm ≡ verdict.Accepted → (length v ≡ length p → ⊥) → refusal 9 2 0 ≡ verifyVerdict p pm q qm v
+  unfolding verifyVerdict first
+  judged-count e n = rw (e, row-yes 9 2 _ (ap not (ne-eqb (length v) (length p) n)))
+
+  pub judged-pass : pairVerdict p pm q qm ≡ verdict.Accepted → length v ≡ length p → verdict.Accepted ≡ verifyVerdict p pm q qm v
+  unfolding verifyVerdict first
+  judged-pass e l = rw (e, row-no 9 2 _ (ap not (eq-eqb (length v) (length p) l)))
+
+  -- What an accepted call knows.
+  pub accepted-pair : verifyVerdict p pm q qm v ≡ verdict.Accepted → pairVerdict p pm q qm ≡ verdict.Accepted
+  unfolding verifyVerdict
+  accepted-pair e = first-pass _ _ e .0
+
+  pub accepted-count : verifyVerdict p pm q qm v ≡ verdict.Accepted → length v ≡ length p
+  unfolding verifyVerdict
+  accepted-count e = eqb-true _ _ (not-not _ (row-pass 9 2 _ (first-pass _ _ (first-pass _ _ e .1) .0)))
+
+  -- What the places have to be before they are tested.
+  pub accepted-facts : verifyVerdict p pm q qm v ≡ verdict.Accepted
+      → (length v ≡ length p) × (((length pm ≡ length p) × (length qm ≡ length q)) × ((i : ℕ) → i < length pm → nth pm i < length pm))
+  accepted-facts e =
+      let P = pair-proper p pm q qm (accepted-pair e) in
+      let s : length pm ≡ length p = P .motif .same in
+      (accepted-count e, ((s, P .molecule .same), λ i h. omega (arith, P .motif .nested .inside i (omega arith))))
+
+  -- The answers.
+  pub answer-refused : (x : Refusal) → verifyVerdict p pm q qm v ≡ verdict.Refused x → Refused x ≡ verifyAnswer p pm q qm v
+  unfolding answerOf
+  answer-refused x e = rw e
+
+  module _ (e : verifyVerdict p pm q qm v ≡ verdict.Accepted) where
+    pub answer-yes : Emb (letters p q) (nth pm) (nth qm) 0 (length p) 0 (length q) (nth v) → Yes ≡ verifyAnswer p pm q qm v
+    unfolding answerOf choose
+    answer-yes E = rw (e, verified-iff lettersMatch p pm q qm v .1 (accepted-count e, E))
+
+    pub answer-no : (Emb (letters p q) (nth pm) (nth qm) 0 (length p) 0 (length q) (nth v) → ⊥) → No ≡ verifyAnswer p pm q qm v
+    unfolding answerOf choose
+    answer-no n = rw (e, not-true-is _ (λ t. n (verified-iff lettersMatch p pm q qm v .0 t .1)))
+
+  -- Yes exactly when both strands are accepted and the places are an embedding of the whole P.
+  yes-facts : verifyAnswer p pm q qm v ≡ Yes
+      → (pairVerdict p pm q qm ≡ verdict.Accepted) × (length v ≡ length p) × Emb (letters p q) (nth pm) (nth qm) 0 (length p) 0 (length q) (nth v)
+  yes-facts a = go (verifyVerdict p pm q qm v) refl
+    where
+      go : (w : Verdict) → verifyVerdict p pm q qm v ≡ w
+          → (pairVerdict p pm q qm ≡ verdict.Accepted) × (length v ≡ length p) × Emb (letters p q) (nth pm) (nth qm) 0 (length p) 0 (length q) (nth v)
+      go (verdict.Refused x) e = absurd (let z = answer-refused x e ∙ a in let y : _≡_ {A = ℕ} 0 1 = cc in omega arith)
+      go verdict.Accepted e = (accepted-pair e, accepted-count e, test (verified lettersMatch p pm q qm v) refl)
+        where
+          test : (b : Bool) → verified lettersMatch p pm q qm v ≡ b → Emb (letters p q) (nth pm) (nth qm) 0 (length p) 0 (length q) (nth v)
+          test true t = verified-iff lettersMatch p pm q qm v .0 t .1
+          test false t =
+              absurd (let z = answer-no e (λ E. true≢false (sym (verified-iff lettersMatch p pm q qm v .1 (accepted-count e, E)) ∙ t)) ∙ a in
+              let y : _≡_ {A = ℕ} 0 1 = cc in omega arith)
+
+  pub verify-yes : (verifyAnswer p pm q qm v ≡ Yes)
+      ↔ ((pairVerdict p pm q qm ≡ verdict.Accepted) × (length v ≡ length p) × Emb (letters p q) (nth pm) (nth qm) 0 (length p) 0 (length q) (nth v))
+  verify-yes = (yes-facts, λ h. sym (answer-yes (sym (judged-pass (h .0) (h .1))) (h .2)))

@@ -1,0 +1,39 @@
+-- `embedding::verify` meets its contract.
+use borrow.Author.Needs.{needs}
+use mathlib.Core.Path.{sym, _∙_}
+use Rattle.embedding.proofs.VerifyLaws.{accepted-facts, answer-refused, answer-yes, answer-no}
+use Rattle.embedding.proofs.verify.Statement.{statement}
+use Rattle.embedding.proofs.verify.Tie as tie
+
+judge-requires : tie.Need-judge-requires
+judge-requires c κs = search needs
+
+enum-known-verdict : tie.Need-enum-known-verdict
+enum-known-verdict c = search needs
+
+returns : tie.Need-returns
+returns c = answer-refused _ _ _ _ _ _ (sym (c .before .before .before .judge .ensures) ∙ c .before .verdict .given .1)
+
+enum-told : tie.Need-enum-told
+enum-told c = search needs
+
+is-embedding-requires : tie.Need-is-embedding-requires
+is-embedding-requires c κs = accepted-facts _ _ _ _ _ (sym (c .before .before .judge .ensures) ∙ c .enum-told .given .1)
+
+returns-2 : tie.Need-returns-2
+returns-2 c = answer-yes _ _ _ _ _ (sym (c .before .before .before .before .judge .ensures) ∙ c .before .before .enum-told .given .1) (c .before .is-embedding .ensures .yes (c .if1 .taken))
+
+returns-3 : tie.Need-returns-3
+returns-3 c = answer-no _ _ _ _ _ (sym (c .before .before .before .before .judge .ensures) ∙ c .before .before .enum-told .given .1) (c .before .is-embedding .ensures .no (c .if1 .left))
+
+pub verify-spec : {M : Type 1} → statement M
+verify-spec =
+    tie.close
+    (tie.spec
+    judge-requires
+    enum-known-verdict
+    returns
+    enum-told
+    is-embedding-requires
+    returns-2
+    returns-3)

@@ -1,0 +1,36 @@
+-- What an embedding is: of a stretch P[a..b) of the motif in a stretch Q[s..e) of the molecule, positions from 0, under any letter rule.
+-- A strand's arcs are given by its mates; an unbonded base has its own position as mate. Stretches may be empty. Assumes nothing.
+use Prim.Native.Nat.{ℕ, _≤_, _<_}
+use mathlib.Core.Path.{_≡_}
+use mathlib.Core.Bool.{Bool, true}
+use mathlib.Core.Logic.{_↔_}
+use mathlib.Core.List.{List}
+use Rattle.strand.specs.Vocabulary.{nth}
+use Rattle.strand.specs.Strands.{lettersMatch}
+
+-- 01, bases: position x of P may go to position u of Q where the rule, motif letter first, passes on their letters.
+abbrev pub fits : (ℕ → ℕ → Bool) → List ℕ → List ℕ → ℕ → ℕ → Bool
+fits rule pb qb x u = rule (nth pb x) (nth qb u)
+
+-- 01, bases: the two bases are equal, which means the same byte.
+abbrev pub letters : List ℕ → List ℕ → ℕ → ℕ → Bool
+letters pb qb = fits lettersMatch pb qb
+
+-- 01, Embedding: f gives each position of P[a..b) a position of Q[s..e), such that ..
+pub record Emb (fit : ℕ → ℕ → Bool) (pm qm : ℕ → ℕ) (a b s e : ℕ) (f : ℕ → ℕ) : Type 0 where
+  pub low : (x : ℕ) → a ≤ x → x < b → s ≤ f x
+  pub high : (x : ℕ) → a ≤ x → x < b → f x < e
+  -- order: a later position of P goes to a later position of Q;
+  pub order : (x y : ℕ) → a ≤ x → x < y → y < b → f x < f y
+  -- bases: the letters fit;
+  pub bases : (x : ℕ) → a ≤ x → x < b → fit x (f x) ≡ true
+  -- arcs: two positions of P are an arc exactly when their images are an arc of Q.
+  pub arcs : (x y : ℕ) → a ≤ x → x < y → y < b → (pm x ≡ y) ↔ (qm (f x) ≡ f y)
+
+-- An embedding exists.
+abbrev pub Embeds : (ℕ → ℕ → Bool) → (ℕ → ℕ) → (ℕ → ℕ) → ℕ → ℕ → ℕ → ℕ → Type 0
+Embeds fit pm qm a b s e = (f : ℕ → ℕ) × Emb fit pm qm a b s e f
+
+-- 01, Embedding: the prefix of k bases of a P of m bases is closed: no arc of P has one end in it and one outside.
+abbrev pub ClosedPrefix : (ℕ → ℕ) → ℕ → ℕ → Type 0
+ClosedPrefix pm m k = (x y : ℕ) → x < k → k ≤ y → y < m → pm x ≡ y → ⊥

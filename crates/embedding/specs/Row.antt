@@ -1,0 +1,48 @@
+-- Only the proofs and the matcher need this file: reached ends, the largest of them, and rows of such ends. Assumes nothing.
+use Prim.Native.Nat.{ℕ, suc, _≤_, _<_, max}
+use mathlib.Core.Bool.{Bool}
+use lib.Dec.{ltb, leb}
+use Rattle.strand.specs.Vocabulary.{choose}
+use Rattle.embedding.specs.Embedding.{Embeds}
+
+-- P[j..k) is a closed prefix of P[j..): no base of it has its mate at or after k.
+abbrev pub Closed : (ℕ → ℕ) → ℕ → ℕ → Type 0
+Closed pm j k = (x : ℕ) → j ≤ x → x < k → pm x < k
+
+-- The split of Q[s..e) at i crosses no arc of Q[s..e).
+abbrev pub Split : (ℕ → ℕ) → ℕ → ℕ → ℕ → Type 0
+Split qm s i e = (u : ℕ) → s ≤ u → u < i → i ≤ qm u → e ≤ qm u
+
+-- k is reached from j: P[j..k) is a closed prefix of P[j..m) and embeds in Q[s..e).
+pub record Reach (fit : ℕ → ℕ → Bool) (pm qm : ℕ → ℕ) (m j k s e : ℕ) : Type 0 where
+  pub from : j ≤ k
+  pub upto : k ≤ m
+  pub closed : Closed pm j k
+  pub embeds : Embeds fit pm qm j k s e
+
+-- k is the largest end reached from j.
+pub record Best (fit : ℕ → ℕ → Bool) (pm qm : ℕ → ℕ) (m j k s e : ℕ) : Type 0 where
+  pub reach : Reach fit pm qm m j k s e
+  pub most : (k′ : ℕ) → Reach fit pm qm m j k′ s e → k′ ≤ k
+
+-- The row of Q[s..e) for the starts from lo to z in the window P[lo..z).
+pub record IsRow (fit : ℕ → ℕ → Bool) (pm qm : ℕ → ℕ) (lo z s e : ℕ) (row : ℕ → ℕ) : Type 0 where
+  pub best : (j : ℕ) → lo ≤ j → j ≤ z → Best fit pm qm z j (row j) s e
+
+-- The row of one unbonded base: it takes position k if k is no left end and `has` its letter.
+unfoldable pub unitAt : (ℕ → Bool) → (ℕ → ℕ) → ℕ → ℕ → ℕ
+unitAt has pm z k = choose (ltb k z) (choose (leb (pm k) k) (choose (has k) (suc k) k) k) k
+
+-- What an arc of Q takes from j with its left end, `next` being the inner row's entry for j + 1: j alone and on to `next`; or the arc of P
+-- from j, if it ends before z and all between its ends is taken; or nothing.
+unfoldable pub overAt : (ℕ → Bool) → (ℕ → Bool) → (ℕ → ℕ) → ℕ → ℕ → ℕ → ℕ
+overAt left right pm z next j =
+    choose (ltb j z)
+    (choose (left j)
+    (choose (leb (pm j) j) next
+    (choose (ltb (pm j) z) (choose (right (pm j)) (choose (leb (pm j) next) (suc (pm j)) 0) 0) 0)) 0) 0
+
+-- The entry for j of an arc of Q, from its inner row's entries `here` for j and `next` for j + 1; `left` and `right` say which positions
+-- have the letters of its ends.
+abbrev pub arcAt : (ℕ → Bool) → (ℕ → Bool) → (ℕ → ℕ) → ℕ → ℕ → ℕ → ℕ → ℕ
+arcAt left right pm z here next j = max (unitAt right pm z here) (overAt left right pm z next j)

@@ -1,0 +1,41 @@
+// Embeddings of a motif in a molecule: the call verify.
+mod places;
+
+use strand::Refusal;
+use strand::Verdict;
+ghost use mathlib.Core.Path.{_≡_};
+ghost use Rattle.embedding.specs.Verify.{verifyVerdict, verifyAnswer};
+
+pub enum Verified {
+    Yes,
+    No,
+    Refused(Refusal),
+}
+
+// The refusals of verify: the motif, the molecule, then the number of places.
+fn judge(p: &[u8], pm: &[u16], q: &[u8], qm: &[u16], places: &[u16]) -> Verdict
+    ensures { λ r. ⌜ r ≡ verifyVerdict (now (p .entry)) (now (pm .entry)) (now (q .entry)) (now (qm .entry)) (now (places .entry)) ⌝ }
+{
+    let pair = strand::check_pair(p, pm, q, qm);
+    if let Verdict::Refused(x) = pair {
+        return Verdict::Refused(x);
+    }
+    if places.len() != p.len() {
+        return strand::refuse(9, 2, 0);
+    }
+    Verdict::Accepted
+}
+
+// The call verify: whether the places are an embedding of the whole motif. O(m log m) after the check of the strands.
+pub fn verify(p: &[u8], pm: &[u16], q: &[u8], qm: &[u16], places: &[u16]) -> Verified
+    ensures { λ r. ⌜ r ≡ verifyAnswer (now (p .entry)) (now (pm .entry)) (now (q .entry)) (now (qm .entry)) (now (places .entry)) ⌝ }
+{
+    let verdict = judge(p, pm, q, qm, places);
+    if let Verdict::Refused(x) = verdict {
+        return Verified::Refused(x);
+    }
+    if places::is_embedding(p, pm, q, qm, places) {
+        return Verified::Yes;
+    }
+    Verified::No
+}
