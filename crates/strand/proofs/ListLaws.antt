@@ -9,11 +9,11 @@ use native.Mathlib.Omega.{arith}
 use native.Mathlib.Nat.{le-of-suc-le-suc, not-suc-le-zero, eq-or-lt-of-le}
 use native.Mathlib.Numerals.{add-one}
 use native.Mathlib.Decide.{decLt, ℕ-discrete}
-use borrow.Author.Tests.{eq-eqb, ne-eqb, lt-ltb, le-ltb}
+use borrow.Author.Tests.{eqb-true, eq-eqb, ne-eqb, not-false, lt-ltb, le-ltb}
 use lib.Dec.{eqb, ltb}
-use lib.ListN.{length, set, drop, length-append, List·getD-append, drop-of-length-le}
+use lib.ListN.{length, set, drop, length-append, List·getD-append, drop-of-length-le, replicate, getD-replicate, length-replicate, List·getD-eq-default}
 use lib.Seq.{drop-cons, set-at, append-snoc, getD-at, ext-getD}
-use Rattle.strand.specs.Vocabulary.{nth, choose, every, some, lowestFrom, lowest, tab, total, sameList}
+use Rattle.strand.specs.Vocabulary.{nth, choose, every, all, some, lowestFrom, lowest, tab, total, sameList}
 
 -- ---- Booleans
 
@@ -28,6 +28,25 @@ not-not false e = sym e
 pub true-not : (b : Bool) → not b ≡ true → b ≡ false
 true-not true e = sym e
 true-not false e = refl
+
+pub and-left : (a b : Bool) → (a && b) ≡ true → a ≡ true
+and-left a b e = and-true a b e .0
+
+pub and-right : (a b : Bool) → (a && b) ≡ true → b ≡ true
+and-right a b e = and-true a b e .1
+
+pub never : {P : Type 0} → false ≡ true → P
+never q = absurd (let z : _≡_ {A = ℕ} 0 1 = cc in omega arith)
+
+pub is-true : (b : Bool) → (b ≡ false → ⊥) → b ≡ true
+is-true true f = refl
+is-true false f = absurd (f refl)
+
+-- Two tests that pass together are equal.
+pub both-ways : (a b : Bool) → (a ≡ true → b ≡ true) → (b ≡ true → a ≡ true) → a ≡ b
+both-ways true b f g = sym (f refl)
+both-ways false true f g = g refl
+both-ways false false f g = refl
 
 -- ---- every
 
@@ -230,3 +249,48 @@ same-place (x ∷ xs) (y ∷ ys) (suc i) h k n = rw (same-place xs ys i (le-of-s
 
 pub same-all : (xs ys : List ℕ) → length xs ≡ length ys → ((i : ℕ) → i < length xs → nth xs i ≡ nth ys i) → sameList xs ys ≡ true
 same-all xs ys l h = ap (sameList xs) (sym (ext-getD 0 xs ys l h)) ∙ same-refl xs
+
+-- ---- passes and zeros
+
+pub tab-ext : (f g : ℕ → ℕ) (n : ℕ) → ((i : ℕ) → i < n → f i ≡ g i) → tab n f ≡ tab n g
+unfolding tab
+tab-ext f g zero e = refl
+tab-ext f g (suc n) e = ap₂ (λ (x : List ℕ) (y : ℕ). x ++ (y ∷ [])) (tab-ext f g n (λ i h. e i (omega arith))) (e n (omega arith))
+
+-- A pass over the numbers below n that has come to its end.
+pub every-end : (p : ℕ → Bool) (n i : ℕ) → every i p ≡ true → i ≤ n → n ≤ i → true ≡ every n p
+every-end p n i e a b = let z : i ≡ n = omega arith in sym (ap (λ (k : ℕ). every k p) (sym z) ∙ e)
+
+-- No number below n fails the test.
+pub every-lowest : (p : ℕ → Bool) (n r : ℕ) → r ≡ lowest n (λ i. not (p i)) → eqb r n ≡ every n p
+every-lowest p n r is = both-ways (eqb r n) (every n p) to from
+  where
+    to : eqb r n ≡ true → every n p ≡ true
+    to e = every-true p n (λ i l. not-false (p i) (lowest-before (λ k. not (p k)) n i (omega (arith, eqb-true r n e)) l))
+
+    from : every n p ≡ true → eqb r n ≡ true
+    from e = eq-eqb r n (is ∙ lowest-all (λ k. not (p k)) n (λ i l. ap not (every-at p n i e l)))
+
+-- All entries are zero.
+pub zeros-at : (l : List ℕ) → all (λ x. eqb x 0) l ≡ true → (i : ℕ) → nth l i ≡ 0
+zeros-at l e i =
+    elim (decLt i (length l)) [
+      | yes h ↦ eqb-true (nth l i) 0 (every-at (λ k. eqb (nth l k) 0) (length l) i e h)
+      | no h ↦ List·getD-eq-default l 0 {n = i} (omega arith)
+    ]
+
+pub zeros-not : (l : List ℕ) (i : ℕ) → i < length l → (nth l i ≡ 0 → ⊥) → all (λ x. eqb x 0) l ≡ false
+zeros-not l i h n = every-stop (λ k. eqb (nth l k) 0) (length l) i h (ne-eqb (nth l i) 0 n)
+
+pub zeros-zero : (k : ℕ) → all (λ x. eqb x 0) (replicate k 0) ≡ true
+zeros-zero k =
+    every-true (λ i. eqb (nth (replicate k 0) i) 0) (length (replicate {A = ℕ} k 0))
+    (λ i l. eq-eqb _ 0 (getD-replicate k i 0 0 (omega (arith, length-replicate {A = ℕ} k 0))))
+
+-- A list of zeros is made of as many.
+pub zeros-are : (l : List ℕ) → all (λ x. eqb x 0) l ≡ true → l ≡ replicate (length l) 0
+zeros-are l e = go l (zeros-at l e)
+  where
+    go : (l : List ℕ) → ((i : ℕ) → nth l i ≡ 0) → l ≡ replicate (length l) 0
+    go [] z = refl
+    go (x ∷ l) z = ap₂ (λ (y : ℕ) (m : List ℕ). y ∷ m) (z 0) (go l (λ i. z (suc i)))

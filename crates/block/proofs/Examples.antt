@@ -1,0 +1,64 @@
+-- The settled example of a checksum: the block of A, 0 has 1888.
+-- Assumes nothing.
+use mathlib.Core.Path.{_≡_, refl, sym, ap, _∙_}
+use mathlib.Core.Bool.{true}
+use mathlib.Core.List.{List, [], _∷_, _++_, append-assoc}
+use Prim.Native.Nat.{ℕ, _+_, _-_, _≤_}
+use native.Mathlib.Omega.{arith}
+use lib.ListN.{length, replicate, replicate-append-replicate}
+use lib.Seq.{getD-append-add}
+use borrow.Author.Tests.{eqb-true}
+use Rattle.strand.specs.Vocabulary.{nth, every}
+use Rattle.strand.specs.Strands.{strandOf, isLetter}
+use Rattle.octets.specs.Numbers.{word32, bytesOf}
+use Rattle.octets.specs.Checksum.{sumTo, checksumOf, checksumOk, checked}
+use Rattle.block.specs.Content.{moleculeKind, contentOf, moleculeBlock, encodeMolecule}
+use Rattle.strand.proofs.ListLaws.{zeros-at, zeros-zero}
+use Rattle.octets.proofs.SumLaws.{sum-append, sum-blank}
+use Rattle.block.proofs.CodeLaws.{length-content}
+use Rattle.block.proofs.RoundTrip.{small-content, check-sound}
+
+-- Its first 29 bytes; the rest up to the checksum is zero.
+front : List ℕ
+front = (1 ∷ 1 ∷ replicate 26 0) ++ (65 ∷ [])
+
+body : List ℕ
+body = contentOf moleculeKind (65 ∷ []) (0 ∷ [])
+
+body-is : body ≡ front ++ replicate 479 0
+unfolding body front contentOf bytesOf
+body-is =
+    ap (λ (l : List ℕ). l ++ replicate 320 0) (sym (append-assoc (1 ∷ 1 ∷ replicate 26 0) (65 ∷ []) (replicate 159 0)))
+    ∙ append-assoc ((1 ∷ 1 ∷ replicate 26 0) ++ (65 ∷ [])) (replicate 159 0) (replicate 320 0)
+    ∙ ap (λ (l : List ℕ). (1 ∷ 1 ∷ replicate 26 0) ++ (65 ∷ []) ++ l) (replicate-append-replicate 159 320 0)
+
+zero-after : (p : List ℕ) (m i : ℕ) → length p ≤ i → nth (p ++ replicate m 0) i ≡ 0
+zero-after p m i h =
+    ap (nth (p ++ replicate m 0)) there ∙ getD-append-add p (replicate m 0) (i - length p) 0 ∙ zeros-at (replicate m 0) (zeros-zero m) (i - length p)
+  where
+    there : i ≡ length p + (i - length p)
+    there = omega arith
+
+front-sum : sumTo front 29 ≡ 1888
+unfolding front sumTo
+front-sum = refl
+
+body-sum : sumTo body 508 ≡ 1888
+body-sum =
+    ap (λ (l : List ℕ). sumTo l 508) body-is
+    ∙ sum-blank (front ++ replicate 479 0) 29 479 (λ i l. zero-after front 479 i (unfold front in l))
+    ∙ sum-append front (replicate 479 0) 29 (unfold front in (omega arith))
+    ∙ front-sum
+
+right : checksumOk (checked body) ≡ true
+unfolding body
+right =
+    check-sound (contentOf moleculeKind (65 ∷ []) (0 ∷ [])) (length-content moleculeKind (65 ∷ []) (0 ∷ []) (omega arith) (omega arith) refl)
+    (small-content moleculeKind (65 ∷ []) (0 ∷ []) (omega arith) (omega arith) (unfold every isLetter in refl))
+
+pub checksum-of-A : word32 (encodeMolecule (strandOf (65 ∷ []) (0 ∷ []))) 508 ≡ 1888
+unfolding encodeMolecule moleculeBlock body checksumOk checksumOf checked
+checksum-of-A =
+    sym (eqb-true (sumTo (checked body) 508) (word32 (checked body) 508) right)
+    ∙ sum-append body _ 508 (omega (arith, length-content moleculeKind (65 ∷ []) (0 ∷ []) (omega arith) (omega arith) refl))
+    ∙ body-sum

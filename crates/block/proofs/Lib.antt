@@ -1,0 +1,11 @@
+pub mod SoundLaws
+pub mod CodeLaws
+pub mod Altered
+pub mod RoundTrip
+pub mod EntryLaws
+pub mod BufferLaws
+pub mod BlockLaws
+pub mod EncodedLaws
+pub mod WriteLaws
+pub mod ContentLaws
+pub mod Examples

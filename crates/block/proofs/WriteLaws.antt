@@ -1,0 +1,73 @@
+-- What the code of entries and buffers leaves, put together: a molecule or zeros written at a block, a motif compared, an entry written.
+-- Assumes nothing.
+use mathlib.Core.Path.{_≡_, ap, ap₂, _∙_}
+use mathlib.Core.Bool.{true, false}
+use mathlib.Core.List.{List, _++_}
+use Prim.Native.Nat.{ℕ, _+_, _-_, _*_, _/_, _<_, _≤_}
+use native.Mathlib.Omega.{arith}
+use lib.ListN.{length, take, drop, replicate, length-append, length-drop}
+use borrow.Rule.Slice.PartMut.{putMid}
+use Rattle.strand.specs.Vocabulary.{nth, between, all, sameList}
+use Rattle.strand.specs.Strands.{strandOf, sameStrand}
+use Rattle.octets.specs.Numbers.{isZero, words}
+use Rattle.octets.specs.Checksum.{rechecked}
+use Rattle.block.specs.Content.{entryKind, emptyBlock, isEmpty, strandIn, motifIn, keepsMotif, contentOf, moleculeBlock, entryBlock, encodeMolecule}
+use Rattle.block.specs.Buffer.{putBlock}
+use Rattle.block.proofs.CodeLaws.{length-content, put-next, check-put}
+use Rattle.block.proofs.BufferLaws.{put-is}
+use Rattle.block.proofs.BlockLaws.{length-block}
+
+-- ---- a block of a buffer
+
+pub put-molecule-is : (d : ℕ) (buf bases mates r : List ℕ) → r ≡ moleculeBlock bases mates
+    → putMid (512 * d) (512 * d + 512 - 512 * d) buf r ≡ putBlock d (encodeMolecule (strandOf bases mates)) buf
+unfolding encodeMolecule
+put-molecule-is d buf bases mates r e = put-is d buf r (moleculeBlock bases mates) e
+
+pub zero-at-is : (d : ℕ) (s r : List ℕ) → d < length s / 512 → r ≡ replicate (length (take (512 * d + 512 - 512 * d) (drop (512 * d) s))) 0
+    → putMid (512 * d) (512 * d + 512 - 512 * d) s r ≡ putBlock d emptyBlock s
+unfolding emptyBlock
+zero-at-is d s r h e = put-is d s r (replicate 512 0) (e ∙ ap (λ (k : ℕ). replicate k 0) (length-block d s (omega arith)))
+
+-- ---- the motif of an entry
+
+module _ (s bases mates : List ℕ) where
+  pub keeps-1 : (n : ℕ) → n ≡ nth s 1 → sameList (between 20 (20 + n) s) bases ≡ false → false ≡ sameStrand (motifIn s) (strandOf bases mates)
+  unfolding sameStrand motifIn strandIn
+  keeps-1 n is e = rw (← is, e)
+
+  pub keeps-2 : (n : ℕ) (w : List ℕ) → n ≡ nth s 1 → sameList (between 20 (20 + n) s) bases ≡ true → w ≡ words n (drop 140 s)
+      → sameList w mates ≡ sameStrand (motifIn s) (strandOf bases mates)
+  unfolding sameStrand motifIn strandIn
+  keeps-2 n w is e q = rw (← is, e, ← q)
+
+  pub keeps-3 : all isZero s ≡ true → false ≡ keepsMotif s (strandOf bases mates)
+  unfolding keepsMotif isEmpty
+  keeps-3 e = rw e
+
+  pub keeps-4 : all isZero s ≡ false → sameStrand (motifIn s) (strandOf bases mates) ≡ keepsMotif s (strandOf bases mates)
+  unfolding keepsMotif isEmpty
+  keeps-4 e = rw e
+
+-- ---- a cache entry: content, then the two maps, then the checksum
+
+entry-parts : (bases mates m₁ m₂ t x y r : List ℕ) → length bases ≤ 120 → length mates ≡ length bases → length m₁ ≡ 64 → length m₂ ≡ 64 → length t ≡ 132
+    → x ≡ putMid 380 64 (contentOf entryKind bases mates ++ t) m₁ → y ≡ putMid 444 64 x m₂
+    → r ≡ rechecked y → r ≡ entryBlock bases mates m₁ m₂
+unfolding entryBlock
+entry-parts bases mates m₁ m₂ t x y r hb hm h₁ h₂ ht ex ey er =
+    let lc : length (contentOf entryKind bases mates) ≡ 380 = length-content entryKind bases mates (omega arith) hb hm in
+    let x′ : x ≡ contentOf entryKind bases mates ++ m₁ ++ drop 64 t = ex ∙ put-next 380 444 (contentOf entryKind bases mates) t lc m₁ in
+    let l₁ : length (contentOf entryKind bases mates ++ m₁) ≡ 444 = length-append (contentOf entryKind bases mates) m₁ ∙ ap₂ (λ (a b : ℕ). a + b) lc h₁ in
+    let y′ : y ≡ contentOf entryKind bases mates ++ m₁ ++ m₂ ++ drop 64 (drop 64 t)
+    = ey ∙ ap (λ (l : List ℕ). putMid 444 64 l m₂) x′ ∙ put-next 444 508 (contentOf entryKind bases mates ++ m₁) (drop 64 t) l₁ m₂ in
+    let l₂ : length (contentOf entryKind bases mates ++ m₁ ++ m₂) ≡ 508 = length-append (contentOf entryKind bases mates ++ m₁) m₂ ∙ ap₂ (λ (a b : ℕ). a + b) l₁ h₂ in
+    check-put (contentOf entryKind bases mates ++ m₁ ++ m₂) (drop 64 (drop 64 t)) y r l₂
+    (ap length y′ ∙ length-append (contentOf entryKind bases mates ++ m₁ ++ m₂) (drop 64 (drop 64 t)) ∙ ap₂ (λ (a b : ℕ). a + b) l₂ (length-drop 64 (drop 64 t) ∙ ap (λ (k : ℕ). k - 64) (length-drop 64 t ∙ ap (λ (k : ℕ). k - 64) ht))) y′ er
+
+pub entry-put : (bases mates m₁ m₂ s c n₁ n₂ r : List ℕ) → length s ≡ 512 → length bases ≤ 120 → length mates ≡ length bases → length m₁ ≡ 64 → length m₂ ≡ 64
+    → c ≡ contentOf entryKind bases mates ++ drop 380 s → n₁ ≡ m₁ → n₂ ≡ m₂
+    → r ≡ rechecked (putMid 444 64 (putMid 380 64 c n₁) n₂) → r ≡ entryBlock bases mates m₁ m₂
+entry-put bases mates m₁ m₂ s c n₁ n₂ r hs hb hm h₁ h₂ ec e₁ e₂ er =
+    entry-parts bases mates m₁ m₂ (drop 380 s) (putMid 380 64 c n₁) (putMid 444 64 (putMid 380 64 c n₁) n₂) r hb hm h₁ h₂
+    (length-drop 380 s ∙ ap (λ (k : ℕ). k - 380) hs) (ap₂ (putMid 380 64) ec e₁) (ap (putMid 444 64 (putMid 380 64 c n₁)) e₂) er

@@ -1,0 +1,35 @@
+-- `block::buffer::zero_at` meets its contract.
+use Prim.Native.Nat.{zero}
+use borrow.Author.Needs.{needs}
+use Rattle.block.proofs.WriteLaws.{zero-at-is}
+use Rattle.block.proofs.buffer.zero_at.Statement.{statement}
+use Rattle.block.proofs.buffer.zero_at.Tie as tie
+
+mul-a : tie.Need-mul-a
+mul-a c = search needs
+
+add-e : tie.Need-add-e
+add-e c = search needs
+
+sub-zero : tie.Need-sub-zero
+sub-zero c = search needs
+
+part-zero-start : tie.Need-part-zero-start
+part-zero-start c = search needs
+
+part-zero-end : tie.Need-part-zero-end
+part-zero-end c = search needs
+
+zero-requires : tie.Need-zero-requires
+zero-requires c κs = search needs
+
+same-length : tie.Need-same-length
+same-length c = search needs
+
+returns : tie.Need-returns
+returns c = zero-at-is (c .before .before .before .before .before .args .d) (c .before .before .before .before .before .args .buf .now) (c .before .before .zero .last .0) (search needs) (c .before .before .zero .ensures)
+
+pub zero-at-spec : {M : Type 1} → statement M
+zero-at-spec =
+    tie.close
+    (tie.spec mul-a add-e sub-zero part-zero-start part-zero-end zero-requires same-length returns)

@@ -1,0 +1,92 @@
+// The blocks of a buffer, one after the other.
+ghost use mathlib.Core.Path.{_≡_};
+ghost use Prim.Native.Nat.{_+_, _*_, _-_, _<_, _≤_, _/_};
+ghost use lib.ListN.{length};
+ghost use Rattle.strand.specs.Strands.{strandOf};
+ghost use Rattle.octets.specs.Checksum.{blockSize};
+ghost use Rattle.block.specs.Content.{emptyBlock, isEmpty, encodeMolecule};
+ghost use Rattle.block.specs.Block.{blockOf};
+ghost use Rattle.block.specs.Buffer.{eachBlock, cleaned, forgot, putBlock};
+
+// Zero a cache block that is not sound.
+pub fn clean(s: &mut [u8])
+    ensures { λ _. ⌜ now (s .exit) ≡ cleaned (now (s .entry)) ⌝ }
+{
+    if !crate::sound::sound_entry(s) {
+        octets::scan::zero(s);
+    }
+}
+
+// Zero each cache block that is not sound.
+pub fn clean_all(s: &mut [u8])
+    ensures { λ _. ⌜ now (s .exit) ≡ eachBlock cleaned (now (s .entry)) ⌝ }
+{
+    let n = s.len() / 512;
+    let mut d = 0;
+    while d < n {
+        let a = 512 * d;
+        let e = a + 512;
+        clean(&mut s[a..e]);
+        d += 1;
+    }
+}
+
+// Take number d out of both maps of a cache entry; an empty block stays.
+pub fn forget(s: &mut [u8], d: usize)
+    ensures { λ _. ⌜ now (s .exit) ≡ forgot d (now (s .entry)) ⌝ }
+{
+    if s.len() != 512 {
+        return;
+    }
+    let k = s[0];
+    if k <= 0 {
+        return;
+    }
+    octets::bits::clear(s, 380, d);
+    octets::bits::clear(s, 444, d);
+    octets::checksum::put_checksum(s);
+}
+
+// Take number d out of each cache entry.
+pub fn forget_all(s: &mut [u8], d: usize)
+    ensures { λ _. ⌜ now (s .exit) ≡ eachBlock (forgot d) (now (s .entry)) ⌝ }
+{
+    let n = s.len() / 512;
+    let mut k = 0;
+    while k < n {
+        let a = 512 * k;
+        let e = a + 512;
+        forget(&mut s[a..e], d);
+        k += 1;
+    }
+}
+
+// Write the block of a molecule at number d. Add calls it below the buffer's number of blocks, where rows 1 to 7 let the molecule pass.
+pub fn put_molecule(buf: &mut [u8], d: usize, bases: &[u8], mates: &[u16])
+    requires { ⌜ (d < length (now buf) / blockSize) × (length (now bases) ≤ 160) × (length (now mates) ≡ length (now bases)) ⌝ }
+    ensures { λ _. ⌜ now (buf .exit) ≡ putBlock d (encodeMolecule (strandOf (now (bases .entry)) (now (mates .entry)))) (now (buf .entry)) ⌝ }
+{
+    let a = 512 * d;
+    let e = a + 512;
+    crate::codec::encode_molecule(&mut buf[a..e], bases, mates);
+}
+
+// Zero block d. Remove calls it below the buffer's number of blocks.
+pub fn zero_at(buf: &mut [u8], d: usize)
+    requires { ⌜ d < length (now buf) / blockSize ⌝ }
+    ensures { λ _. ⌜ now (buf .exit) ≡ putBlock d emptyBlock (now (buf .entry)) ⌝ }
+{
+    let a = 512 * d;
+    let e = a + 512;
+    octets::scan::zero(&mut buf[a..e]);
+}
+
+// Whether block d is empty. Callers ask below the buffer's number of blocks.
+pub fn empty_at(buf: &[u8], d: usize) -> bool
+    requires { ⌜ d < length (now buf) / blockSize ⌝ }
+    ensures { λ r. ⌜ r ≡ isEmpty (blockOf d (now (buf .entry))) ⌝ }
+{
+    let a = 512 * d;
+    let e = a + 512;
+    octets::scan::all_zero(&buf[a..e])
+}

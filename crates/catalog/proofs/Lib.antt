@@ -1,0 +1,3 @@
+pub mod BlockUse
+pub mod ReadingLaws
+pub mod ClaimLaws

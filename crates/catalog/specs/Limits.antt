@@ -1,0 +1,40 @@
+-- The limits of catalog, cache and query, and what rows 1 to 8 ask of a molecule, a motif and a work slice. Assumes nothing.
+use Prim.Native.Nat.{ℕ, _+_, _*_}
+use lib.Dec.{ltb}
+use lib.ListN.{length}
+use Rattle.strand.specs.Strands.{Strand, motifSide, moleculeSide, noSide}
+use Rattle.strand.specs.Refusals.{workTooShort, row, strandVerdict}
+use Rattle.strand.specs.declared.Verdict.{Verdict}
+use Rattle.block.specs.Content.{moleculeKind, entryKind}
+
+-- 01, Blocks: B from 1 to 512, S from 1 to 64.
+abbrev pub mostCatalogBlocks : ℕ
+mostCatalogBlocks = 512
+
+abbrev pub mostCacheBlocks : ℕ
+mostCacheBlocks = 64
+
+-- 01, lengths: molecules in the catalog 1 to 160, motifs of a query 1 to 120.
+abbrev pub leastBases : ℕ
+leastBases = 1
+
+abbrev pub mostMoleculeBases : ℕ
+mostMoleculeBases = moleculeKind .most
+
+abbrev pub mostMotifBases : ℕ
+mostMotifBases = entryKind .most
+
+-- Rows 1 to 7 of a molecule for the catalog, and of the motif of a query.
+unfoldable pub moleculeVerdict : Strand → Verdict
+moleculeVerdict q = strandVerdict moleculeSide leastBases mostMoleculeBases (q .bases) (q .mates)
+
+unfoldable pub motifVerdict : Strand → Verdict
+motifVerdict p = strandVerdict motifSide leastBases mostMotifBases (p .bases) (p .mates)
+
+-- 01: a work slice of at least 64 × (m + 1) + 8 × n entries, n being 160 in a query.
+abbrev pub workNeeded : Strand → ℕ
+workNeeded p = 64 * (length (p .bases) + 1) + 8 * mostMoleculeBases
+
+-- Row 8 of a query with a work slice of that many entries.
+unfoldable pub workVerdict : Strand → ℕ → Verdict
+workVerdict p work = row workTooShort noSide (ltb work (workNeeded p))

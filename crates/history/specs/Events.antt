@@ -1,0 +1,26 @@
+-- What happens in a history: calls, with their arguments apart from catalog and cache, and alterations of the cache. Assumes nothing.
+use Prim.Native.Nat.{ℕ}
+use mathlib.Core.List.{List}
+use Rattle.strand.specs.Strands.{Strand}
+use Rattle.catalog.specs.Answers.{Result}
+
+pub data Call : Type 0 where
+  -- number and molecule
+  add : ℕ → Strand → Call
+  -- number
+  remove : ℕ → Call
+  -- motif, length of the work slice, the slice for the hits
+  query : Strand → ℕ → List ℕ → Call
+
+pub data Event : Type 0 where
+  call : Call → Event
+  -- byte i of cache block s becomes v
+  alter : (s i v : ℕ) → Event
+
+-- A line of a history's log: a call, and what it came to.
+pub record Line : Type 0 where
+  pub of : Call
+  pub result : Result
+
+abbrev pub gave : Call → Result → Line
+gave c result = record { of = c; result = result }

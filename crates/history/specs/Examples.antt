@@ -1,0 +1,144 @@
+-- Example histories: 01's story, a number used again, and one with alterations and refused calls between. Assumes nothing.
+use Prim.Native.Nat.{ℕ}
+use mathlib.Core.List.{List, [], _∷_}
+use mathlib.Core.Bool.{Bool, true, false, _&&_}
+use lib.Dec.{eqb}
+use Rattle.strand.specs.Vocabulary.{sameList}
+use Rattle.strand.specs.Strands.{Strand, strandOf, motifSide, noSide}
+use Rattle.strand.specs.Refusals.{noBases, numberTooLarge, alreadyHeld, notHeld}
+use Rattle.catalog.specs.Motifs.{embeds}
+use Rattle.catalog.specs.Answers.{Result, refused, done, found}
+use Rattle.history.specs.Events.{add, remove, query, Event, call, alter, Line}
+use Rattle.history.specs.Model.{start, modelLog}
+use Rattle.history.specs.History.{admitted}
+
+-- B, S, a list of events, and what its calls come to.
+pub record Story : Type 0 where
+  pub blocks : ℕ
+  pub slots : ℕ
+  pub events : List Event
+  pub results : List Result
+
+unfoldable pub resultsOf : List Line → List Result
+resultsOf [] = []
+resultsOf (line ∷ log) = line .result ∷ resultsOf log
+
+unfoldable pub sameResult : Result → Result → Bool
+sameResult (refused n s p) (refused n′ s′ p′) = eqb n n′ && eqb s s′ && eqb p p′
+sameResult (refused n s p) done = false
+sameResult (refused n s p) (found c h k) = false
+sameResult done (refused n s p) = false
+sameResult done done = true
+sameResult done (found c h k) = false
+sameResult (found c h k) (refused n s p) = false
+sameResult (found c h k) done = false
+sameResult (found c h k) (found c′ h′ k′) = eqb c c′ && sameList h h′ && eqb k k′
+
+unfoldable pub sameResults : List Result → List Result → Bool
+sameResults [] [] = true
+sameResults [] (r ∷ rs) = false
+sameResults (q ∷ qs) [] = false
+sameResults (q ∷ qs) (r ∷ rs) = sameResult q r && sameResults qs rs
+
+-- The list is admitted, and the reference model comes to these results.
+unfoldable pub storyOk : Story → Bool
+storyOk t =
+    admitted embeds (t .blocks) (t .slots) (t .events)
+    && sameResults (resultsOf (modelLog embeds (t .blocks) (t .slots) start (t .events))) (t .results)
+
+-- G 71, A 65, C 67
+abbrev gac : Strand
+gac = strandOf (71 ∷ 65 ∷ 67 ∷ []) (2 ∷ 1 ∷ 0 ∷ [])
+
+abbrev ggc : Strand
+ggc = strandOf (71 ∷ 71 ∷ 67 ∷ []) (2 ∷ 1 ∷ 0 ∷ [])
+
+-- GC with an arc, and without: both have key 139.
+abbrev pub bonded : Strand
+bonded = strandOf (71 ∷ 67 ∷ []) (1 ∷ 0 ∷ [])
+
+abbrev pub unbonded : Strand
+unbonded = strandOf (71 ∷ 67 ∷ []) (0 ∷ 1 ∷ [])
+
+-- A query with room enough: 1472 entries of work, two for the hits.
+abbrev ask : Strand → Event
+ask p = call (query p 1472 (9 ∷ 9 ∷ []))
+
+-- 01: with B = 2, S = 1.
+unfoldable pub settledStory : Story
+settledStory =
+    record {
+      blocks = 2;
+      slots = 1;
+      events =
+          call (add 0 gac)
+          ∷ call (add 1 ggc)
+          ∷ ask bonded
+          ∷ ask bonded
+          ∷ ask unbonded
+          ∷ ask bonded
+          ∷ call (remove 0)
+          ∷ ask bonded
+          ∷ [];
+      results =
+          done
+          ∷ done
+          ∷ found 2 (0 ∷ 1 ∷ []) 2
+          ∷ found 2 (0 ∷ 1 ∷ []) 0
+          ∷ found 1 (1 ∷ []) 2
+          ∷ found 2 (0 ∷ 1 ∷ []) 2
+          ∷ done
+          ∷ found 1 (1 ∷ []) 0
+          ∷ [];
+    }
+
+-- A number is removed and used again: no bit is left behind.
+unfoldable pub reusedStory : Story
+reusedStory =
+    record {
+      blocks = 1;
+      slots = 2;
+      events = call (add 0 gac) ∷ ask unbonded ∷ call (remove 0) ∷ ask unbonded ∷ call (add 0 ggc) ∷ ask unbonded ∷ [];
+      results = done ∷ found 0 [] 1 ∷ done ∷ found 0 [] 0 ∷ done ∷ found 1 (0 ∷ []) 1 ∷ [];
+    }
+
+-- Alterations of an empty block, of one byte that keeps its value (byte 380 has searched bit 0), of the hit bit in byte 444; refused calls
+-- between, which end no period; after the last accepted call a block is altered twice.
+unfoldable pub alteredStory : Story
+alteredStory =
+    record {
+      blocks = 2;
+      slots = 1;
+      events =
+          alter 0 0 2
+          ∷ call (remove 1)
+          ∷ call (add 0 gac)
+          ∷ ask bonded
+          ∷ alter 0 380 1
+          ∷ ask bonded
+          ∷ alter 0 444 0
+          ∷ ask (strandOf [] [])
+          ∷ ask bonded
+          ∷ alter 0 1 7
+          ∷ call (add 0 ggc)
+          ∷ alter 0 1 2
+          ∷ call (remove 2)
+          ∷ [];
+      results =
+          refused notHeld noSide 0
+          ∷ done
+          ∷ found 1 (0 ∷ []) 1
+          ∷ found 1 (0 ∷ []) 0
+          ∷ refused noBases motifSide 0
+          ∷ found 1 (0 ∷ []) 1
+          ∷ refused alreadyHeld noSide 0
+          ∷ refused numberTooLarge noSide 0
+          ∷ [];
+    }
+
+unfoldable pub stories : List Story
+stories = settledStory ∷ reusedStory ∷ alteredStory ∷ []
+
+unfoldable pub storiesOk : List Story → Bool
+storiesOk [] = true
+storiesOk (t ∷ ts) = storyOk t && storiesOk ts

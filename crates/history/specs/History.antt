@@ -1,0 +1,123 @@
+-- Histories on the bytes, which of them are admitted, and what is claimed of every one. Assumes nothing.
+use Prim.Native.Nat.{ℕ, _+_, _*_, _%_, _<_}
+use mathlib.Core.Path.{_≡_}
+use mathlib.Core.Logic.{_⊎_, _↔_}
+use mathlib.Core.List.{List, [], _∷_, _++_}
+use mathlib.Core.Bool.{Bool, true, _&&_}
+use lib.Dec.{eqb, leb, ltb}
+use lib.ListN.{length, set, replicate}
+use Rattle.strand.specs.Vocabulary.{nth, choose, every}
+use Rattle.strand.specs.Strands.{Strand, noSide}
+use Rattle.strand.specs.Refusals.{notWholeBlocks}
+use Rattle.strand.specs.declared.Verdict.the-variants.{Accepted}
+use Rattle.octets.specs.Checksum.{blockSize}
+use Rattle.catalog.specs.Limits.{moleculeVerdict, motifVerdict}
+use Rattle.catalog.specs.Calls.{addOutcome, removeOutcome, queryOutcome}
+use Rattle.catalog.specs.Answers.{Result, refused, done, found, updateResult, queryResult, ifAccepted}
+use Rattle.history.specs.Events.{Call, add, remove, query, Event, call, alter, Line, gave}
+use Rattle.history.specs.Model.{Place, vacant, holds, State, start, putAt, modelVerdict, modelNext, modelAlter, modelLog}
+
+-- The two buffers of a history.
+pub record Buffers : Type 0 where
+  pub catalog : List ℕ
+  pub cache : List ℕ
+
+-- Zeroed: B and S blocks.
+unfoldable pub zeroed : ℕ → ℕ → Buffers
+zeroed B S = record { catalog = replicate (blockSize * B) 0; cache = replicate (blockSize * S) 0 }
+
+-- An alteration of byte i of cache block s.
+unfoldable pub altered : Buffers → ℕ → ℕ → ℕ → Buffers
+altered β s i v = record { catalog = β .catalog; cache = set (β .cache) (blockSize * s + i) v }
+
+module _ (embeds : Strand → Strand → Bool) where
+  -- A call on the bytes, by the very definitions that the contracts of add, remove and query cite: what it comes to, and what it leaves.
+  -- "Catalogue and shelf change only by these calls and alterations."
+  unfoldable pub bytesResult : Buffers → Call → Result
+  bytesResult β (add d q) = updateResult (addOutcome (β .catalog) (β .cache) d q .answer)
+  bytesResult β (remove d) = updateResult (removeOutcome (β .catalog) (β .cache) d .answer)
+  bytesResult β (query p work hits) =
+      queryResult (queryOutcome embeds (β .catalog) (β .cache) p work hits .answer) (queryOutcome embeds (β .catalog) (β .cache) p work hits .hits)
+
+  unfoldable pub bytesNext : Buffers → Call → Buffers
+  bytesNext β (add d q) = record { catalog = addOutcome (β .catalog) (β .cache) d q .catalog; cache = addOutcome (β .catalog) (β .cache) d q .cache }
+  bytesNext β (remove d) = record { catalog = removeOutcome (β .catalog) (β .cache) d .catalog; cache = removeOutcome (β .catalog) (β .cache) d .cache }
+  bytesNext β (query p work hits) = record { catalog = β .catalog; cache = queryOutcome embeds (β .catalog) (β .cache) p work hits .cache }
+
+  -- Fed with a list of events: the log of its calls.
+  unfoldable pub bytesLog : Buffers → List Event → List Line
+  bytesLog β [] = []
+  bytesLog β (call c ∷ es) = gave c (bytesResult β c) ∷ bytesLog (bytesNext β c) es
+  bytesLog β (alter s i v ∷ es) = bytesLog (altered β s i v) es
+
+  -- Admitted lists: "at most one alteration in each block before the first accepted call and between one accepted call and the next".
+  -- `times` counts the alterations of each block since the last call that the model accepted, and is tested where it accepts a call; a
+  -- refused call ends no period, and after the last accepted call there is no limit. Every alteration names a block, a byte and a value.
+  module _ (B S : ℕ) where
+    unfoldable pub atMostOnce : (ℕ → ℕ) → Bool
+    atMostOnce times = every S (λ s. leb (times s) 1)
+
+    unfoldable pub admittedFrom : State → (ℕ → ℕ) → List Event → Bool
+    admittedFrom σ times [] = true
+    admittedFrom σ times (alter s i v ∷ es) =
+        ltb s S && ltb i blockSize && ltb v 256 && admittedFrom (modelAlter embeds B S σ s i v) (putAt times s (times s + 1)) es
+    admittedFrom σ times (call c ∷ es) =
+        ifAccepted (modelVerdict embeds B S σ c)
+        (atMostOnce times && admittedFrom (modelNext embeds B S σ c) (λ s. 0) es)
+        (admittedFrom σ times es)
+
+    unfoldable pub admitted : List Event → Bool
+    admitted es = admittedFrom start (λ s. 0) es
+
+-- What stands under number d after one more call: an accepted add puts a molecule there, an accepted remove takes it away.
+unfoldable pub placeAfter : ℕ → Place → Call → Result → Place
+placeAfter d x (add n q) done = choose (eqb d n) (holds q) x
+placeAfter d x (remove n) done = choose (eqb d n) vacant x
+placeAfter d x (query p work hits) done = x
+placeAfter d x c (refused number side place) = x
+placeAfter d x c (found count hits searched) = x
+
+unfoldable pub placeSince : ℕ → Place → List Line → Place
+placeSince d x [] = x
+placeSince d x (line ∷ log) = placeSince d (placeAfter d x (line .of) (line .result)) log
+
+-- Molecule q is held under number d after these calls: added by an accepted one and not removed by one since.
+abbrev pub Held : ℕ → Strand → List Line → Type 0
+Held d q log = placeSince d vacant log ≡ holds q
+
+-- d is in the list.
+abbrev pub Among : ℕ → List ℕ → Type 0
+Among d list = (i : ℕ) × (i < length list) × (nth list i ≡ d)
+
+module _ (Embeds : Strand → Strand → Type 0) where
+  -- An accepted query of p after the calls of a log is right.
+  pub record RightHits (before : List Line) (p : Strand) (count : ℕ) (hits : List ℕ) : Type 0 where
+    -- just the numbers then held into whose molecules the motif embeds
+    pub exact : (d : ℕ) → Among d hits ↔ ((q : Strand) × Held d q before × Embeds p q)
+    pub rising : (i j : ℕ) → i < j → j < length hits → nth hits i < nth hits j
+    pub counted : count ≡ length hits
+
+  -- The claim about a whole list.
+  pub record RightHistory (embeds : Strand → Strand → Bool) (B S : ℕ) (es : List Event) : Type 0 where
+    -- what is compared is equal: bytes, by the definitions of the calls, and reference model have the same log
+    pub same : bytesLog embeds (zeroed B S) es ≡ modelLog embeds B S start es
+    -- every accepted query of the log is right
+    pub right : (before after : List Line) (p : Strand) (work : ℕ) (slice : List ℕ) (count : ℕ) (hits : List ℕ) (searched : ℕ)
+        → bytesLog embeds (zeroed B S) es ≡ before ++ (gave (query p work slice) (found count hits searched) ∷ after)
+        → RightHits before p count hits
+
+  -- The test decides the relation for each motif and molecule that rows 1 to 7 let pass.
+  unfoldable pub Decides : (Strand → Strand → Bool) → Type 0
+  Decides embeds = (p q : Strand) → motifVerdict p ≡ Accepted → moleculeVerdict q ≡ Accepted → (embeds p q ≡ true) ↔ Embeds p q
+
+  -- The history theorem: for all B and S, zeroed buffers, and every admitted list.
+  unfoldable pub HistoryTheorem : (Strand → Strand → Bool) → Type 0
+  HistoryTheorem embeds = (B S : ℕ) (es : List Event) → admitted embeds B S es ≡ true → RightHistory embeds B S es
+
+-- Buffers of which one is not whole blocks: there every call of every list is refused by row 10.
+abbrev pub NotWhole : Buffers → Type 0
+NotWhole β = (length (β .catalog) % blockSize ≡ 0 → ⊥) ⊎ (length (β .cache) % blockSize ≡ 0 → ⊥)
+
+unfoldable pub AllRefused : List Line → Type 0
+AllRefused [] = Unit
+AllRefused (line ∷ log) = (line .result ≡ refused notWholeBlocks noSide 0) × AllRefused log

@@ -1,0 +1,4 @@
+pub mod Events
+pub mod Model
+pub mod History
+pub mod Examples

@@ -1,0 +1,119 @@
+-- The reference model (01: the plain machine of demand 3). The quotations are 01's. Assumes nothing.
+use Prim.Native.Nat.{ℕ}
+use mathlib.Core.List.{List, [], _∷_}
+use mathlib.Core.Bool.{Bool, true, false, not, _&&_}
+use lib.Dec.{ltb, leb, eqb}
+use lib.ListN.{length}
+use Rattle.strand.specs.Vocabulary.{nth, choose, select}
+use Rattle.strand.specs.Strands.{Strand, sameStrand, noSide}
+use Rattle.strand.specs.Refusals.{wrongSlice, notWholeBlocks, numberTooLarge, alreadyHeld, notHeld, first, row}
+use Rattle.strand.specs.declared.Verdict.{Verdict}
+use Rattle.octets.specs.Maps.{without}
+use Rattle.block.specs.Content.{emptyBlock, encodeEntry}
+use Rattle.catalog.specs.Limits.{mostCatalogBlocks, mostCacheBlocks, moleculeVerdict, motifVerdict, workVerdict}
+use Rattle.catalog.specs.Buffers.{slotOf}
+use Rattle.catalog.specs.Answers.{Result, done, found, ifAccepted, resultBy}
+use Rattle.history.specs.Events.{Call, add, remove, query, Event, call, alter, Line, gave}
+
+-- "State: the molecules by number, and for each slot nothing or a motif with a set of numbers."
+pub data Place : Type 0 where
+  vacant : Place
+  holds : Strand → Place
+
+pub data Slot : Type 0 where
+  nothing : Slot
+  keeps : Strand → (ℕ → Bool) → Slot
+
+pub record State : Type 0 where
+  pub molecules : ℕ → Place
+  pub slots : ℕ → Slot
+
+-- "For demand 3 it starts with no molecule and nothing in any slot."
+unfoldable pub start : State
+start = record { molecules = λ d. vacant; slots = λ s. nothing }
+
+-- f with the value v at d.
+unfoldable pub putAt : {A : Type 0} → (ℕ → A) → ℕ → A → ℕ → A
+putAt f d v e = choose (eqb e d) v (f e)
+
+-- Number d is held.
+unfoldable pub isHeld : Place → Bool
+isHeld vacant = false
+isHeld (holds q) = true
+
+unfoldable pub heldIn : State → ℕ → Bool
+heldIn σ d = isHeld (σ .molecules d)
+
+-- Number d is in the slot's set and the slot has this motif.
+unfoldable pub knownIn : Slot → Strand → ℕ → Bool
+knownIn nothing p d = false
+knownIn (keeps m set) p d = sameStrand m p && set d
+
+-- The slot with d taken out of its set.
+unfoldable pub dropped : ℕ → Slot → Slot
+dropped d nothing = nothing
+dropped d (keeps m set) = keeps m (without d set)
+
+-- B is from 1 to 512, S from 1 to 64.
+unfoldable pub inRange : ℕ → ℕ → Bool
+inRange B S = (leb 1 B && leb B mostCatalogBlocks) && (leb 1 S && leb S mostCacheBlocks)
+
+-- "It is given B and S"; `embeds` tells whether an embedding of a motif into a molecule exists.
+module _ (embeds : Strand → Strand → Bool) (B S : ℕ) where
+  -- "It refuses by the table below, reading the call's inputs, B, S and the molecules held." Row 11 speaks of blocks, and it has none.
+  abbrev pub rangeRow : Verdict
+  rangeRow = row notWholeBlocks noSide (not (inRange B S))
+
+  unfoldable pub modelVerdict : State → Call → Verdict
+  modelVerdict σ (add d q) =
+      first (rangeRow ∷ row numberTooLarge noSide (leb B d) ∷ row alreadyHeld noSide (heldIn σ d) ∷ moleculeVerdict q ∷ [])
+  modelVerdict σ (remove d) =
+      first (rangeRow ∷ row numberTooLarge noSide (leb B d) ∷ row notHeld noSide (not (heldIn σ d)) ∷ [])
+  modelVerdict σ (query p work hits) =
+      first (rangeRow ∷ motifVerdict p ∷ row wrongSlice noSide (ltb (length hits) B) ∷ workVerdict p work ∷ [])
+
+  -- The motif embeds in what stands under a number.
+  unfoldable pub embedsAt : Strand → Place → Bool
+  embedsAt p vacant = false
+  embedsAt p (holds q) = embeds p q
+
+  -- "A query answers the held numbers into which an embedding exists, rising"
+  unfoldable pub hitList : State → Strand → List ℕ
+  hitList σ p = select B (λ d. embedsAt p (σ .molecules d))
+
+  -- "searched is the count of held numbers not in the slot's set if the slot has this motif, else of all held": the list of these numbers.
+  unfoldable pub searchList : State → Strand → List ℕ
+  searchList σ p = select B (λ d. heldIn σ d && not (knownIn (σ .slots (slotOf S p)) p d))
+
+  -- What an accepted call answers.
+  unfoldable pub modelAnswer : State → Call → Result
+  modelAnswer σ (add d q) = done
+  modelAnswer σ (remove d) = done
+  modelAnswer σ (query p work hits) = found (length (hitList σ p)) (hitList σ p) (length (searchList σ p))
+
+  -- "Add and remove change the molecules; remove also takes d out of every set."
+  -- After a query "the slot is this motif with all held numbers".
+  unfoldable pub modelNext : State → Call → State
+  modelNext σ (add d q) = record { molecules = putAt (σ .molecules) d (holds q); slots = σ .slots }
+  modelNext σ (remove d) = record { molecules = putAt (σ .molecules) d vacant; slots = λ s. dropped d (σ .slots s) }
+  modelNext σ (query p work hits) = record { molecules = σ .molecules; slots = putAt (σ .slots) (slotOf S p) (keeps p (heldIn σ)) }
+
+  -- "The block which the rules above give to the slot's motif and set, with a hit bit for each number of the set into which an embedding
+  -- exists, or zero where the slot has nothing."
+  unfoldable pub slotBlock : (ℕ → Place) → Slot → List ℕ
+  slotBlock molecules nothing = emptyBlock
+  slotBlock molecules (keeps m set) = encodeEntry m set (λ d. set d && embedsAt m (molecules d))
+
+  -- "An alteration sets one byte of one shelf block; if the byte's value changes, that slot becomes nothing."
+  unfoldable pub modelAlter : State → ℕ → ℕ → ℕ → State
+  modelAlter σ s i v =
+      choose (eqb (nth (slotBlock (σ .molecules) (σ .slots s)) i) v)
+      σ
+      (record { molecules = σ .molecules; slots = putAt (σ .slots) s nothing })
+
+  -- "Fed, in their order," with a list of events, from any state: the log of its calls. "A refused call changes nothing."
+  unfoldable pub modelLog : State → List Event → List Line
+  modelLog σ [] = []
+  modelLog σ (call c ∷ es) =
+      gave c (resultBy (modelVerdict σ c) (modelAnswer σ c)) ∷ modelLog (ifAccepted (modelVerdict σ c) (modelNext σ c) σ) es
+  modelLog σ (alter s i v ∷ es) = modelLog (modelAlter σ s i v) es

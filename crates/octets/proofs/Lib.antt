@@ -1,0 +1,5 @@
+pub mod Table
+pub mod BitLaws
+pub mod SumLaws
+pub mod MapLaws
+pub mod ScanLaws

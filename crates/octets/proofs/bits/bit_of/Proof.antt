@@ -1,0 +1,14 @@
+-- `octets::bits::bit_of` meets its contract.
+use Rattle.octets.proofs.BitLaws.{test-mask}
+use borrow.Author.Needs.{needs}
+use Rattle.octets.proofs.bits.bit_of.Statement.{statement}
+use Rattle.octets.proofs.bits.bit_of.Tie as tie
+
+shr-result : tie.Need-shr-result
+shr-result c = search needs
+
+returns : tie.Need-returns
+returns c = test-mask (c .args .b) (c .args .k)
+
+pub bit-of-spec : {M : Type 1} → statement M
+bit-of-spec = tie.close (tie.spec shr-result returns)

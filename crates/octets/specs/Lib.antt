@@ -1,0 +1,4 @@
+pub mod Numbers
+pub mod Checksum
+pub mod Bits
+pub mod Maps

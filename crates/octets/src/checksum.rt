@@ -1,0 +1,52 @@
+// The checksum of a block. What is asked of the length of s here, the crate block meets with whole blocks.
+ghost use mathlib.Core.Path.{_≡_};
+ghost use Prim.Native.Nat.{_+_, _*_, _≤_};
+ghost use lib.ListN.{length};
+ghost use Rattle.octets.specs.Checksum.{checksumAt, blockSize, checksumOf, checksumOk, rechecked};
+
+fn wide32(x: u8) -> u32
+    ensures { λ r. ⌜ r ≡ x ⌝ }
+{
+    x as u32
+}
+
+// The sum over bytes i = 0 to 507 of (i + 1) times byte i.
+pub fn checksum_of(s: &[u8]) -> u32
+    requires { ⌜ checksumAt ≤ length (now s) ⌝ }
+    ensures { λ r. ⌜ r ≡ checksumOf (now (s .entry)) ⌝ }
+{
+    let mut sum: u32 = 0;
+    let mut i: usize = 0;
+    while i < 508 {
+        sum += (i + 1) as u32 * wide32(s[i]);
+        i += 1;
+    }
+    sum
+}
+
+// The little-endian number of four bytes.
+fn word(a: u8, b: u8, c: u8, d: u8) -> u32
+    ensures { λ r. ⌜ r ≡ a + 256 * b + 65536 * c + 16777216 * d ⌝ }
+{
+    a as u32 + 256 * (b as u32) + 65536 * (c as u32) + 16777216 * (d as u32)
+}
+
+// Whether the last four bytes of a block are its checksum.
+pub fn checksum_ok(s: &[u8]) -> bool
+    requires { ⌜ blockSize ≤ length (now s) ⌝ }
+    ensures { λ r. ⌜ r ≡ checksumOk (now (s .entry)) ⌝ }
+{
+    checksum_of(s) == word(s[508], s[509], s[510], s[511])
+}
+
+// Write the checksum of a block into its last four bytes.
+pub fn put_checksum(s: &mut [u8])
+    requires { ⌜ blockSize ≤ length (now s) ⌝ }
+    ensures { λ _. ⌜ now (s .exit) ≡ rechecked (now (s .entry)) ⌝ }
+{
+    let x = checksum_of(s);
+    s[508] = (x % 256) as u8;
+    s[509] = (x / 256 % 256) as u8;
+    s[510] = (x / 65536 % 256) as u8;
+    s[511] = (x / 16777216 % 256) as u8;
+}
