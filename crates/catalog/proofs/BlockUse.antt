@@ -6,13 +6,13 @@ use mathlib.Core.List.{List}
 use lib.ListN.{length, set, replicate}
 use Rattle.strand.specs.Vocabulary.{nth}
 use Rattle.strand.specs.Strands.{Strand, motifSide, moleculeSide, Proper}
-use Rattle.strand.specs.declared.Verdict.the-variants.{Accepted}
 use Rattle.strand.proofs.VerdictLaws.{accepted-proper}
 use Rattle.octets.specs.Checksum.{blockSize}
 use Rattle.block.specs.Block.{soundMolecule, soundEntry}
 use Rattle.block.specs.Buffer.{cleaned, forgot}
 use Rattle.octets.specs.Maps.{without}
 use Rattle.block.specs.Content.{emptyBlock, isEmpty, moleculeIn, encodeMolecule, encodeEntry, motifIn, searchedIn, hitIn}
+use Rattle.strand.specs.declared.Verdict.the-variants.{Accepted}
 use Rattle.block.proofs.ContentLaws as law
 use Rattle.block.proofs.BufferLaws as buffers
 use Rattle.catalog.specs.Limits.{leastBases, mostMoleculeBases, mostMotifBases, mostCatalogBlocks, moleculeVerdict, motifVerdict}

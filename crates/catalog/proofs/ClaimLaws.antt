@@ -13,7 +13,6 @@ use borrow.Author.Tests.{eqb-true, eq-eqb, lt-ltb, leb-true, leb-false, ltb-true
 use Rattle.strand.specs.Vocabulary.{nth, choose}
 use Rattle.strand.specs.Strands.{Strand, key, noSide}
 use Rattle.strand.specs.Refusals.{notWholeBlocks, numberTooLarge, row}
-use Rattle.strand.specs.declared.Verdict.the-variants.{Accepted}
 use Rattle.strand.proofs.ListLaws.{and-true, not-not, every-at}
 use Rattle.strand.proofs.VerdictLaws.{first-pass, row-pass}
 use Rattle.octets.specs.Checksum.{blockSize}
@@ -25,6 +24,7 @@ use Rattle.block.specs.Content.{searchedAt, hitAt, emptyBlock, isEmpty, motifIn
 use Rattle.block.proofs.BlockLaws.{length-block}
 use Rattle.octets.proofs.MapLaws.{map-ext}
 use Rattle.block.proofs.SoundLaws.{entry-hits-ok}
+use Rattle.strand.specs.declared.Verdict.the-variants.{Accepted}
 use Rattle.block.proofs.ContentLaws as law
 use Rattle.catalog.specs.Limits.{mostCatalogBlocks, mostCacheBlocks, motifVerdict}
 use Rattle.catalog.specs.Buffers.{blockCount, isWhole, areWhole, held, moleculeAt, buffersVerdict, slotOf, cleanCache}

@@ -11,7 +11,6 @@ use lib.ListN.{length}
 use borrow.Author.Tests.{eq-eqb, ne-eqb, lt-ltb}
 use Rattle.strand.specs.Vocabulary.{choose}
 use Rattle.strand.specs.Refusals.{rowAt}
-use Rattle.strand.specs.declared.Verdict.the-variants.{Accepted}
 use Rattle.strand.proofs.ListLaws.{lowest-all}
 use Rattle.strand.proofs.VerdictLaws.{row-at-no}
 use Rattle.octets.specs.Checksum.{blockSize}
@@ -20,6 +19,7 @@ use Rattle.block.specs.Buffer.{cleaned, eachBlock, forgot, putBlock}
 use Rattle.block.specs.Content.{isEmpty, moleculeIn}
 use Rattle.block.proofs.BufferLaws.{length-cleaned, length-forgot}
 use Rattle.block.proofs.BlockLaws.{block-each, length-each, length-put, block-put, block-other}
+use Rattle.strand.specs.declared.Verdict.the-variants.{Accepted}
 use Rattle.catalog.specs.Buffers.{blockCount, isWhole, unsoundAt, held, moleculeAt, cleanCache}
 
 -- Buffers of n blocks

@@ -6,11 +6,11 @@ use lib.ListN.{length}
 use lib.Dec.{eqb, leb, ltb}
 use Rattle.strand.specs.Strands.{Strand, key, noSide}
 use Rattle.strand.specs.Refusals.{notWholeBlocks, unsoundBlock, first, row, rowAt}
-use Rattle.strand.specs.declared.Verdict.{Verdict}
 use Rattle.octets.specs.Checksum.{blockSize}
 use Rattle.block.specs.Block.{blockOf, soundMolecule}
 use Rattle.block.specs.Buffer.{cleaned, eachBlock}
 use Rattle.block.specs.Content.{isEmpty, moleculeIn}
+use Rattle.strand.specs.declared.Verdict.{Verdict}
 use Rattle.catalog.specs.Limits.{mostCatalogBlocks, mostCacheBlocks}
 
 -- The number of blocks: B of a catalog, S of a cache.

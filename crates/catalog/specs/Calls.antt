@@ -2,17 +2,18 @@
 -- These are the definitions that the contracts of the calls cite. Assumes nothing.
 use Prim.Native.Nat.{ℕ}
 use mathlib.Core.List.{List, [], _∷_, _++_}
+use mathlib.Core.Path.{_≡_}
 use mathlib.Core.Bool.{Bool, not, _&&_}
 use lib.ListN.{length, drop}
 use lib.Dec.{leb, ltb}
 use Rattle.strand.specs.Vocabulary.{choose, select}
 use Rattle.strand.specs.Strands.{Strand, noSide}
 use Rattle.strand.specs.Refusals.{wrongSlice, numberTooLarge, alreadyHeld, notHeld, first, row}
-use Rattle.strand.specs.declared.Verdict.{Verdict}
-use Rattle.strand.specs.declared.Verdict.the-variants.{Accepted, Refused}
 use Rattle.block.specs.Block.{blockOf}
 use Rattle.block.specs.Buffer.{eachBlock, forgot, putBlock}
 use Rattle.block.specs.Content.{emptyBlock, encodeMolecule, encodeEntry, keepsMotif, searchedIn, hitIn}
+use Rattle.strand.specs.declared.Verdict.{Verdict}
+use Rattle.strand.specs.declared.Verdict.the-variants.{Accepted, Refused}
 use Rattle.catalog.specs.declared.Updated.{Updated}
 use Rattle.catalog.specs.declared.Updated.the-variants.{Done, Refused as NotUpdated}
 use Rattle.catalog.specs.declared.Queried.{Queried}
@@ -118,3 +119,8 @@ module _ (embeds : Strand → Strand → Bool) where
       let slot : ℕ = slotOf (blockCount cache) p in
       queryUnless (queryVerdict catalog cache p work (length hits)) cache hits
       (queryEntry catalog (cleanCache cache) (blockOf slot (cleanCache cache)) slot p hits)
+
+-- What is left free of the work slice: a refused query leaves every entry; after an accepted one nothing is said but that its length stays.
+unfoldable pub workKept : Queried → List ℕ → List ℕ → Type 0
+workKept (Hits count searched) before after = Unit
+workKept (NotQueried r) before after = after ≡ before

@@ -6,9 +6,9 @@ use mathlib.Core.Bool.{Bool, true, false, _&&_}
 use lib.ListN.{length}
 use Rattle.strand.specs.Vocabulary.{nth}
 use Rattle.strand.specs.Strands.{Strand}
-use Rattle.strand.specs.declared.Verdict.the-variants.{Accepted}
 use Rattle.block.specs.Block.{blockOf, soundEntry}
 use Rattle.block.specs.Content.{keepsMotif, searchedIn}
+use Rattle.strand.specs.declared.Verdict.the-variants.{Accepted}
 use Rattle.catalog.specs.Buffers.{blockCount, held, moleculeAt}
 use Rattle.catalog.specs.Calls.{addVerdict, addOutcome, removeVerdict, removeOutcome, queryVerdict, toSearch, isHit, queryOutcome}
 

@@ -4,3 +4,4 @@ pub mod Buffers
 pub mod Calls
 pub mod Answers
 pub mod Claims
+pub mod Search

@@ -4,8 +4,8 @@ use lib.Dec.{ltb}
 use lib.ListN.{length}
 use Rattle.strand.specs.Strands.{Strand, motifSide, moleculeSide, noSide}
 use Rattle.strand.specs.Refusals.{workTooShort, row, strandVerdict}
-use Rattle.strand.specs.declared.Verdict.{Verdict}
 use Rattle.block.specs.Content.{moleculeKind, entryKind}
+use Rattle.strand.specs.declared.Verdict.{Verdict}
 
 -- 01, Blocks: B from 1 to 512, S from 1 to 64.
 abbrev pub mostCatalogBlocks : ℕ

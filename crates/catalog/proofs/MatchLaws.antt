@@ -1,0 +1,53 @@
+-- The matcher on the molecule that a sound block holds: what it asks is met, and its answer tells whether the motif embeds. Assumes nothing.
+use mathlib.Core.Path.{_≡_, sym, ap, _∙_}
+use mathlib.Core.Bool.{true, false}
+use mathlib.Core.List.{List, _++_}
+use Prim.Native.Nat.{ℕ, _+_, _*_, _≤_}
+use native.Mathlib.Omega.{arith}
+use lib.ListN.{length, take}
+use lib.Seq.{take-at}
+use lib.Dec.{eqb}
+use Rattle.strand.specs.Strands.{strandOf, lettersMatch, motifSide, moleculeSide, Proper}
+use Rattle.embedding.specs.Longest.{longest}
+use Rattle.matcher.specs.Rows.{Setting}
+use Rattle.matcher.specs.Answers.{workSize}
+use Rattle.block.specs.Block.{soundMolecule}
+use Rattle.block.specs.Content.{isEmpty, moleculeIn}
+use Rattle.block.proofs.ContentLaws.{molecule-fits, molecule-count, molecule-proper}
+use Rattle.catalog.specs.Motifs.{embeds}
+
+pub decoded-short : (b : List ℕ) (n : ℕ) → soundMolecule b ≡ true → n ≡ length (moleculeIn b .bases) → n ≤ 160
+decoded-short b n ok e = let x = molecule-count b ok in let y = molecule-fits b ok in omega arith
+
+first-part : (x m t : List ℕ) (n : ℕ) → x ≡ m ++ t → n ≡ length m → take n x ≡ m
+first-part x m t n e l = ap (take n) e ∙ take-at m t n (sym l)
+
+-- x and y are the slices that the decoder left
+module _ (b bases mates : List ℕ) (sound : soundMolecule b ≡ true) (full : isEmpty b ≡ false) (ok : Proper motifSide 1 120 bases mates)
+    (n : ℕ) (count : n ≡ length (moleculeIn b .bases)) (x y t u : List ℕ) (ex : x ≡ moleculeIn b .bases ++ t) (ey : y ≡ moleculeIn b .mates ++ u) where
+  proper : Proper moleculeSide 1 160 (moleculeIn b .bases) (moleculeIn b .mates)
+  proper = molecule-proper b sound full
+
+  letters-are : take n x ≡ moleculeIn b .bases
+  letters-are = first-part x (moleculeIn b .bases) t n ex count
+
+  bonds-are : take n y ≡ moleculeIn b .mates
+  bonds-are = first-part y (moleculeIn b .mates) u n ey (count ∙ sym (proper .same))
+
+  pub setting : Setting bases mates (take n x) (take n y) 0 (length bases)
+  setting =
+      rw (letters-are, bonds-are)
+      (record {
+        window = record { same = ok .same; small = (let z = ok .small in omega arith); order = omega arith; ends = omega arith };
+        motif = ok .nested;
+        equal = proper .same;
+        short = (let z = proper .small in omega arith);
+        molecule = proper .nested;
+      })
+
+  pub room : (work : ℕ) → 64 * (length bases + 1) + 8 * 160 ≤ work → workSize (length bases) (length (take n x)) ≤ work
+  room work h = rw letters-are (let z = proper .small in omega arith)
+
+  pub matched : (k : ℕ) → k ≡ longest lettersMatch bases mates (take n x) (take n y) → eqb k (length bases) ≡ embeds (strandOf bases mates) (moleculeIn b)
+  unfolding embeds
+  matched k e = rw (e, letters-are, bonds-are)

@@ -1,0 +1,30 @@
+-- For proofs: what the functions behind the calls ask of their inputs, which the judge of a call gives, and what the search of a query leaves. Assumes nothing.
+use Prim.Native.Nat.{ℕ, _+_, _*_, _≤_, _<_}
+use mathlib.Core.Path.{_≡_}
+use mathlib.Core.Bool.{Bool, true}
+use mathlib.Core.List.{List, _++_}
+use lib.ListN.{length, drop}
+use Rattle.strand.specs.Vocabulary.{select}
+use Rattle.strand.specs.Strands.{motifSide, Proper}
+use Rattle.octets.specs.Maps.{mapBytes}
+use Rattle.block.specs.Block.{blockOf, soundMolecule}
+use Rattle.catalog.specs.Limits.{mostCatalogBlocks, leastBases, mostMoleculeBases, mostMotifBases}
+use Rattle.catalog.specs.Buffers.{blockCount}
+
+-- Row 11 lets the catalog pass: each block is sound.
+pub record SoundCatalog (catalog : List ℕ) : Type 0 where
+  pub sound : (d : ℕ) → d < blockCount catalog → soundMolecule (blockOf d catalog) ≡ true
+
+-- What an accepted query knows: a sound catalog of at most 512 blocks, an accepted motif, and a work slice that is long enough.
+pub record Ready (catalog bases mates : List ℕ) (work : ℕ) : Type 0 where
+  pub blocks : SoundCatalog catalog
+  pub most : blockCount catalog ≤ mostCatalogBlocks
+  pub motif : Proper motifSide leastBases mostMotifBases bases mates
+  pub room : 64 * (length bases + 1) + 8 * mostMoleculeBases ≤ work
+
+-- What the search leaves: the hits p below n, counted, at the start of the slice and in the map; and how many molecules r it had to search.
+pub record Recorded (p r : ℕ → Bool) (n : ℕ) (before after map : List ℕ) (count searched : ℕ) : Type 0 where
+  pub counted : count ≡ length (select n p)
+  pub tallied : searched ≡ length (select n r)
+  pub written : after ≡ select n p ++ drop count before
+  pub mapped : map ≡ mapBytes p

@@ -1,0 +1,29 @@
+-- `matcher::trace::prepared_place` meets its contract.
+use native.Mathlib.Omega.{arith}
+use Rattle.matcher.proofs.Top.{all-sealed}
+use borrow.Author.Needs.{needs}
+use Rattle.matcher.proofs.trace.prepared_place.Statement.{statement}
+use Rattle.matcher.proofs.trace.prepared_place.Tie as tie
+
+partners-requires : tie.Need-partners-requires
+partners-requires c κs = search needs
+
+place-requires : tie.Need-place-requires
+place-requires c κs = ((c .before .before .before .before .before .before .before .before .before .before .before .before .before .before .pre) .0, (omega arith, (all-sealed ((c .before .before .before .before .before .before .before .before .before .before .before .before .before .before .pre) .0 .molecule), ((c .before .before .before .before .before .before .before .before .before .before .before .before .before .before .pre) .1 .0, ((c .before .before .before .before .before .before .before .before .before .before .before .before .before .before .pre) .1 .1 .0, (c .before .before .before .before .before .partners) .ensures)))))
+
+same-length : tie.Need-same-length
+same-length c = search needs
+
+same-length-2 : tie.Need-same-length-2
+same-length-2 c = search needs
+
+same-length-3 : tie.Need-same-length-3
+same-length-3 c = search needs
+
+returns : tie.Need-returns
+returns c = search needs
+
+pub prepared-place-spec : {M : Type 1} → statement M
+prepared-place-spec =
+    tie.close
+    (tie.spec partners-requires place-requires same-length same-length-2 same-length-3 returns)

@@ -1,0 +1,62 @@
+-- The calls length and show: what they answer. Assumes nothing.
+use Prim.Native.Nat.{ℕ, _+_, _*_, _≤_}
+use mathlib.Core.Path.{_≡_}
+use mathlib.Core.List.{List, [], _∷_}
+use lib.Dec.{ltb}
+use lib.ListN.{length}
+use Rattle.strand.specs.declared.Refusal.{Refusal}
+use Rattle.strand.specs.declared.Verdict.{Verdict}
+use Rattle.strand.specs.declared.Verdict.the-variants as verdict
+use Rattle.strand.specs.Vocabulary.{nth}
+use Rattle.strand.specs.Strands.{lettersMatch, noSide}
+use Rattle.strand.specs.Refusals.{workTooShort, wrongSlice, row, first, pairVerdict}
+use Rattle.embedding.specs.Embedding.{letters, Emb}
+use Rattle.embedding.specs.Longest.{longest}
+use Rattle.matcher.specs.declared.Matched.{Matched}
+use Rattle.matcher.specs.declared.Matched.the-variants.{Prefix, Refused}
+
+-- 01: a work slice of at least 64 × (m + 1) + 8 × n entries.
+abbrev pub workSize : ℕ → ℕ → ℕ
+workSize m n = 64 * (m + 1) + 8 * n
+
+-- Row 8: work too short. Row 9: show's slice below m.
+abbrev pub workRow : ℕ → ℕ → ℕ → Verdict
+workRow m n work = row workTooShort noSide (ltb work (workSize m n))
+
+abbrev pub placesRow : ℕ → ℕ → Verdict
+placesRow m places = row wrongSlice noSide (ltb places m)
+
+-- The length of the prefix, unless the inputs are refused.
+unfoldable pub answerOf : Verdict → ℕ → Matched
+answerOf (verdict.Refused x) L = Refused x
+answerOf verdict.Accepted L = Prefix L
+
+-- The call length, with a work slice of so many entries: motif, molecule, then 8; else L.
+unfoldable pub lengthVerdict : List ℕ → List ℕ → List ℕ → List ℕ → ℕ → Verdict
+lengthVerdict p pm q qm work = first (pairVerdict p pm q qm ∷ workRow (length p) (length q) work ∷ [])
+
+unfoldable pub lengthAnswer : List ℕ → List ℕ → List ℕ → List ℕ → ℕ → Matched
+lengthAnswer p pm q qm work = answerOf (lengthVerdict p pm q qm work) (longest lettersMatch p pm q qm)
+
+-- The call show, with a slice of so many places: motif, molecule, 9, then 8; else L.
+unfoldable pub showVerdict : List ℕ → List ℕ → List ℕ → List ℕ → ℕ → ℕ → Verdict
+showVerdict p pm q qm places work =
+    first (pairVerdict p pm q qm ∷ placesRow (length p) places ∷ workRow (length p) (length q) work ∷ [])
+
+unfoldable pub showAnswer : List ℕ → List ℕ → List ℕ → List ℕ → ℕ → ℕ → Matched
+showAnswer p pm q qm places work = answerOf (showVerdict p pm q qm places work) (longest lettersMatch p pm q qm)
+
+-- 01, Show: the first L places are an embedding of the prefix of L bases, and later entries keep their values.
+pub record Shown (p pm q qm : List ℕ) (L : ℕ) (old new : List ℕ) : Type 0 where
+  pub long : length new ≡ length old
+  pub embeds : Emb (letters p q) (nth pm) (nth qm) 0 L 0 (length q) (nth new)
+  pub kept : (k : ℕ) → L ≤ k → nth new k ≡ nth old k
+
+-- What is free besides: after a refusal the work slice, and show's slice of places, have every entry as before.
+unfoldable pub WorkKept : Matched → List ℕ → List ℕ → Type 0
+WorkKept (Prefix L) before after = length after ≡ length before
+WorkKept (Refused x) before after = after ≡ before
+
+unfoldable pub PlacesShown : Matched → List ℕ → List ℕ → List ℕ → List ℕ → List ℕ → List ℕ → Type 0
+PlacesShown (Prefix L) p pm q qm before after = Shown p pm q qm L before after
+PlacesShown (Refused x) p pm q qm before after = after ≡ before

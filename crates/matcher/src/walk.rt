@@ -1,0 +1,109 @@
+// The walk over the top of the molecule, from left to right: how far the motif is taken.
+use crate::rows;
+use crate::tree;
+ghost use mathlib.Core.Path.{_≡_};
+ghost use Prim.Native.Nat.{ℕ, _+_, _*_, _≤_, _<_, min};
+ghost use lib.ListN.{length};
+ghost use Rattle.strand.specs.Vocabulary.{nth};
+ghost use Rattle.strand.specs.Strands.{Nested, lettersMatch};
+ghost use Rattle.embedding.specs.Row.{Best};
+ghost use Rattle.embedding.specs.Embedding.{letters};
+ghost use Rattle.embedding.specs.Longest.{longest};
+ghost use Rattle.matcher.specs.Rows.{Setting, Partners};
+ghost use Rattle.matcher.specs.Answers.{workSize};
+
+pub fn smaller(a: usize, b: usize) -> usize
+    ensures { λ r. ⌜ r ≡ min a b ⌝ }
+{
+    if a < b { a } else { b }
+}
+
+// How far the arc l, r takes the motif from cur on. An arc takes no more positions than it has bases: its row is made for that window alone.
+fn arc_end(
+    p: &[u8],
+    pm: &[u16],
+    q: &[u8],
+    qm: &[u16],
+    cur: usize,
+    l: usize,
+    r: usize,
+    work: &mut [u16],
+    partner: &[u8],
+) -> usize
+    requires { ⌜ Setting (now p) (now pm) (now q) (now qm) cur (length (now p)) ⌝ }
+    requires { ⌜ cur < length (now p) ⌝ }
+    requires { ⌜ (l < r) × ((r < length (now q)) × (nth (now qm) l ≡ r)) ⌝ }
+    requires { ⌜ workSize (length (now p)) (length (now q)) ≤ length (now work) ⌝ }
+    requires { ⌜ Partners (now p) (now pm) (now partner) ⌝ }
+    ensures { λ k. ⌜ Best (letters (now (p .entry)) (now (q .entry))) (nth (now (pm .entry))) (nth (now (qm .entry))) (length (now (p .entry))) cur k l (r + 1) ⌝ }
+{
+    let to = smaller(p.len(), cur + (r + 1 - l));
+    tree::inner_row(p, pm, cur, to, q, qm, l, r, work, partner);
+    rows::arc_entry(p, pm, to, cur, q[l], q[r], work[cur], work[cur + 1]) as usize
+}
+
+// Writes the letters of the motif's mates.
+pub fn partners(p: &[u8], pm: &[u16], partner: &mut [u8])
+    requires { ⌜ (length (now pm) ≡ length (now p)) × (length (now p) ≤ length (now partner)) ⌝ }
+    requires { ⌜ Nested (nth (now pm)) (length (now p)) ⌝ }
+    ensures { λ _. ⌜ Partners (now (p .entry)) (now (pm .entry)) (now (partner .exit)) ⌝ }
+{
+    let mut j = 0;
+    while j < p.len() {
+        partner[j] = p[pm[j] as usize];
+        j += 1;
+    }
+}
+
+// How far the whole motif is taken by the whole molecule.
+fn whole_end(p: &[u8], pm: &[u16], q: &[u8], qm: &[u16], work: &mut [u16], partner: &[u8]) -> usize
+    requires { ⌜ Setting (now p) (now pm) (now q) (now qm) 0 (length (now p)) ⌝ }
+    requires { ⌜ workSize (length (now p)) (length (now q)) ≤ length (now work) ⌝ }
+    requires { ⌜ Partners (now p) (now pm) (now partner) ⌝ }
+    ensures { λ k. ⌜ k ≡ longest lettersMatch (now (p .entry)) (now (pm .entry)) (now (q .entry)) (now (qm .entry)) ⌝ }
+{
+    let m = p.len();
+    let mut cur = 0;
+    let mut i = 0;
+    while i < q.len() {
+        if m <= cur {
+            return cur;
+        }
+        let r = tree::mate(qm, i);
+        if i < r {
+            cur = arc_end(p, pm, q, qm, cur, i, r, work, partner);
+        } else {
+            cur = rows::unit(p, pm, m, cur, q[i]);
+        }
+        i = r + 1;
+    }
+    cur
+}
+
+fn prepared_end(
+    p: &[u8],
+    pm: &[u16],
+    q: &[u8],
+    qm: &[u16],
+    work: &mut [u16],
+    partner: &mut [u8],
+) -> usize
+    requires { ⌜ Setting (now p) (now pm) (now q) (now qm) 0 (length (now p)) ⌝ }
+    requires { ⌜ workSize (length (now p)) (length (now q)) ≤ length (now work) ⌝ }
+    requires { ⌜ length (now partner) ≡ 4096 ⌝ }
+    ensures { λ k. ⌜ k ≡ longest lettersMatch (now (p .entry)) (now (pm .entry)) (now (q .entry)) (now (qm .entry)) ⌝ }
+{
+    partners(p, pm, partner);
+    whole_end(p, pm, q, qm, work, partner)
+}
+
+// The length of the longest closed prefix of the motif that embeds in the molecule. What it asks of its inputs holds where both strands are accepted:
+// the call length checks them before, and a catalog's molecules were checked when they were added.
+pub fn prefix_length(p: &[u8], pm: &[u16], q: &[u8], qm: &[u16], work: &mut [u16]) -> usize
+    requires { ⌜ Setting (now p) (now pm) (now q) (now qm) 0 (length (now p)) ⌝ }
+    requires { ⌜ workSize (length (now p)) (length (now q)) ≤ length (now work) ⌝ }
+    ensures { λ k. ⌜ k ≡ longest lettersMatch (now (p .entry)) (now (pm .entry)) (now (q .entry)) (now (qm .entry)) ⌝ }
+{
+    let mut partner = [0u8; 4096];
+    prepared_end(p, pm, q, qm, work, &mut partner)
+}
