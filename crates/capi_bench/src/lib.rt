@@ -1,11 +1,17 @@
 // The calls of the matcher as C sees them, for bindings/bench: L, or 65536 where the call is refused.
 use matcher::Matched;
+ghost use mathlib.Core.Path.{_≡_};
+ghost use lib.ListN.{length};
+ghost use Rattle.matcher.specs.Answers.{lengthAnswer, showAnswer};
+ghost use Rattle.capi_bench.specs.Bench.{asNumber};
 
-fn found(a: Matched) -> usize {
-    match a {
-        Matched::Prefix(n) => n,
-        Matched::Refused(r) => 65536,
+fn as_number(a: Matched) -> usize
+    ensures { λ r. ⌜ r ≡ asNumber a ⌝ }
+{
+    if let Matched::Prefix(n) = a {
+        return n;
     }
+    65536
 }
 
 #[no_mangle]
@@ -15,9 +21,11 @@ pub extern "C" fn bench_length(
     q: &[u8],
     qm: &[u16],
     work: &mut [u16],
-) -> usize {
+) -> usize
+    ensures { λ r. ⌜ r ≡ asNumber (lengthAnswer (now (p .entry)) (now (pm .entry)) (now (q .entry)) (now (qm .entry)) (length (now (work .entry)))) ⌝ }
+{
     let a = matcher::length(p, pm, q, qm, work);
-    found(a)
+    as_number(a)
 }
 
 #[no_mangle]
@@ -28,7 +36,9 @@ pub extern "C" fn bench_show(
     qm: &[u16],
     places: &mut [u16],
     work: &mut [u16],
-) -> usize {
+) -> usize
+    ensures { λ r. ⌜ r ≡ asNumber (showAnswer (now (p .entry)) (now (pm .entry)) (now (q .entry)) (now (qm .entry)) (length (now (places .entry))) (length (now (work .entry)))) ⌝ }
+{
     let a = matcher::show(p, pm, q, qm, places, work);
-    found(a)
+    as_number(a)
 }

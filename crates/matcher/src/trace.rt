@@ -36,12 +36,13 @@ fn choose_turn(
     ensures { λ t. ⌜ Turns (matches (now (p .entry)) x) (matches (now (p .entry)) y) (nth (now (pm .entry))) to j here next t ⌝ }
 {
     let both = rows::unit(p, pm, to, here, y);
+    let within = Turn {
+        start: j,
+        stop: here,
+        next: both,
+    };
     if !strand::letters_match(p[j], x) {
-        return Turn {
-            start: j,
-            stop: here,
-            next: both,
-        };
+        return within;
     }
     let k = pm[j] as usize;
     if k <= j {
@@ -52,39 +53,19 @@ fn choose_turn(
                 next,
             };
         }
-        return Turn {
-            start: j,
-            stop: here,
-            next: both,
-        };
+        return within;
     }
     if to <= k {
-        return Turn {
-            start: j,
-            stop: here,
-            next: both,
-        };
+        return within;
     }
     if !strand::letters_match(p[k], y) {
-        return Turn {
-            start: j,
-            stop: here,
-            next: both,
-        };
+        return within;
     }
     if next < k {
-        return Turn {
-            start: j,
-            stop: here,
-            next: both,
-        };
+        return within;
     }
     if k < both {
-        return Turn {
-            start: j,
-            stop: here,
-            next: both,
-        };
+        return within;
     }
     Turn {
         start: j + 1,

@@ -38,8 +38,8 @@ shared-slice-read-k c = search needs
 cast-k : tie.Need-cast-k
 cast-k c = omega (arith, (c .shared-slice-known4) .given ((c .before .before .before .before .before .before .before .args) .j))
 
-add-t19 : tie.Need-add-t19
-add-t19 c = search needs
+add-t20 : tie.Need-add-t20
+add-t20 c = search needs
 
 returns-2 : tie.Need-returns-2
 returns-2 c = left-end (sym ((c .before .before .before .before .letters-match) .ensures) ∙ not-not _ ((c .before .before .before .if1) .left)) ((c .before .if2) .taken) (omega (arith, (c .before .before .before .before .before .before .unit) .ensures, (c .if3) .taken))
@@ -65,11 +65,11 @@ returns-6 c = inside-at _ _ _ _ _ _ _ _ _ ((c .before .before .before .before .b
 returns-7 : tie.Need-returns-7
 returns-7 c = inside-at _ _ _ _ _ _ _ _ _ ((c .before .before .before .before .before .before .before .before .before .before .before .unit) .ensures) (over-arc (matches ((c .before .before .before .before .before .before .before .before .before .before .before .before .before .before .args) .p .now) ((c .before .before .before .before .before .before .before .before .before .before .before .before .before .before .args) .x)) (matches ((c .before .before .before .before .before .before .before .before .before .before .before .before .before .before .args) .p .now) ((c .before .before .before .before .before .before .before .before .before .before .before .before .before .before .args) .y)) (nth ((c .before .before .before .before .before .before .before .before .before .before .before .before .before .before .args) .pm .now)) ((c .before .before .before .before .before .before .before .before .before .before .before .before .before .before .args) .to) ((c .before .before .before .before .before .before .before .before .before .before .before .before .before .before .args) .next) ((c .before .before .before .before .before .before .before .before .before .before .before .before .before .before .args) .j) ((c .before .before .before .before .before .before .before .before .before .before .before .before .before .before .pre) .1) (sym ((c .before .before .before .before .before .before .before .before .before .letters-match) .ensures) ∙ not-not _ ((c .before .before .before .before .before .before .before .before .if1) .left)) ((c .before .before .before .before .before .before .if2) .left) ((c .before .before .before .before .before .if4) .left) (sym ((c .before .before .before .letters-match2) .ensures) ∙ not-not _ ((c .before .before .if5) .left)) ((c .before .if6) .left)) ((c .if7) .taken)
 
-add-t15 : tie.Need-add-t15
-add-t15 c = search needs
+add-t16 : tie.Need-add-t16
+add-t16 c = search needs
 
-add-t21 : tie.Need-add-t21
-add-t21 c = search needs
+add-t22 : tie.Need-add-t22
+add-t22 c = search needs
 
 returns-8 : tie.Need-returns-8
 returns-8 c = upon (sym ((c .before .before .before .before .before .before .before .before .before .letters-match) .ensures) ∙ not-not _ ((c .before .before .before .before .before .before .before .before .if1) .left)) ((c .before .before .before .before .before .before .if2) .left) ((c .before .before .before .before .before .if4) .left) (sym ((c .before .before .before .letters-match2) .ensures) ∙ not-not _ ((c .before .before .if5) .left)) ((c .before .if6) .left) (omega (arith, (c .before .before .before .before .before .before .before .before .before .before .before .unit) .ensures, (c .if7) .left))
@@ -85,7 +85,7 @@ choose-turn-spec =
     mul-k
     shared-slice-read-k
     cast-k
-    add-t19
+    add-t20
     returns-2
     returns-3
     returns-4
@@ -94,6 +94,6 @@ choose-turn-spec =
     returns-5
     returns-6
     returns-7
-    add-t15
-    add-t21
+    add-t16
+    add-t22
     returns-8)

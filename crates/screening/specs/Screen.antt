@@ -1,0 +1,84 @@
+-- What the screen program prints for the bytes of its input. Assumes nothing.
+use Prim.Native.Nat.{ℕ, _+_, _*_, _/_, _%_, _≤_}
+use mathlib.Core.List.{List, _++_}
+use mathlib.Core.Bool.{Bool, not, _&&_}
+use lib.Dec.{eqb, leb}
+use lib.ListN.{length, take, drop, replicate}
+use Rattle.strand.specs.Vocabulary.{choose}
+use Rattle.strand.specs.Strands.{Strand}
+use Rattle.octets.specs.Checksum.{blockSize}
+use Rattle.block.specs.Content.{emptyBlock, isEmpty, moleculeIn}
+use Rattle.block.specs.Block.{soundMolecule}
+use Rattle.catalog.specs.Calls.{QueryEffect, queryOutcome}
+use Rattle.catalog.specs.declared.Queried.{Queried}
+use Rattle.catalog.specs.declared.Queried.the-variants.{Hits, Refused}
+use Rattle.screening.specs.declared.Screened.{Screened}
+use Rattle.screening.specs.declared.Screened.the-variants.{Written, NoRoom}
+use Rattle.screening.specs.Text.{hitsText, refusedText, badLengthText, badMotifText, mostOutput}
+
+-- The input is a molecule block with the motif, then 1 to 64 catalog blocks.
+abbrev pub mostScreened : ℕ
+mostScreened = 64
+
+unfoldable pub isInput : List ℕ → Bool
+isInput input =
+    eqb (length input % blockSize) 0 && leb 2 (length input / blockSize) && leb (length input / blockSize) (1 + mostScreened)
+
+-- The motif's block, and the catalog behind it: number 0 is the block after the motif's.
+abbrev pub firstBlock : List ℕ → List ℕ
+firstBlock input = take blockSize input
+
+abbrev pub catalogIn : List ℕ → List ℕ
+catalogIn input = drop blockSize input
+
+-- The first block is judged as a molecule block; it may not be empty.
+unfoldable pub isMotif : List ℕ → Bool
+isMotif block = soundMolecule block && not (isEmpty block)
+
+-- The work that a motif of 120 bases asks for.
+abbrev pub screenWork : ℕ
+screenWork = 64 * (120 + 1) + 8 * 160
+
+-- The text of an answer; `hits` is the slice of the hits afterwards.
+unfoldable pub answerText : Queried → List ℕ → List ℕ
+answerText (Hits count searched) hits = hitsText count searched (take count hits)
+answerText (Refused r) hits = refusedText (r .number) (r .side) (r .place)
+
+-- For proofs: the answer's text fits into that many bytes, and any refusal's too.
+unfoldable pub AnswerFits : Queried → List ℕ → ℕ → Type 0
+AnswerFits (Hits count searched) hits room = (count ≤ length hits) × (length (hitsText count searched (take count hits)) ≤ room)
+AnswerFits (Refused r) hits room = mostOutput ≤ room
+
+abbrev pub effectText : QueryEffect → List ℕ
+effectText e = answerText (e .answer) (e .hits)
+
+-- The lengths that `screen` asks for: any output fits, the cache is one block, the work serves any motif, and the hits any catalog.
+unfoldable pub hasRoom : ℕ → ℕ → ℕ → ℕ → Bool
+hasRoom out cache work hits = leb mostOutput out && eqb cache blockSize && leb screenWork work && leb mostScreened hits
+
+pub record ScreenEffect : Type 0 where
+  pub answer : Screened
+  pub out : List ℕ
+
+abbrev pub screened : Screened → List ℕ → ScreenEffect
+screened answer out = record { answer = answer; out = out }
+
+module _ (embeds : Strand → Strand → Bool) where
+  -- It queries with a zeroed cache of one block.
+  unfoldable pub screenQuery : List ℕ → QueryEffect
+  screenQuery input =
+      queryOutcome embeds (catalogIn input) emptyBlock (moleculeIn (firstBlock input)) screenWork (replicate mostScreened 0)
+
+  -- An input of other length prints `bad length`, else an unsound or empty first block `bad motif`, else the answer of the query.
+  unfoldable pub screenOutput : List ℕ → List ℕ
+  screenOutput input =
+      choose (not (isInput input)) badLengthText
+      (choose (not (isMotif (firstBlock input))) badMotifText
+      (effectText (screenQuery input)))
+
+  -- What `screen` answers and leaves in its output buffer: the output, then what stood past it; nothing where a buffer is too short.
+  unfoldable pub screenOutcome : List ℕ → List ℕ → ℕ → ℕ → ℕ → ScreenEffect
+  screenOutcome input out cache work hits =
+      choose (hasRoom (length out) cache work hits)
+      (screened (Written (length (screenOutput input))) (screenOutput input ++ drop (length (screenOutput input)) out))
+      (screened NoRoom out)

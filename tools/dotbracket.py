@@ -1,0 +1,334 @@
+#!/usr/bin/env python3
+"""Turns dot-bracket text, as RNA tools write it, into blocks of the catalog or of a motif, and back.
+
+This is a convenience for people. It is not part of what is proved: the screen program judges every block by itself.
+The tool checks each block that it writes or reads by the rules of a molecule block.
+
+Text, for each molecule:
+    >name
+    GCGAAAGC
+    (((..)))
+One line of bases (A, C, G, U; small letters are taken as capitals) and one line of structure: `.` for a base without a
+bond, `(` and `)` for the two ends of one. What follows a blank on the structure line, as the energy that folding programs
+write there, is left out. Blank lines and lines that begin with `#` are skipped. The line `>(empty)` alone is an empty block.
+Blocks hold no names: decoded molecules are named by their number.
+
+Errors in a text are given as FILE:LINE:COLUMN, both counted from 1.
+"""
+import argparse
+import random
+import sys
+
+BLOCK = 512
+LONGEST = 160
+LONGEST_MOTIF = 120
+MOST_BLOCKS = 512
+MOST_SCREENED = 64
+BASES_AT, MATES_AT, CHECKSUM_AT = 28, 188, 508
+LETTERS = 'ACGU'
+EMPTY_NAME = '(empty)'
+
+
+class Bad(Exception):
+    """What is wrong with a file, and where."""
+
+
+# ---- rules of a molecule block
+
+def checksum(block):
+    return sum((i + 1) * block[i] for i in range(CHECKSUM_AT))
+
+
+def put_pair(block, at, value):
+    block[at], block[at + 1] = value % 256, value // 256
+
+
+def pair_at(block, at):
+    return block[at] + 256 * block[at + 1]
+
+
+def encode(bases, mates):
+    """The block of a molecule. The empty molecule, `('', [])`, is the empty block."""
+    block = bytearray(BLOCK)
+    if not bases:
+        return bytes(block)
+    block[0], block[1] = 1, len(bases)
+    for i, base in enumerate(bases):
+        block[BASES_AT + i] = ord(base)
+        put_pair(block, MATES_AT + 2 * i, mates[i])
+    for k, value in enumerate(checksum(block).to_bytes(4, 'little')):
+        block[CHECKSUM_AT + k] = value
+    return bytes(block)
+
+
+def check_block(block):
+    """None for a sound block, else (byte, what is wrong there). Reads the bytes alone."""
+    if len(block) != BLOCK:
+        return len(block), 'a block has %d bytes' % BLOCK
+    if not any(block):
+        return None
+    if block[0] != 1:
+        return 0, 'the kind of a molecule block is 1, not %d' % block[0]
+    n = block[1]
+    if not 1 <= n <= LONGEST:
+        return 1, 'the length is %d, and 1 to %d are taken' % (n, LONGEST)
+    for i in list(range(2, BASES_AT)) + list(range(BASES_AT + n, MATES_AT)) + list(range(MATES_AT + 2 * n, CHECKSUM_AT)):
+        if block[i] != 0:
+            return i, 'an unused byte is %d, not 0' % block[i]
+    for i in range(n):
+        if chr(block[BASES_AT + i]) not in LETTERS:
+            return BASES_AT + i, 'base %d is no letter of %s' % (i, LETTERS)
+    mates = [pair_at(block, MATES_AT + 2 * i) for i in range(n)]
+    for i, mate in enumerate(mates):
+        if mate >= n:
+            return MATES_AT + 2 * i, 'the mate of base %d is %d, and there are %d bases' % (i, mate, n)
+    for i, mate in enumerate(mates):
+        if mates[mate] != i:
+            return MATES_AT + 2 * i, 'the mate of base %d is %d, whose mate is %d' % (i, mate, mates[mate])
+    closing = []
+    for i, mate in enumerate(mates):
+        if mate > i:
+            closing.append((mate, i))
+        elif mate < i and closing.pop()[0] != i:
+            return MATES_AT + 2 * i, 'the bond of bases %d and %d crosses another' % (mate, i)
+    if block[CHECKSUM_AT:] != checksum(block).to_bytes(4, 'little'):
+        return CHECKSUM_AT, 'the checksum is not %d' % checksum(block)
+    return None
+
+
+def decode(block):
+    """Bases and mates of a sound block; the empty block has none."""
+    n = block[1]
+    return block[BASES_AT:BASES_AT + n].decode('ascii'), [pair_at(block, MATES_AT + 2 * i) for i in range(n)]
+
+
+# ---- dot-bracket text
+
+def structure_of(mates):
+    return ''.join('.' if mate == i else '(' if mate > i else ')' for i, mate in enumerate(mates))
+
+
+def mates_of(structure, place):
+    """The mates that a structure line says; `place(column)` names a column of it."""
+    mates, begun = list(range(len(structure))), []
+    for i, mark in enumerate(structure):
+        if mark == '(':
+            begun.append(i)
+        elif mark == ')':
+            if not begun:
+                raise Bad('%s: `)` closes no bond' % place(i))
+            mates[i] = begun.pop()
+            mates[mates[i]] = i
+        elif mark != '.':
+            crossing = ' (crossing bonds are left out)' if mark in '[]{}<>' or mark.isalpha() else ''
+            raise Bad('%s: `%s` is none of `.`, `(` and `)`%s' % (place(i), mark, crossing))
+    if begun:
+        raise Bad('%s: this `(` is not closed' % place(begun[-1]))
+    return mates
+
+
+def records(text, name):
+    """The lines of each molecule, as (header line number, name, [(line number, line)])."""
+    found = []
+    for number, line in enumerate(text.split('\n'), 1):
+        line = line.rstrip('\r')
+        if not line.strip() or line.startswith('#'):
+            continue
+        if line.startswith('>'):
+            found.append((number, line[1:].strip(), []))
+        elif not found:
+            raise Bad('%s:%d:1: a molecule begins with a line `>name`' % (name, number))
+        else:
+            found[-1][2].append((number, line))
+    return found
+
+
+def molecule(lines, header, name):
+    """Bases and mates from the two lines of a molecule."""
+    if len(lines) != 2:
+        number = lines[2][0] if len(lines) > 2 else header
+        raise Bad('%s:%d:1: a molecule has one line of bases and one of structure, and this one has %d lines' % (name, number, len(lines)))
+    (first, bases), (second, structure) = lines
+    begin, bases = len(bases) - len(bases.lstrip()), bases.strip().upper()
+    for i, base in enumerate(bases):
+        if base not in LETTERS:
+            hint = ' (RNA has U)' if base == 'T' else ''
+            raise Bad('%s:%d:%d: `%s` is no letter of %s%s' % (name, first, begin + i + 1, base, LETTERS, hint))
+    if len(bases) > LONGEST:
+        raise Bad('%s:%d:%d: %d bases, and a molecule has 1 to %d' % (name, first, begin + LONGEST + 1, len(bases), LONGEST))
+    indent, structure = len(structure) - len(structure.lstrip()), structure.split()[0]
+    if len(structure) != len(bases):
+        column = indent + min(len(structure), len(bases)) + 1
+        raise Bad('%s:%d:%d: %d bases and %d marks of structure' % (name, second, column, len(bases), len(structure)))
+    return bases, mates_of(structure, lambda i: '%s:%d:%d' % (name, second, indent + i + 1))
+
+
+def blocks_of(text, name):
+    """The blocks of a text, each checked by the rules and by decoding it again."""
+    blocks = []
+    for header, title, lines in records(text, name):
+        if title == EMPTY_NAME and not lines:
+            bases, mates = '', []
+        else:
+            bases, mates = molecule(lines, header, name)
+        block = encode(bases, mates)
+        wrong = check_block(block)
+        if wrong or decode(block) != (bases, mates):
+            raise Bad('%s:%d:1: the tool made an unsound block: %s' % (name, header, wrong))
+        blocks.append(block)
+    return blocks
+
+
+def text_of(data, name, screen=False):
+    """The text of the blocks, each checked by the rules. With `screen` the first block is a motif."""
+    if not data or len(data) % BLOCK != 0:
+        raise Bad('%s: %d bytes are not whole blocks of %d' % (name, len(data), BLOCK))
+    out = []
+    for d in range(len(data) // BLOCK):
+        block = data[BLOCK * d:BLOCK * (d + 1)]
+        wrong = check_block(block)
+        if wrong:
+            raise Bad('%s: block %d, byte %d: %s' % (name, d, wrong[0], wrong[1]))
+        bases, mates = decode(block)
+        if not bases:
+            out.append('>' + EMPTY_NAME + '\n')
+            continue
+        title = 'motif' if screen and d == 0 else 'molecule %d' % (d - 1 if screen else d)
+        out.append('>%s\n%s\n%s\n' % (title, bases, structure_of(mates)))
+    return ''.join(out)
+
+
+def motif_and_catalog(motif, motif_name, catalog, catalog_name):
+    """An input of the screen program: the block of the motif, then 1 to 64 blocks of the catalog."""
+    first, rest = blocks_of(motif, motif_name), blocks_of(catalog, catalog_name)
+    if len(first) != 1 or not any(first[0]):
+        raise Bad('%s:1:1: one motif is taken, and this file has %d' % (motif_name, len(first)))
+    if not 1 <= len(rest) <= MOST_SCREENED:
+        raise Bad('%s:1:1: %d molecules, and 1 to %d are screened' % (catalog_name, len(rest), MOST_SCREENED))
+    if first[0][1] > LONGEST_MOTIF:
+        print('note: a motif of %d bases is refused by a query (1 to %d)' % (first[0][1], LONGEST_MOTIF), file=sys.stderr)
+    return b''.join(first + rest)
+
+
+# ---- self-test
+
+def random_molecule(rng, most=LONGEST):
+    n = rng.randint(1, most)
+    mates, begun = list(range(n)), []
+    for i in range(n):
+        move = rng.random()
+        if begun and move < 0.35:
+            mates[i] = begun.pop()
+            mates[mates[i]] = i
+        elif move < 0.7:
+            begun.append(i)
+    return ''.join(rng.choice(LETTERS) for _ in range(n)), mates
+
+
+def expect_error(text, start):
+    try:
+        blocks_of(text, 'T')
+    except Bad as error:
+        assert str(error).startswith(start), (text, str(error), start)
+    else:
+        raise AssertionError('no error: %r' % text)
+
+
+def self_test():
+    rng = random.Random(1)
+    one = encode('A', [0])
+    assert checksum(one) == 1888 and one[CHECKSUM_AT:] == (1888).to_bytes(4, 'little') and check_block(one) is None
+    assert check_block(bytes(BLOCK)) is None and decode(bytes(BLOCK)) == ('', [])
+    for _ in range(300):
+        bases, mates = random_molecule(rng)
+        block = encode(bases, mates)
+        assert check_block(block) is None and decode(block) == (bases, mates)
+        text = '>x\n%s\n%s (-1.50)\n' % (bases, structure_of(mates))
+        assert blocks_of(text, 'T') == [block] and blocks_of(text_of(block, 'B'), 'T') == [block]
+        at, damaged = rng.randrange(BLOCK), bytearray(block)
+        damaged[at] = (damaged[at] + rng.randint(1, 255)) % 256
+        assert check_block(bytes(damaged)) is not None, at
+    whole = b''.join([one, bytes(BLOCK), encode('GAC', [2, 1, 0])])
+    assert b''.join(blocks_of(text_of(whole, 'B'), 'T')) == whole
+    assert text_of(whole, 'B', screen=True).startswith('>motif\nA\n.\n>(empty)\n>molecule 1\n')
+    assert blocks_of('# a note\n\n>x\r\n gac \r\n (.)\r\n', 'T') == [encode('GAC', [2, 1, 0])]
+    for bases, mates in [('AXC', [0, 1, 2]), ('A', [1]), ('AC', [1, 1]), ('ACGU', [2, 3, 0, 1])]:
+        assert check_block(encode(bases, mates)) is not None, bases
+    expect_error('GAC\n', 'T:1:1: a molecule begins')
+    expect_error('>x\nGAXC\n....\n', 'T:2:3: `X` is no letter')
+    expect_error('>x\nGATC\n....\n', 'T:2:3: `T` is no letter of ACGU (RNA has U)')
+    expect_error('>x\nGAC\n(.\n', 'T:3:3: 3 bases and 2 marks')
+    expect_error('>x\nGAC\n(...\n', 'T:3:4: 3 bases and 4 marks')
+    expect_error('>x\nGAC\n(((\n', 'T:3:3: this `(` is not closed')
+    expect_error('\n>x\n GAC\n .))\n', 'T:4:3: `)` closes no bond')
+    expect_error('>x\nGAC\n[.]\n', 'T:3:1: `[` is none')
+    expect_error('>x\nGAC\n>y\n', 'T:1:1: a molecule has one line')
+    expect_error('>x\nGAC\n...\n...\n', 'T:4:1: a molecule has one line')
+    expect_error('>x\n%s\n%s\n' % ('A' * 161, '.' * 161), 'T:2:161: 161 bases')
+    data = motif_and_catalog('>m\nA\n.\n', 'M', '>a\nA\n.\n>(empty)\n', 'C')
+    assert len(data) == 3 * BLOCK and data[:BLOCK] == data[BLOCK:2 * BLOCK] == one and not any(data[2 * BLOCK:])
+    for motif, catalog in [('>a\nA\n.\n>b\nA\n.\n', '>a\nA\n.\n'), ('>(empty)\n', '>a\nA\n.\n'), ('>m\nA\n.\n', ''), ('>m\nA\n.\n', '>a\nA\n.\n' * 65)]:
+        try:
+            motif_and_catalog(motif, 'M', catalog, 'C')
+        except Bad:
+            continue
+        raise AssertionError((motif, catalog))
+    print('self-test: ok')
+
+
+# ---- commands
+
+def read_text(path):
+    with open(path, 'rb') as file:
+        data = file.read()
+    try:
+        return data.decode('ascii')
+    except UnicodeDecodeError as error:
+        line = data[:error.start].count(b'\n') + 1
+        column = error.start - (data.rfind(b'\n', 0, error.start) + 1) + 1
+        raise Bad('%s:%d:%d: not an ASCII character' % (path, line, column))
+
+
+def write(path, data):
+    if path == '-':
+        sys.stdout.buffer.write(data)
+    else:
+        with open(path, 'wb') as file:
+            file.write(data)
+
+
+def run(words):
+    if words == ['--self-test']:
+        self_test()
+        return
+    parser = argparse.ArgumentParser(description=__doc__, formatter_class=argparse.RawDescriptionHelpFormatter)
+    parser.add_argument('--self-test', action='store_true', help='test this tool and stop')
+    commands = parser.add_subparsers(dest='command', required=True)
+    one = commands.add_parser('encode', help='text to blocks: a catalog, or a motif as one block')
+    one.add_argument('text')
+    two = commands.add_parser('decode', help='blocks to text')
+    two.add_argument('blocks')
+    two.add_argument('--screen', action='store_true', help='the first block is a motif')
+    three = commands.add_parser('screen-input', help='the input of the screen program: a motif, then a catalog')
+    three.add_argument('motif')
+    three.add_argument('catalog')
+    for command in (one, two, three):
+        command.add_argument('-o', '--output', default='-', help='where to write (else standard output)')
+    args = parser.parse_args(words)
+    if args.command == 'encode':
+        blocks = blocks_of(read_text(args.text), args.text)
+        if not 1 <= len(blocks) <= MOST_BLOCKS:
+            raise Bad('%s:1:1: %d molecules, and a catalog has 1 to %d' % (args.text, len(blocks), MOST_BLOCKS))
+        write(args.output, b''.join(blocks))
+    elif args.command == 'decode':
+        with open(args.blocks, 'rb') as file:
+            write(args.output, text_of(file.read(), args.blocks, args.screen).encode('ascii'))
+    else:
+        write(args.output, motif_and_catalog(read_text(args.motif), args.motif, read_text(args.catalog), args.catalog))
+
+
+if __name__ == '__main__':
+    try:
+        run(sys.argv[1:])
+    except (Bad, OSError) as error:
+        sys.exit('dotbracket.py: %s' % error)
