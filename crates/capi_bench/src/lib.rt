@@ -1,4 +1,4 @@
-// The calls of the matcher as C sees them, for bindings/bench: L, or 65536 where the call is refused.
+// Length and show as C sees them, for bindings/bench alone: L, or 65536 where the call is refused. These are no calls of the product.
 use matcher::Matched;
 ghost use mathlib.Core.Path.{_≡_};
 ghost use lib.ListN.{length};

@@ -158,9 +158,13 @@ zero-bit : (k : ℕ) → bitOf 0 k ≡ false
 unfolding bitOf
 zero-bit k = ap (λ (q : ℕ). eqb (q % 2) 1) (zero-div (2 ^ k))
 
-empty-bit : (d : ℕ) → d < mostCatalogBlocks → searchedIn emptyBlock d ≡ false
-unfolding searchedIn mapBit emptyBlock
-empty-bit d l = rw (getD-replicate {A = ℕ} blockSize (searchedAt + d / 8) 0 0 (omega arith)) (zero-bit (d % 8))
+empty-bit : (at d : ℕ) → at + d / 8 < blockSize → mapBit emptyBlock at d ≡ false
+unfolding mapBit emptyBlock
+empty-bit at d l = rw (getD-replicate {A = ℕ} blockSize (at + d / 8) 0 0 l) (zero-bit (d % 8))
+
+empty-bits : (d : ℕ) → d < mostCatalogBlocks → (searchedIn emptyBlock d ≡ false) × (hitIn emptyBlock d ≡ false)
+unfolding searchedIn hitIn
+empty-bits d l = (empty-bit searchedAt d (omega arith), empty-bit hitAt d (omega arith))
 
 -- a block of zeros is the empty block
 empty-is : (b : List ℕ) → length b ≡ blockSize → isEmpty b ≡ true → b ≡ emptyBlock
@@ -169,14 +173,18 @@ empty-is b l e =
     ext-getD 0 b (replicate blockSize 0) (l ∙ sym (length-replicate {A = ℕ} blockSize 0))
     (λ i h. eqb-true _ 0 (every-at (λ i. eqb (nth b i) 0) (length b) i e h) ∙ sym (getD-replicate {A = ℕ} blockSize i 0 0 (omega (arith, l))))
 
-forgot-bit : (b : List ℕ) (d : ℕ) → soundEntry b ≡ true → Bytes b → d < mostCatalogBlocks → searchedIn (forgot d b) d ≡ false
-forgot-bit b d ok small l =
+forgot-bits : (b : List ℕ) (d : ℕ) → soundEntry b ≡ true → Bytes b → d < mostCatalogBlocks
+    → (searchedIn (forgot d b) d ≡ false) × (hitIn (forgot d b) d ≡ false)
+forgot-bits b d ok small l =
     ⊎-elim
-    (λ (e : isEmpty b ≡ true). rw (empty-is b (law.entry-512 b ok) e, leaf.empty-forgot d) (empty-bit d l))
+    (λ (e : isEmpty b ≡ true). rw (empty-is b (law.entry-512 b ok) e, leaf.empty-forgot d) (empty-bits d l))
     (λ (e : isEmpty b ≡ false).
     let k : forgot d b ≡ encodeEntry (motifIn b) (without d (searchedIn b)) (without d (hitIn b))
     = ap (forgot d) (sym (law.entry-again b ok e small)) ∙ law.entry-forgot (motifIn b) (law.entry-proper b ok e) (searchedIn b) (hitIn b) d l in
-    rw k (law.entry-searched (motifIn b) (law.entry-proper b ok e) _ _ d l ∙ without-same d (searchedIn b)))
+    rw k (
+      law.entry-searched (motifIn b) (law.entry-proper b ok e) _ _ d l ∙ without-same d (searchedIn b),
+      law.entry-hit (motifIn b) (law.entry-proper b ok e) _ _ d l ∙ without-same d (hitIn b),
+    ))
     (by-bool (isEmpty b))
 
 -- an entry without a number is sound: only the bits of numbers below 512 are in it
@@ -267,7 +275,7 @@ module _ (catalog cache : List ℕ) (d : ℕ) (small : Bytes cache) (e : removeV
       let n : length (blockOf s cache) ≡ blockSize = length-block s cache (omega arith) in
       let i : d < mostCatalogBlocks = let x = remove-facts .1 in let y = z .catalog-most in omega arith in
       rw (read.forgot-block cache (blockCount cache) len d s k)
-      (forgot-bit (cleaned (blockOf s cache)) d (cleaned-sound (blockOf s cache) n) (clean-bytes (blockOf s cache) n (part-bytes cache s small (omega arith))) i)
+      (forgot-bits (cleaned (blockOf s cache)) d (cleaned-sound (blockOf s cache) n) (clean-bytes (blockOf s cache) n (part-bytes cache s small (omega arith))) i)
 
   remove-forgets : Forgotten d (removeOutcome catalog cache d .cache)
   unfolding removeOutcome updateUnless

@@ -7,7 +7,7 @@ use lib.ListN.{length}
 use Rattle.strand.specs.Vocabulary.{nth}
 use Rattle.strand.specs.Strands.{Strand}
 use Rattle.block.specs.Block.{blockOf, soundEntry}
-use Rattle.block.specs.Content.{keepsMotif, searchedIn}
+use Rattle.block.specs.Content.{keepsMotif, searchedIn, hitIn}
 use Rattle.strand.specs.declared.Verdict.the-variants.{Accepted}
 use Rattle.catalog.specs.Buffers.{blockCount, held, moleculeAt}
 use Rattle.catalog.specs.Calls.{addVerdict, addOutcome, removeVerdict, removeOutcome, queryVerdict, toSearch, isHit, queryOutcome}
@@ -16,9 +16,9 @@ use Rattle.catalog.specs.Calls.{addVerdict, addOutcome, removeVerdict, r
 abbrev pub AllSound : List ℕ → Type 0
 AllSound cache = (s : ℕ) → s < blockCount cache → soundEntry (blockOf s cache) ≡ true
 
--- No block of the cache has searched bit d.
+-- No block of the cache has bit d in either map.
 abbrev pub Forgotten : ℕ → List ℕ → Type 0
-Forgotten d cache = (s : ℕ) → s < blockCount cache → searchedIn (blockOf s cache) d ≡ false
+Forgotten d cache = (s : ℕ) → s < blockCount cache → (searchedIn (blockOf s cache) d ≡ false) × (hitIn (blockOf s cache) d ≡ false)
 
 -- The buffer holds bytes.
 abbrev pub Bytes : List ℕ → Type 0

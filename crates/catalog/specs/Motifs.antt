@@ -1,4 +1,4 @@
--- When a motif embeds in a molecule: the test of a query, and what it decides. Assumes nothing.
+-- When a motif embeds in a molecule: the test of a query, and the relation that it decides (`decides`, in crate history). Assumes nothing.
 use mathlib.Core.Bool.{Bool}
 use lib.Dec.{eqb}
 use lib.ListN.{length}

@@ -18,8 +18,8 @@ use Rattle.catalog.specs.Motifs.{embeds}
 use Rattle.catalog.specs.Buffers.{slotOf}
 use Rattle.catalog.specs.Answers.{Result, refused, done, found, refusedBy, resultBy, ifAccepted}
 use Rattle.history.specs.Model.{start, putAt, isHeld, heldIn, knownIn, dropped, inRange, modelVerdict, embedsAt, hitList, searchList, modelAnswer, modelNext, slotBlock, modelAlter, modelLog}
-use Rattle.history.specs.History.{zeroed, bytesLog, atMostOnce, admittedFrom, admitted, HistoryTheorem}
-use Rattle.history.specs.Examples.{Story, resultsOf, sameResult, sameResults, storyOk, bonded, unbonded, settledStory, reusedStory, alteredStory, stories, storiesOk}
+use Rattle.history.specs.History.{atMostOnce, admittedFrom, admitted, HistoryTheorem}
+use Rattle.history.specs.Examples.{Story, resultsOf, sameResult, sameResults, storyOk, bonded, unbonded, settledStory, reusedStory, alteredStory, stories, storiesOk, Told, AllTold}
 use Rattle.history.proofs.Theorem.{demand-3}
 
 -- The keys are equal.
@@ -63,7 +63,7 @@ same-results (q ∷ qs) (r ∷ rs) e =
     ap₂ (λ (z : Result) (zs : List Result). z ∷ zs) (same-result q r (a .0)) (same-results qs rs (a .1))
 
 -- What the model comes to in a story, the bytes come to: by the history theorem.
-pub told : (t : Story) → storyOk t ≡ true → resultsOf (bytesLog embeds (zeroed (t .blocks) (t .slots)) (t .events)) ≡ t .results
+told : (t : Story) → storyOk t ≡ true → Told t
 unfolding storyOk HistoryTheorem
 told t ok =
     let a = and-true (admitted embeds (t .blocks) (t .slots) (t .events)) _ ok in
@@ -73,3 +73,12 @@ told t ok =
 pub settled : storiesOk stories ≡ true
 unfolding stories storiesOk settledStory reusedStory alteredStory storyOk admitted admittedFrom atMostOnce modelLog resultsOf sameResults sameResult embeds longest largest prefixOk closedTo placesOk lettersMatch choose every some lowestFrom lowest select someList tab total sameList sameStrand key first row rowAt strandVerdict isLetter notLetter mateOutside notMutual crosses crossedAt moleculeVerdict motifVerdict workVerdict slotOf refusedBy resultBy ifAccepted start putAt isHeld heldIn knownIn dropped inRange modelVerdict embedsAt hitList searchList modelAnswer modelNext slotBlock modelAlter emptyBlock encodeEntry entryBlock checked contentOf bytesOf mapBytes bitSum without
 settled = refl
+
+all-told : (ts : List Story) → storiesOk ts ≡ true → AllTold ts
+unfolding storiesOk AllTold
+all-told [] e = tt
+all-told (t ∷ ts) e = let a = and-true (storyOk t) (storiesOk ts) e in (told t (a .0), all-told ts (a .1))
+
+-- The stories hold on the bytes.
+pub settled-bytes : AllTold stories
+settled-bytes = all-told stories settled

@@ -24,8 +24,8 @@ history test Relation decides B S es a =
       right = λ before after p work slice count hits searched e. right-start test Relation B S decides es before after p work slice count hits searched (sym same ∙ e);
     }
 
--- the test of query decides whether an embedding exists
-decides : Decides EmbedsIn embeds
+-- The test of a query decides whether an embedding exists.
+pub decides : Decides EmbedsIn embeds
 unfolding Decides embeds motifVerdict
 decides p q hp hq =
     let proper = accepted-proper motifSide leastBases mostMotifBases (p .bases) (p .mates) hp in

@@ -1,5 +1,6 @@
 -- Example histories: 01's story, a number used again, and one with alterations and refused calls between. Assumes nothing.
 use Prim.Native.Nat.{ℕ}
+use mathlib.Core.Path.{_≡_}
 use mathlib.Core.List.{List, [], _∷_}
 use mathlib.Core.Bool.{Bool, true, false, _&&_}
 use lib.Dec.{eqb}
@@ -10,7 +11,7 @@ use Rattle.catalog.specs.Motifs.{embeds}
 use Rattle.catalog.specs.Answers.{Result, refused, done, found}
 use Rattle.history.specs.Events.{add, remove, query, Event, call, alter, Line}
 use Rattle.history.specs.Model.{start, modelLog}
-use Rattle.history.specs.History.{admitted}
+use Rattle.history.specs.History.{admitted, zeroed, bytesLog}
 
 -- B, S, a list of events, and what its calls come to.
 pub record Story : Type 0 where
@@ -98,8 +99,8 @@ reusedStory =
     record {
       blocks = 1;
       slots = 2;
-      events = call (add 0 gac) ∷ ask unbonded ∷ call (remove 0) ∷ ask unbonded ∷ call (add 0 ggc) ∷ ask unbonded ∷ [];
-      results = done ∷ found 0 [] 1 ∷ done ∷ found 0 [] 0 ∷ done ∷ found 1 (0 ∷ []) 1 ∷ [];
+      events = call (add 0 gac) ∷ ask unbonded ∷ call (remove 0) ∷ call (add 0 ggc) ∷ ask unbonded ∷ [];
+      results = done ∷ found 0 [] 1 ∷ done ∷ done ∷ found 1 (0 ∷ []) 1 ∷ [];
     }
 
 -- Alterations of an empty block, of one byte that keeps its value (byte 380 has searched bit 0), of the hit bit in byte 444; refused calls
@@ -138,6 +139,14 @@ alteredStory =
 
 unfoldable pub stories : List Story
 stories = settledStory ∷ reusedStory ∷ alteredStory ∷ []
+
+-- On the bytes, by the definitions of the calls, the story's calls come to its results.
+abbrev pub Told : Story → Type 0
+Told t = resultsOf (bytesLog embeds (zeroed (t .blocks) (t .slots)) (t .events)) ≡ t .results
+
+unfoldable pub AllTold : List Story → Type 0
+AllTold [] = Unit
+AllTold (t ∷ ts) = Told t × AllTold ts
 
 unfoldable pub storiesOk : List Story → Bool
 storiesOk [] = true

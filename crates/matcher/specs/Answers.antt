@@ -52,7 +52,8 @@ pub record Shown (p pm q qm : List ℕ) (L : ℕ) (old new : List ℕ) : Type 0 
   pub embeds : Emb (letters p q) (nth pm) (nth qm) 0 L 0 (length q) (nth new)
   pub kept : (k : ℕ) → L ≤ k → nth new k ≡ nth old k
 
--- What is free besides: after a refusal the work slice, and show's slice of places, have every entry as before.
+-- After a refusal the work slice and the places are as before. After an accepted call the work slice keeps its length, and the places are
+-- as `Shown` says.
 unfoldable pub WorkKept : Matched → List ℕ → List ℕ → Type 0
 WorkKept (Prefix L) before after = length after ≡ length before
 WorkKept (Refused x) before after = after ≡ before

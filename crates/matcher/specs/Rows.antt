@@ -1,4 +1,4 @@
--- What the row operations and the walk over the arcs of the molecule leave, as their contracts say it. Assumes nothing.
+-- Only the contracts inside this crate need this file: what the row operations and the walk over the arcs of the molecule leave. Assumes nothing.
 use Prim.Native.Nat.{ℕ, suc, _+_, _-_, _*_, _^_, _≤_, _<_}
 use mathlib.Core.Path.{_≡_}
 use mathlib.Core.Bool.{Bool}

@@ -1,4 +1,4 @@
--- The walk that writes the places: what one arc of the molecule takes of the motif, and what is written. Assumes nothing.
+-- Only the contracts inside this crate need this file: what one arc of the molecule takes of the motif, and which places are written. Assumes nothing.
 use Prim.Native.Nat.{ℕ, suc, _+_, _≤_, _<_}
 use mathlib.Core.Path.{_≡_}
 use mathlib.Core.Bool.{Bool, true}

@@ -98,7 +98,7 @@ fn prepared_end(
 }
 
 // The length of the longest closed prefix of the motif that embeds in the molecule. What it asks of its inputs holds where both strands are accepted:
-// the call length checks them before, and a catalog's molecules were checked when they were added.
+// the call length checks them before, and a query finds every catalog block sound before it searches one.
 pub fn prefix_length(p: &[u8], pm: &[u16], q: &[u8], qm: &[u16], work: &mut [u16]) -> usize
     requires { ⌜ Setting (now p) (now pm) (now q) (now qm) 0 (length (now p)) ⌝ }
     requires { ⌜ workSize (length (now p)) (length (now q)) ≤ length (now work) ⌝ }

@@ -25,8 +25,9 @@ fn hits_buffer() -> [u16; 64] {
 
 // Writes the first n bytes.
 fn write(out: &[u8], n: usize) {
+    let a = 0;
     if n <= out.len() {
-        io::write_all(1, &out[..n]);
+        io::write_all(1, &out[a..n]);
     }
 }
 

@@ -234,6 +234,9 @@ module _ (embeds : Strand → Strand → Bool) (input out : List ℕ) (cache wor
 pub written-room : (n : ℕ) → Written n ≡ NoRoom → ⊥
 written-room n e = let z : _≡_ {A = ℕ} 0 1 = cc in omega arith
 
+pub written-bound : (k n most : ℕ) → Written k ≡ Written n → k ≤ most → n ≤ most
+written-bound k n most e l = let z : k ≡ n = cc in omega arith
+
 -- ---- the query of an input
 
 module _ (embeds : Strand → Strand → Bool) (input cache : List ℕ) (work : ℕ) (hits : List ℕ) where

@@ -76,7 +76,8 @@ module _ (embeds : Strand → Strand → Bool) where
       (choose (not (isMotif (firstBlock input))) badMotifText
       (effectText (screenQuery input)))
 
-  -- What `screen` answers and leaves in its output buffer: the output, then what stood past it; nothing where a buffer is too short.
+  -- What `screen` answers and leaves in its output buffer: the output, then what stood past it; nothing where a buffer is
+  -- too short or the cache is not one block.
   unfoldable pub screenOutcome : List ℕ → List ℕ → ℕ → ℕ → ℕ → ScreenEffect
   screenOutcome input out cache work hits =
       choose (hasRoom (length out) cache work hits)

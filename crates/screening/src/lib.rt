@@ -4,7 +4,7 @@ pub mod text;
 use catalog::Queried;
 ghost use mathlib.Core.Path.{_≡_};
 ghost use mathlib.Core.Bool.{true};
-ghost use Prim.Native.Nat.{_≤_};
+ghost use Prim.Native.Nat.{ℕ, _≤_};
 ghost use lib.ListN.{length};
 ghost use Rattle.block.specs.Content.{emptyBlock, moleculeIn};
 ghost use Rattle.catalog.specs.Calls.{queried, queryOutcome};
@@ -12,7 +12,7 @@ ghost use Rattle.screening.specs.Text.{refusedText, mostOutput, Put};
 ghost use Rattle.screening.specs.Screen.{isInput, isMotif, firstBlock, catalogIn, answerText, AnswerFits, screenOutput, hasRoom, screened, screenOutcome};
 ghost use Rattle.catalog.specs.Motifs.{embeds};
 
-// What screen answers: how many bytes of output it wrote, or that a borrowed buffer is too short.
+// What screen answers: how many bytes of output it wrote, or that a borrowed buffer is too short or the cache not one block.
 pub enum Screened {
     Written(usize),
     NoRoom,
@@ -92,15 +92,16 @@ fn ask_afresh(input: &[u8], cache: &mut [u8], work: &mut [u16], hits: &mut [u16]
 // The text of any refusal.
 fn put_row(out: &mut [u8], number: u8, side: u8, place: usize) -> usize
     requires { ⌜ mostOutput ≤ length (now out) ⌝ }
-    ensures { λ r. ⌜ Put (refusedText number side place) (now (out .entry)) (now (out .exit)) 0 r ⌝ }
+    ensures { λ r. ⌜ Put (refusedText number side place) (now (out .entry)) (now (out .exit)) 0 r × (r ≤ mostOutput) ⌝ }
 {
     text::put_refused(out, number, side, place)
 }
 
 // The text of a query's answer.
 fn put_answer(out: &mut [u8], answer: Queried, hits: &[u16]) -> usize
-    requires { ⌜ AnswerFits answer (now hits) (length (now out)) ⌝ }
-    ensures { λ r. ⌜ Put (answerText answer (now (hits .entry))) (now (out .entry)) (now (out .exit)) 0 r ⌝ }
+    requires { ⌜ AnswerFits answer (now hits) mostOutput ⌝ }
+    requires { ⌜ mostOutput ≤ length (now out) ⌝ }
+    ensures { λ r. ⌜ Put (answerText answer (now (hits .entry))) (now (out .entry)) (now (out .exit)) 0 r × (r ≤ mostOutput) ⌝ }
 {
     match answer {
         Queried::Refused(x) => put_row(out, x.number, x.side, x.place),
@@ -117,7 +118,7 @@ fn write_output(
     hits: &mut [u16],
 ) -> usize
     requires { ⌜ hasRoom (length (now out)) (length (now cache)) (length (now work)) (length (now hits)) ≡ true ⌝ }
-    ensures { λ r. ⌜ Put (screenOutput embeds (now (input .entry))) (now (out .entry)) (now (out .exit)) 0 r ⌝ }
+    ensures { λ r. ⌜ Put (screenOutput embeds (now (input .entry))) (now (out .entry)) (now (out .exit)) 0 r × (r ≤ mostOutput) ⌝ }
 {
     if !is_input(input) {
         return text::put_word(out, 0, b"bad length\n");
@@ -129,8 +130,8 @@ fn write_output(
     put_answer(out, answer, hits)
 }
 
-// From the whole input to the whole output. The cache, the work slice and the hits are scratch: their contents matter nothing and are lost.
-// Where a buffer is too short nothing is written in any.
+// From the whole input to the whole output. The cache, the work slice and the hits are scratch: their contents matter nothing, and what
+// they hold afterwards is free. Where a buffer is too short, or the cache is not one block, nothing is written in any. No output is longer than mostOutput.
 pub fn screen(
     input: &[u8],
     out: &mut [u8],
@@ -140,6 +141,7 @@ pub fn screen(
 ) -> Screened
     ensures { λ r. ⌜ screened r (now (out .exit)) ≡ screenOutcome embeds (now (input .entry)) (now (out .entry)) (length (now (cache .entry))) (length (now (work .entry))) (length (now (hits .entry))) ⌝ }
     ensures { λ r. ⌜ (r ≡ Screened.NoRoom → (now (cache .exit) ≡ now (cache .entry)) × (now (work .exit) ≡ now (work .entry)) × (now (hits .exit) ≡ now (hits .entry))) ⌝ }
+    ensures { λ r. ⌜ ((n : ℕ) → r ≡ Screened.Written n → n ≤ mostOutput) ⌝ }
 {
     if !has_room(out.len(), cache.len(), work.len(), hits.len()) {
         return Screened::NoRoom;

@@ -1,7 +1,8 @@
 -- `screening::put_answer` meets its contract.
 use borrow.Author.Needs.{needs}
 use Prim.Native.Nat.{_-_}
-use lib.ListN.{length}
+use native.Mathlib.Omega.{arith}
+use Rattle.screening.specs.Text.{mostOutput}
 use Rattle.screening.proofs.ScreenLaws as law
 use Rattle.screening.proofs.put_answer.Statement.{statement}
 use Rattle.screening.proofs.put_answer.Tie as tie
@@ -10,25 +11,25 @@ enum-known-answer : tie.Need-enum-known-answer
 enum-known-answer c = search needs
 
 put-row-requires : tie.Need-put-row-requires
-put-row-requires c κs = law.fits-refused (c .before .before .answer .given .0 .0) (c .before .before .before .before .before .before .args .answer) (c .before .before .before .before .before .before .args .hits .now) (length (c .before .before .before .before .before .before .args .out .now)) (c .before .before .answer .given .1) (c .before .before .before .before .before .before .pre)
+put-row-requires c κs = c .before .before .before .before .before .before .pre .1
 
 enum-known-answer-2 : tie.Need-enum-known-answer-2
 enum-known-answer-2 c = search needs
 
 put-hits-requires : tie.Need-put-hits-requires
-put-hits-requires c κs = law.fits-hits (c .before .before .answer2 .given .0 .0) (c .before .before .answer2 .given .0 .1 .0) (c .before .before .before .before .before .before .args .answer) (c .before .before .before .before .before .before .args .hits .now) (length (c .before .before .before .before .before .before .args .out .now)) (c .before .before .answer2 .given .1) (c .before .before .before .before .before .before .pre)
+put-hits-requires c κs = (law.fits-hits (c .before .before .answer2 .given .0 .0) (c .before .before .answer2 .given .0 .1 .0) (c .before .before .before .before .before .before .args .answer) (c .before .before .before .before .before .before .args .hits .now) mostOutput (c .before .before .answer2 .given .1) (c .before .before .before .before .before .before .pre .0) .0, omega (arith, law.fits-hits (c .before .before .answer2 .given .0 .0) (c .before .before .answer2 .given .0 .1 .0) (c .before .before .before .before .before .before .args .answer) (c .before .before .before .before .before .before .args .hits .now) mostOutput (c .before .before .answer2 .given .1) (c .before .before .before .before .before .before .pre .0) .1, c .before .before .before .before .before .before .pre .1))
 
 same-length : tie.Need-same-length
 same-length c = search needs
 
 returns : tie.Need-returns
-returns c = law.put-refused (c .before .before .before .before .before .answer .given .0 .0) (c .before .before .before .before .before .before .before .before .before .args .answer) (c .before .before .before .before .before .before .before .before .before .args .hits .now) (c .before .before .before .before .before .answer .given .1) (c .before .before .put-row .ensures)
+returns c = (law.put-refused (c .before .before .before .before .before .answer .given .0 .0) (c .before .before .before .before .before .before .before .before .before .args .answer) (c .before .before .before .before .before .before .before .before .before .args .hits .now) (c .before .before .before .before .before .answer .given .1) (c .before .before .put-row .ensures .0), c .before .before .put-row .ensures .1)
 
 same-length-2 : tie.Need-same-length-2
 same-length-2 c = search needs
 
 returns-2 : tie.Need-returns-2
-returns-2 c = law.put-hits (c .before .before .before .before .before .answer2 .given .0 .0) (c .before .before .before .before .before .answer2 .given .0 .1 .0) (c .before .before .before .before .before .before .before .before .before .args .answer) (c .before .before .before .before .before .before .before .before .before .args .hits .now) (c .before .before .before .before .before .answer2 .given .1) (c .before .before .put-hits .ensures)
+returns-2 c = (law.put-hits (c .before .before .before .before .before .answer2 .given .0 .0) (c .before .before .before .before .before .answer2 .given .0 .1 .0) (c .before .before .before .before .before .before .before .before .before .args .answer) (c .before .before .before .before .before .before .before .before .before .args .hits .now) (c .before .before .before .before .before .answer2 .given .1) (c .before .before .put-hits .ensures), omega (arith, c .before .before .put-hits .ensures .past, law.fits-hits (c .before .before .before .before .before .answer2 .given .0 .0) (c .before .before .before .before .before .answer2 .given .0 .1 .0) (c .before .before .before .before .before .before .before .before .before .args .answer) (c .before .before .before .before .before .before .before .before .before .args .hits .now) mostOutput (c .before .before .before .before .before .answer2 .given .1) (c .before .before .before .before .before .before .before .before .before .pre .0) .1))
 
 pub put-answer-spec : {M : Type 1} → statement M
 put-answer-spec =

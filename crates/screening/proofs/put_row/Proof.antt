@@ -13,7 +13,7 @@ same-length : tie.Need-same-length
 same-length c = search needs
 
 returns : tie.Need-returns
-returns c = search needs
+returns c = (c .before .before .put-refused .ensures, omega (arith, c .before .before .put-refused .ensures .past, most-refused (c .before .before .before .before .before .args .number) (c .before .before .before .before .before .args .side) (c .before .before .before .before .before .args .place) (omega arith) (omega arith) (omega arith)))
 
 pub put-row-spec : {M : Type 1} → statement M
 put-row-spec = tie.close (tie.spec put-refused-requires same-length returns)
