@@ -1,0 +1,29 @@
+// Plain C peers of the library's calls, for benchmarks: the same work at the same optimization. Nothing is proved of them. Strands are valid and
+// buffers large enough: no peer refuses anything. `work` is as large as the library's.
+#ifndef PEER_H
+#define PEER_H
+
+#include <stddef.h>
+#include <stdint.h>
+
+// The length of the longest closed prefix of the motif that embeds in the molecule.
+typedef size_t peer_matcher(const uint8_t *p, const uint16_t *pm, size_t m, const uint8_t *q, const uint16_t *qm, size_t n, uint16_t *work);
+
+// By document 003's rows as written (rows.c), and by the library's own algorithm (windows.c).
+peer_matcher rows_length, windows_length;
+
+// The lowest unsound block of a buffer of molecule blocks, and of one of cache entries; the number of blocks where all are sound (sound.c).
+size_t peer_unsound_molecule(const uint8_t *catalog, size_t blocks);
+size_t peer_unsound_entry(const uint8_t *cache, size_t blocks);
+
+// Writes the checksum of a block.
+void peer_put_checksum(uint8_t *block);
+
+// A query (query.c): the soundness pass over catalog and cache, the search of each held molecule that the cache does not know, the hits, and the
+// entry written to the motif's slot. Gives the count of hits, or -1 where a block of the catalog is unsound.
+long peer_query_rows(const uint8_t *catalog, size_t blocks, uint8_t *cache, size_t slots, const uint8_t *p, const uint16_t *pm, size_t m,
+                     uint16_t *work, uint16_t *hits, size_t *searched);
+long peer_query_windows(const uint8_t *catalog, size_t blocks, uint8_t *cache, size_t slots, const uint8_t *p, const uint16_t *pm, size_t m,
+                        uint16_t *work, uint16_t *hits, size_t *searched);
+
+#endif

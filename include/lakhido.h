@@ -1,0 +1,134 @@
+/* Lakhido: motif search and answer cache for folded RNA.
+ *
+ * Link with target/staticlib/libcapi.a, which `rt staticlib capi` writes (x86-64). Each function is proved to give the answer and to leave the
+ * buffers that this file describes, for all inputs that keep the rules of "Buffers" (crates/capi/src/lib.rt has the contracts). Nothing
+ * checks this file against the library: it is written by hand.
+ *
+ * Strands. A molecule or a motif is two buffers of one length: bases as bytes ('A', 'C', 'G', 'U') and mates as 16-bit numbers. Positions
+ * count from 0. The mate of a base without a bond is its own position. Two mates i < j are an arc, and arcs must not cross.
+ *
+ * Buffers. Each buffer is a pointer and its length in elements (bytes, or 16-bit numbers).
+ * - A pointer to 16-bit numbers is aligned to 2 bytes. Pointers to bytes need no alignment.
+ * - A buffer of length 0 is not read or written, and its pointer may be null. Any other pointer is valid for its whole length.
+ * - A buffer that a call may write (no `const`) overlaps no other buffer of the same call. Buffers with `const` may overlap each other.
+ * - `work` may hold anything, and need not be initialised: no answer depends on what it holds. Every other buffer is initialised.
+ * - No call allocates, keeps a pointer, or has state of its own: calls on buffers that no other thread writes may run at the same time.
+ * - Beside its buffers a call uses stack: see LAKHIDO_STACK.
+ *
+ * Refusals. No call asks anything else of its caller. An input that breaks a rule is refused with a number of enum lakhido_refusal, a side
+ * and a place, the first that applies in the order given at each function, and a refused call changes no byte of any buffer.
+ */
+#ifndef LAKHIDO_H
+#define LAKHIDO_H
+
+#include <stddef.h>
+#include <stdint.h>
+
+#ifdef __cplusplus
+extern "C" {
+#endif
+
+/* Lengths of strands: 1 to LAKHIDO_MOST bases for check, length, show and verify; 1 to LAKHIDO_MOLECULE_MOST for a molecule of the catalog;
+ * 1 to LAKHIDO_MOTIF_MOST for the motif of a query. */
+#define LAKHIDO_MOST 4096
+#define LAKHIDO_MOLECULE_MOST 160
+#define LAKHIDO_MOTIF_MOST 120
+
+/* A block is LAKHIDO_BLOCK bytes. A catalog has 1 to LAKHIDO_BLOCKS_MOST blocks, block d for molecule d; a cache 1 to LAKHIDO_SLOTS_MOST.
+ * A block of zeros is empty: a new catalog and a new cache are all zeros. */
+#define LAKHIDO_BLOCK 512
+#define LAKHIDO_BLOCKS_MOST 512
+#define LAKHIDO_SLOTS_MOST 64
+
+/* Entries of `work` for length and show, the motif having m and the molecule n bases; and for query, the motif having m bases. A longer
+ * slice is fine. */
+#define LAKHIDO_WORK(m, n) ((size_t)64 * ((size_t)(m) + 1) + (size_t)8 * (size_t)(n))
+#define LAKHIDO_QUERY_WORK(m) LAKHIDO_WORK(m, LAKHIDO_MOLECULE_MOST)
+
+/* Bytes of stack that are enough for any call (measured, not proved). */
+#define LAKHIDO_STACK 1048576
+
+/* The number of a refusal. The place is 0 where none is named. */
+enum lakhido_refusal {
+    LAKHIDO_ACCEPTED = 0,
+    /* Side LAKHIDO_MOTIF or LAKHIDO_MOLECULE. */
+    LAKHIDO_UNEQUAL_LENGTHS = 1,  /* bases and mates differ in length */
+    LAKHIDO_NO_BASES = 2,         /* no bases */
+    LAKHIDO_TOO_LONG = 3,         /* more bases than the call takes */
+    LAKHIDO_BAD_LETTER = 4,       /* a base that is no letter; place: the lowest */
+    LAKHIDO_BAD_MATE = 5,         /* a mate that is no position; place: the lowest base that has one */
+    LAKHIDO_MATES_NOT_MUTUAL = 6, /* place: the lowest i whose mate's mate is not i */
+    LAKHIDO_ARCS_CROSS = 7,       /* arcs (a, b) and (i, j) with a < i < b < j; place: the lowest such i */
+    /* Side LAKHIDO_NEITHER. */
+    LAKHIDO_WORK_TOO_SHORT = 8,    /* fewer entries than LAKHIDO_WORK or LAKHIDO_QUERY_WORK says */
+    LAKHIDO_WRONG_SLICE = 9,       /* show: fewer places than bases; verify: places not as many as bases; query: fewer hits than blocks */
+    LAKHIDO_NOT_WHOLE_BLOCKS = 10, /* catalog or cache: not whole blocks, none, or too many */
+    LAKHIDO_UNSOUND_BLOCK = 11,    /* an unsound block in the catalog; place: the lowest */
+    LAKHIDO_NUMBER_TOO_LARGE = 12, /* a molecule number that is no block of the catalog */
+    LAKHIDO_ALREADY_HELD = 13,     /* add: the number has a molecule */
+    LAKHIDO_NOT_HELD = 14          /* remove: the number has none */
+};
+
+/* The side of a refusal. */
+enum lakhido_side { LAKHIDO_MOTIF = 0, LAKHIDO_MOLECULE = 1, LAKHIDO_NEITHER = 2 };
+
+/* What a call answers. Refused: refusal, side and place, and 0 in `value` and `searched`. Accepted: 0 in refusal, side and place, and in
+ * `value` and `searched` what the call says; 0 where it says nothing. */
+typedef struct lakhido_answer {
+    size_t refusal;
+    size_t side;
+    size_t place;
+    size_t value;
+    size_t searched;
+} lakhido_answer;
+
+/* Accepts a nested molecule of 1 to LAKHIDO_MOST bases.
+ * Refused by: 1 to 7 of the molecule. */
+lakhido_answer lakhido_check(const uint8_t *bases, size_t bases_length, const uint16_t *mates, size_t mates_length);
+
+/* value: the length L of the longest closed prefix of the motif that embeds in the molecule. (Closed: no arc of the motif has one end in the
+ * prefix and one outside.) It is the motif's length exactly when the motif embeds.
+ * Leaves anything in `work`.
+ * Refused by: 1 to 7 of the motif, 1 to 7 of the molecule, 8. */
+lakhido_answer lakhido_length(const uint8_t *motif_bases, size_t motif_bases_length, const uint16_t *motif_mates, size_t motif_mates_length,
+                              const uint8_t *bases, size_t bases_length, const uint16_t *mates, size_t mates_length, uint16_t *work,
+                              size_t work_length);
+
+/* value: L, as lakhido_length. Writes the position of each of the prefix's L bases in an embedding to the first L entries of `places`, and
+ * keeps the later ones. `places` has at least as many entries as the motif has bases.
+ * Leaves anything in `work`.
+ * Refused by: 1 to 7 of the motif, 1 to 7 of the molecule, 9, 8. */
+lakhido_answer lakhido_show(const uint8_t *motif_bases, size_t motif_bases_length, const uint16_t *motif_mates, size_t motif_mates_length,
+                            const uint8_t *bases, size_t bases_length, const uint16_t *mates, size_t mates_length, uint16_t *places,
+                            size_t places_length, uint16_t *work, size_t work_length);
+
+/* value: 1 where `places` is an embedding of the whole motif in the molecule, else 0. `places` has as many entries as the motif has bases, each
+ * any number: a place past the molecule's end gives 0 and is not refused.
+ * Refused by: 1 to 7 of the motif, 1 to 7 of the molecule, 9. */
+lakhido_answer lakhido_verify(const uint8_t *motif_bases, size_t motif_bases_length, const uint16_t *motif_mates, size_t motif_mates_length,
+                              const uint8_t *bases, size_t bases_length, const uint16_t *mates, size_t mates_length, const uint16_t *places,
+                              size_t places_length);
+
+/* Writes a molecule of 1 to LAKHIDO_MOLECULE_MOST bases to block `number` of the catalog, and zeroes every unsound block of the cache.
+ * Refused by: 10, 11, 12, 13, then 1 to 7 of the molecule. */
+lakhido_answer lakhido_add(uint8_t *catalog, size_t catalog_length, uint8_t *cache, size_t cache_length, size_t number, const uint8_t *bases,
+                           size_t bases_length, const uint16_t *mates, size_t mates_length);
+
+/* Zeroes block `number` of the catalog and every unsound block of the cache, and takes the number out of every cache entry.
+ * Refused by: 10, 11, 12, 14. */
+lakhido_answer lakhido_remove(uint8_t *catalog, size_t catalog_length, uint8_t *cache, size_t cache_length, size_t number);
+
+/* value: how many molecules of the catalog the motif embeds in. Writes their numbers, rising, to the start of `hits`, and keeps the later
+ * entries; `hits` has at least as many entries as the catalog has blocks.
+ * searched: how many molecules were searched, the others being known from the cache.
+ * Zeroes every unsound block of the cache and writes the block of the motif's slot. Leaves anything in `work`.
+ * Refused by: 10, 11, 1 to 7 of the motif (1 to LAKHIDO_MOTIF_MOST bases), 9, 8. */
+lakhido_answer lakhido_query(const uint8_t *catalog, size_t catalog_length, uint8_t *cache, size_t cache_length, const uint8_t *motif_bases,
+                             size_t motif_bases_length, const uint16_t *motif_mates, size_t motif_mates_length, uint16_t *work,
+                             size_t work_length, uint16_t *hits, size_t hits_length);
+
+#ifdef __cplusplus
+}
+#endif
+
+#endif
