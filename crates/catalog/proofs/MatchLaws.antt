@@ -9,7 +9,7 @@ use lib.Seq.{take-at}
 use lib.Dec.{eqb}
 use Rattle.strand.specs.Strands.{strandOf, lettersMatch, motifSide, moleculeSide, Proper}
 use Rattle.embedding.specs.Longest.{longest}
-use Rattle.matcher.specs.Rows.{Setting}
+use Rattle.rows.specs.Rows.{Setting}
 use Rattle.matcher.specs.Answers.{workSize}
 use Rattle.block.specs.Block.{soundMolecule}
 use Rattle.block.specs.Content.{isEmpty, moleculeIn}

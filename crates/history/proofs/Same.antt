@@ -50,7 +50,7 @@ kept s i v β (inr h) = inr (rw (length-set (β .cache) (blockSize * s + i) v) h
 
 module _ (embeds : Strand → Strand → Bool) where
   -- a refused call changes nothing
-  bytes-refused : (β : Buffers) (c : Call) (r : Refusal) → bytesVerdict β c ≡ Refused r → (bytesResult embeds β c ≡ refusedBy r) × (bytesNext embeds β c ≡ β)
+  pub bytes-refused : (β : Buffers) (c : Call) (r : Refusal) → bytesVerdict β c ≡ Refused r → (bytesResult embeds β c ≡ refusedBy r) × (bytesNext embeds β c ≡ β)
   unfolding bytesVerdict bytesResult bytesNext addOutcome removeOutcome queryOutcome updateUnless queryUnless updateResult queryResult
   bytes-refused β (add d q) r e = (rw e, rw e)
   bytes-refused β (remove d) r e = (rw e, rw e)

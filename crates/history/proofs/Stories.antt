@@ -63,7 +63,7 @@ same-results (q ∷ qs) (r ∷ rs) e =
     ap₂ (λ (z : Result) (zs : List Result). z ∷ zs) (same-result q r (a .0)) (same-results qs rs (a .1))
 
 -- What the model comes to in a story, the bytes come to: by the history theorem.
-told : (t : Story) → storyOk t ≡ true → Told t
+pub told : (t : Story) → storyOk t ≡ true → Told t
 unfolding storyOk HistoryTheorem
 told t ok =
     let a = and-true (admitted embeds (t .blocks) (t .slots) (t .events)) _ ok in

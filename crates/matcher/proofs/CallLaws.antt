@@ -12,7 +12,7 @@ use Rattle.strand.specs.declared.Verdict.the-variants as verdict
 use Rattle.strand.specs.Refusals.{refusal, row, first, pairVerdict}
 use Rattle.strand.proofs.VerdictLaws.{row-yes, row-no, row-pass, first-pass, pair-proper}
 use Rattle.matcher.specs.declared.Matched.the-variants.{Prefix, Refused}
-use Rattle.matcher.specs.Rows.{Setting}
+use Rattle.rows.specs.Rows.{Setting}
 use Rattle.matcher.specs.Trace.{Laid}
 use Rattle.matcher.specs.Answers.{Shown, workSize, workRow, placesRow, answerOf, lengthVerdict, showVerdict}
 use Rattle.matcher.proofs.Top.{setting-of}

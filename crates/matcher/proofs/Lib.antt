@@ -1,9 +1,3 @@
-pub mod Pass
-pub mod Parts
-pub mod Entries
-pub mod Arcs
-pub mod Made
 pub mod Top
 pub mod Turning
-pub mod Passes
 pub mod CallLaws

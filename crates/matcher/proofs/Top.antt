@@ -15,9 +15,9 @@ use Rattle.embedding.proofs.Recurrence.{later, empty, combine, unique}
 use Rattle.embedding.proofs.Computed.{longest-best}
 use Rattle.embedding.proofs.Window.{widen}
 use Rattle.embedding.proofs.Rows.{unit-best, arc-best}
-use Rattle.matcher.specs.Rows.{Setting, Sealed, Room, matches}
+use Rattle.rows.specs.Rows.{Setting, Sealed, Room, matches}
 use Rattle.matcher.specs.Answers.{workSize}
-use Rattle.matcher.proofs.Arcs.{seal-on}
+use Rattle.rows.proofs.Arcs.{seal-on}
 
 -- A window within a window.
 pub narrow : {p pm q qm : List ℕ} {from to : ℕ} (a z : ℕ) → Setting p pm q qm from to → a ≤ z → z ≤ length p → Setting p pm q qm a z

@@ -19,9 +19,9 @@ use Rattle.embedding.proofs.Arc.{inner-closed, upon-arc}
 use Rattle.embedding.proofs.Window.{cut-to}
 use Rattle.embedding.proofs.Rows.{before-right, row-from}
 use Rattle.matcher.specs.declared.trace.Turn.{Turn}
-use Rattle.matcher.specs.Rows.{Setting, matches}
+use Rattle.rows.specs.Rows.{Setting, matches}
 use Rattle.matcher.specs.Trace.{Turns, upon, left-end, inside, Turned, Put, Laid}
-use Rattle.matcher.proofs.Entries.{over-free, over-arc}
+use Rattle.rows.proofs.Entries.{over-free, over-arc}
 use Rattle.matcher.proofs.Top.{window-low, window-high, window-best}
 
 -- A unit row takes a position or not.

@@ -1,7 +1,5 @@
 // The matcher: the longest closed prefix of a motif that embeds in a molecule, and an embedding of it.
-mod rows;
 mod trace;
-mod tree;
 pub mod walk;
 
 use strand::Refusal;

@@ -1,14 +1,14 @@
 // The same walk, which also writes the places.
-use crate::rows;
-use crate::tree;
 use crate::walk;
+use rows::row;
+use rows::tree;
 ghost use mathlib.Core.Path.{_≡_};
 ghost use Prim.Native.Nat.{ℕ, _+_, _*_, _≤_, _<_};
 ghost use lib.ListN.{length};
 ghost use Rattle.strand.specs.Vocabulary.{nth};
 ghost use Rattle.embedding.specs.Row.{Best};
 ghost use Rattle.embedding.specs.Embedding.{letters};
-ghost use Rattle.matcher.specs.Rows.{Setting, Partners, Sealed, matches};
+ghost use Rattle.rows.specs.Rows.{Setting, Partners, Sealed, matches};
 ghost use Rattle.matcher.specs.Answers.{workSize};
 ghost use Rattle.matcher.specs.Trace.{Turns, Turned, Put, Laid};
 
@@ -35,7 +35,7 @@ fn choose_turn(
     requires { ⌜ j < to ⌝ }
     ensures { λ t. ⌜ Turns (matches (now (p .entry)) x) (matches (now (p .entry)) y) (nth (now (pm .entry))) to j here next t ⌝ }
 {
-    let both = rows::unit(p, pm, to, here, y);
+    let both = row::unit(p, pm, to, here, y);
     let within = Turn {
         start: j,
         stop: here,
@@ -167,7 +167,7 @@ fn place(
             );
             j = t.next;
         } else {
-            let k = rows::unit(p, pm, to, j, q[s]);
+            let k = row::unit(p, pm, to, j, q[s]);
             put(places, j, k, s);
             j = k;
         }

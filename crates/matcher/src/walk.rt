@@ -1,6 +1,6 @@
 // The walk over the top of the molecule, from left to right: how far the motif is taken.
-use crate::rows;
-use crate::tree;
+use rows::row;
+use rows::tree;
 ghost use mathlib.Core.Path.{_≡_};
 ghost use Prim.Native.Nat.{ℕ, _+_, _*_, _≤_, _<_, min};
 ghost use lib.ListN.{length};
@@ -9,7 +9,7 @@ ghost use Rattle.strand.specs.Strands.{Nested, lettersMatch};
 ghost use Rattle.embedding.specs.Row.{Best};
 ghost use Rattle.embedding.specs.Embedding.{letters};
 ghost use Rattle.embedding.specs.Longest.{longest};
-ghost use Rattle.matcher.specs.Rows.{Setting, Partners};
+ghost use Rattle.rows.specs.Rows.{Setting, Partners};
 ghost use Rattle.matcher.specs.Answers.{workSize};
 
 pub fn smaller(a: usize, b: usize) -> usize
@@ -39,7 +39,7 @@ fn arc_end(
 {
     let to = smaller(p.len(), cur + (r + 1 - l));
     tree::inner_row(p, pm, cur, to, q, qm, l, r, work, partner);
-    rows::arc_entry(p, pm, to, cur, q[l], q[r], work[cur], work[cur + 1]) as usize
+    row::arc_entry(p, pm, to, cur, q[l], q[r], work[cur], work[cur + 1]) as usize
 }
 
 // Writes the letters of the motif's mates.
@@ -73,7 +73,7 @@ fn whole_end(p: &[u8], pm: &[u16], q: &[u8], qm: &[u16], work: &mut [u16], partn
         if i < r {
             cur = arc_end(p, pm, q, qm, cur, i, r, work, partner);
         } else {
-            cur = rows::unit(p, pm, m, cur, q[i]);
+            cur = row::unit(p, pm, m, cur, q[i]);
         }
         i = r + 1;
     }

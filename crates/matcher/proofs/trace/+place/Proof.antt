@@ -7,17 +7,17 @@ use lib.ListN.{length}
 use Rattle.matcher.proofs.Top.{narrow, best-all, best-end, Walked, walked-none, walked-up, walked-in, walked-step, walked-unit}
 use Rattle.matcher.specs.Trace.{Laid}
 use Rattle.matcher.proofs.Turning.{laid-none, laid-join, laid-wide, laid-unit, laid-turn, turned-full}
-use Rattle.matcher.proofs.Arcs.{inner-sealed}
+use Rattle.rows.proofs.Arcs.{inner-sealed}
 use Prim.Native.Nat.{ℕ, _<_}
 use borrow.Fn.Kinds.{In}
 use borrow.Fn.PlainCycle.{Measures, is, falls, and}
 use Rattle.matcher.proofs.trace.place.Reads as place
 use Rattle.matcher.proofs.trace.place.Kinds as place-kinds
 use Rattle.matcher.proofs.trace.+place.Lts-place as place-lts
-use Rattle.matcher.proofs.rows.unit.Reads as unit-reads
+use Rattle.rows.proofs.row.unit.Reads as unit-reads
 use Rattle.matcher.proofs.trace.put.Reads as put-reads
 use Rattle.matcher.proofs.trace.turn_at.Reads as turn-at-reads
-use Rattle.matcher.proofs.tree.mate.Reads as mate-reads
+use Rattle.rows.proofs.tree.mate.Reads as mate-reads
 use Rattle.matcher.proofs.trace.+place.{statement}
 use Rattle.matcher.proofs.trace.+place.Tie.{close}
 

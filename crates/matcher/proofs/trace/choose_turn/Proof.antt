@@ -7,9 +7,9 @@ use borrow.Author.Needs.{needs}
 use Rattle.strand.specs.Vocabulary.{nth}
 use Rattle.embedding.specs.Row.{unitAt, overAt}
 use Rattle.strand.proofs.ListLaws.{not-not, true-not}
-use Rattle.matcher.specs.Rows.{matches}
+use Rattle.rows.specs.Rows.{matches}
 use Rattle.matcher.specs.Trace.{Turns, upon, left-end, inside}
-use Rattle.matcher.proofs.Entries.{over-other, over-free, over-far, over-unlike, over-short, over-arc}
+use Rattle.rows.proofs.Entries.{over-other, over-free, over-far, over-unlike, over-short, over-arc}
 use Rattle.matcher.proofs.trace.choose_turn.Statement.{statement}
 use Rattle.matcher.proofs.trace.choose_turn.Tie as tie
 

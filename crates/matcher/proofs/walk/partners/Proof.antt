@@ -4,7 +4,7 @@ use native.Mathlib.Omega.{arith}
 use mathlib.Core.Path.{_≡_, refl, _∙_}
 use lib.ListN.{length}
 use Rattle.strand.specs.Vocabulary.{nth}
-use Rattle.matcher.proofs.Passes as passes
+use Rattle.rows.proofs.Passes as passes
 use lib.ListN.{length-set}
 use Rattle.matcher.proofs.walk.partners.Statement.{statement}
 use Rattle.matcher.proofs.walk.partners.Tie as tie

@@ -1,0 +1,112 @@
+-- Rows 10 and 11: a cache of 513 bytes, and a catalog with unsound blocks, refuse every call. Assumes nothing.
+use Prim.Native.Nat.{ℕ, _*_, _%_, _<_}
+use native.Mathlib.Omega.{arith}
+use mathlib.Core.Path.{_≡_, refl, sym, ap, _∙_}
+use mathlib.Core.Logic.{inr}
+use mathlib.Core.Bool.{true, false, not}
+use mathlib.Core.List.{List, [], _∷_}
+use lib.ListN.{length, replicate, length-replicate, length-set}
+use Rattle.strand.specs.Vocabulary.{nth, choose, some, lowestFrom, lowest}
+use Rattle.strand.specs.Strands.{noSide, isLetter, notLetter, mateOutside, notMutual, crosses, crossedAt}
+use Rattle.strand.specs.Refusals.{refusal, first, row, rowAt, strandVerdict}
+use Rattle.strand.specs.declared.Verdict.the-variants.{Accepted}
+use Rattle.strand.proofs.ListLaws.{lowest-all, lowest-found}
+use Rattle.octets.specs.Checksum.{blockSize, checked}
+use Rattle.block.specs.Block.{blockOf, soundMolecule}
+use Rattle.block.specs.Buffer.{putBlock}
+use Rattle.block.specs.Content.{emptyBlock, contentOf, moleculeBlock, encodeMolecule}
+use Rattle.block.proofs.ContentLaws.{molecule-changed}
+use Rattle.catalog.specs.Limits.{moleculeVerdict}
+use Rattle.catalog.specs.Motifs.{embeds}
+use Rattle.catalog.specs.Buffers.{blockCount, unsoundAt, buffersVerdict}
+use Rattle.catalog.specs.Answers.{refused, refusedBy}
+use Rattle.catalog.proofs.BlockUse.{empty-molecule, molecule-length, molecule-sound}
+use Rattle.catalog.proofs.ReadingLaws.{count-is, whole-is, put-length, put-block}
+use Rattle.catalog.proofs.JudgeLaws.{buffers-3, add-1, remove-1, query-1}
+use Rattle.history.specs.Events.{Call, add, remove, query, call}
+use Rattle.history.specs.History.{zeroed, bytesResult, bytesLog, AllRefused}
+use Rattle.history.proofs.Base.{block-zero}
+use Rattle.history.proofs.Follows.{bytesVerdict}
+use Rattle.history.proofs.Same.{bytes-refused}
+use Rattle.history.proofs.Theorem.{not-whole}
+use Rattle.examples.specs.Table.{a, uneven, nine, unsound}
+
+pub uneven-refused : (c : Call) → bytesResult embeds uneven c ≡ refused 10 noSide 0
+unfolding bytesLog AllRefused
+uneven-refused c = not-whole (call c ∷ []) uneven (inr odd) .0
+  where
+    odd : length (replicate {A = ℕ} 513 0) % blockSize ≡ 0 → ⊥
+    odd e = omega (arith, length-replicate {A = ℕ} 513 0)
+
+pub a-accepted : moleculeVerdict a ≡ Accepted
+unfolding moleculeVerdict strandVerdict first row rowAt choose some lowestFrom lowest isLetter notLetter mateOutside notMutual crosses crossedAt
+a-accepted = refl
+
+nine-length : length nine ≡ blockSize
+nine-length = length-set (encodeMolecule a) 0 9 ∙ molecule-length a a-accepted
+
+nine-unsound : soundMolecule nine ≡ false
+nine-unsound = molecule-changed (encodeMolecule a) 0 9 (molecule-sound a a-accepted) (omega arith) other
+  where
+    other : nth (encodeMolecule a) 0 ≡ 9 → ⊥
+    other e = let z : _≡_ {A = ℕ} 1 9 = unfold encodeMolecule moleculeBlock checked contentOf in e in omega arith
+
+zeros : List ℕ
+zeros = replicate (blockSize * 3) 0
+
+one : List ℕ
+one = putBlock 2 nine zeros
+
+two : List ℕ
+two = putBlock 1 nine one
+
+zeros-length : length zeros ≡ blockSize * 3
+unfolding zeros
+zeros-length = length-replicate {A = ℕ} (blockSize * 3) 0
+
+one-length : length one ≡ blockSize * 3
+unfolding one
+one-length = put-length zeros 3 zeros-length 2 (omega arith) nine nine-length
+
+two-length : length two ≡ blockSize * 3
+unfolding two
+two-length = put-length one 3 one-length 1 (omega arith) nine nine-length
+
+block-0 : blockOf 0 two ≡ emptyBlock
+unfolding two one zeros choose
+block-0 =
+    put-block one 3 one-length 1 (omega arith) nine nine-length 0 (omega arith)
+    ∙ put-block zeros 3 zeros-length 2 (omega arith) nine nine-length 0 (omega arith)
+    ∙ block-zero 3 0 (omega arith)
+
+block-1 : blockOf 1 two ≡ nine
+unfolding two choose
+block-1 = put-block one 3 one-length 1 (omega arith) nine nine-length 1 (omega arith)
+
+sound-0 : unsoundAt two 0 ≡ false
+unfolding unsoundAt
+sound-0 = ap (λ (b : List ℕ). not (soundMolecule b)) block-0 ∙ ap not empty-molecule
+
+unsound-1 : unsoundAt two 1 ≡ true
+unfolding unsoundAt
+unsound-1 = ap (λ (b : List ℕ). not (soundMolecule b)) block-1 ∙ ap not nine-unsound
+
+place : 1 ≡ lowest (blockCount two) (unsoundAt two)
+place = sym (lowest-found (unsoundAt two) (blockCount two) 1 (lowest-all (unsoundAt two) 1 below) (omega (arith, count-is two 3 two-length)) unsound-1)
+  where
+    below : (i : ℕ) → i < 1 → unsoundAt two i ≡ false
+    below i l = let z : i ≡ 0 = omega arith in ap (unsoundAt two) z ∙ sound-0
+
+buffers : buffersVerdict two (replicate blockSize 0) ≡ refusal 11 noSide 1
+buffers =
+    sym (buffers-3 two (replicate blockSize 0) (whole-is 512 3 two two-length) (whole-is 64 1 (replicate blockSize 0) (length-replicate {A = ℕ} blockSize 0)) 1 place
+    (omega (arith, count-is two 3 two-length)))
+
+pub unsound-refused : (c : Call) → bytesResult embeds unsound c ≡ refused 11 noSide 1
+unfolding refusedBy
+unsound-refused c = bytes-refused embeds unsound c _ (verdict c) .0
+  where
+    verdict : (c : Call) → bytesVerdict unsound c ≡ refusal 11 noSide 1
+    verdict (add d q) = unfold bytesVerdict zeroed two one zeros in (sym (add-1 two (replicate blockSize 0) d q _ buffers))
+    verdict (remove d) = unfold bytesVerdict zeroed two one zeros in (sym (remove-1 two (replicate blockSize 0) d _ buffers))
+    verdict (query p work hits) = unfold bytesVerdict zeroed two one zeros in (sym (query-1 two (replicate blockSize 0) p work (length hits) _ buffers))

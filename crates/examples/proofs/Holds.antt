@@ -1,0 +1,94 @@
+-- The theorem of 01's examples: every row of the table holds. Assumes nothing.
+use mathlib.Core.Path.{_≡_, refl}
+use mathlib.Core.Bool.{true}
+use mathlib.Core.List.{List, [], _∷_, _++_}
+use Rattle.strand.specs.Vocabulary.{choose, every, some, lowestFrom, lowest, largest, tab, someList}
+use Rattle.strand.specs.Strands.{lettersMatch, isLetter, notLetter, mateOutside, notMutual, crosses, crossedAt}
+use Rattle.strand.specs.Refusals.{first, row, rowAt, strandVerdict, checkVerdict, pairVerdict}
+use Rattle.strand.proofs.ListLaws.{and-true}
+use Rattle.embedding.specs.Longest.{longest, prefixOk, closedTo, placesOk}
+use Rattle.embedding.specs.Verify as verify
+use Rattle.embedding.specs.Examples.{Example, exampleOk, examplesOk, examples, settled}
+use Rattle.matcher.specs.Answers as matcher
+use Rattle.block.proofs.Examples.{checksum-of-A}
+use Rattle.catalog.specs.Limits.{moleculeVerdict, motifVerdict, workVerdict}
+use Rattle.catalog.specs.Answers.{refusedBy, resultBy, ifAccepted}
+use Rattle.history.specs.Events.{add, remove}
+use Rattle.history.specs.Model.{start, putAt, isHeld, heldIn, inRange, modelVerdict, modelAnswer, modelNext, modelLog}
+use Rattle.history.specs.History.{atMostOnce, admittedFrom, admitted}
+use Rattle.history.specs.Examples.{Story, resultsOf, sameResult, sameResults, storyOk, storiesOk, stories, settledStory, reusedStory}
+use Rattle.history.proofs.Stories.{keys, told}
+use Rattle.history.proofs.Stories as stories
+use Rattle.examples.specs.Table.{Row, story, screenText, Holds, AllHold, a, ask, screenInput, screenPrints, longMotif, numberTwo, addedTwice, removedEmpty, refusals, settledRows, also, table}
+use Rattle.examples.proofs.BufferRows.{uneven-refused, unsound-refused}
+use Rattle.examples.proofs.ScreenRow.{screen-prints}
+
+-- A row and the rows after it.
+infixr 20 _&_
+_&_ : {A B : Type 0} → A → B → A × B
+x & y = (x, y)
+
+-- A story that holds on the model holds on the bytes.
+by-model : (t : Story) → storyOk t ≡ true → Holds (story t)
+unfolding Holds
+by-model t ok = (ok, told t ok)
+
+tales : (storyOk longMotif ≡ true) × (storyOk numberTwo ≡ true) × (storyOk addedTwice ≡ true) × (storyOk removedEmpty ≡ true)
+unfolding longMotif numberTwo addedTwice removedEmpty storyOk admitted admittedFrom atMostOnce modelLog resultsOf sameResults sameResult choose every some lowestFrom lowest tab first row rowAt strandVerdict isLetter notLetter mateOutside notMutual crosses crossedAt moleculeVerdict motifVerdict workVerdict refusedBy resultBy ifAccepted start putAt isHeld heldIn inRange modelVerdict modelAnswer modelNext
+tales = (refl, refl, refl, refl)
+
+refusals-hold : AllHold refusals
+unfolding refusals AllHold Holds checkVerdict motifVerdict matcher.lengthVerdict matcher.lengthAnswer matcher.showVerdict matcher.showAnswer matcher.answerOf verify.verifyVerdict verify.answerOf pairVerdict strandVerdict first row rowAt choose every some someList lowestFrom lowest isLetter notLetter mateOutside notMutual crosses crossedAt lettersMatch longest largest prefixOk closedTo placesOk
+refusals-hold =
+    (refl, refl)
+    & (refl, refl)
+    & by-model longMotif (tales .0)
+    & (refl, refl)
+    & (refl, refl)
+    & (refl, refl)
+    & (refl, refl)
+    & refl
+    & refl
+    & refl
+    & refl
+    & uneven-refused (add 0 a)
+    & uneven-refused (remove 0)
+    & uneven-refused ask
+    & unsound-refused (add 0 a)
+    & unsound-refused (remove 0)
+    & unsound-refused ask
+    & by-model numberTwo (tales .1)
+    & by-model addedTwice (tales .2)
+    & by-model removedEmpty (tales .3)
+    & refl
+    & refl
+    & tt
+
+settled-hold : (es : List Example) → examplesOk es ≡ true → AllHold (settledRows es)
+unfolding settledRows AllHold Holds examplesOk
+settled-hold [] e = tt
+settled-hold (x ∷ es) e = let s = and-true (exampleOk x) (examplesOk es) e in (s .0, settled-hold es (s .1))
+
+-- 01's own stories among those of crate history.
+own-stories : (storyOk settledStory ≡ true) × (storyOk reusedStory ≡ true)
+unfolding storiesOk stories
+own-stories =
+    let s = and-true (storyOk settledStory) _ stories.settled in
+    (s .0, and-true (storyOk reusedStory) _ (s .1) .0)
+
+also-hold : AllHold also
+unfolding also AllHold Holds
+also-hold = checksum-of-A & keys .0 & keys .1 & by-model settledStory (own-stories .0) & by-model reusedStory (own-stories .1) & tt
+
+both : (rs ss : List Row) → AllHold rs → AllHold ss → AllHold (rs ++ ss)
+unfolding AllHold
+both [] ss h k = k
+both (r ∷ rs) ss h k = (h .0, both rs ss (h .1) k)
+
+screen-hold : AllHold (screenText screenInput screenPrints ∷ settledRows examples)
+unfolding AllHold Holds
+screen-hold = (screen-prints, settled-hold examples settled)
+
+pub holds : AllHold table
+unfolding table
+holds = both _ also (both refusals _ refusals-hold screen-hold) also-hold

@@ -1,0 +1,3 @@
+pub mod BufferRows
+pub mod ScreenRow
+pub mod Holds

@@ -1,0 +1,80 @@
+-- `rows::row::raise` meets its contract.
+use borrow.Author.Needs.{needs}
+use Prim.Native.Nat.{_+_, _-_, _≤_}
+use native.Mathlib.Omega.{arith}
+use Prim.Native.Nat.{max}
+use Rattle.strand.specs.Vocabulary.{nth}
+use Rattle.rows.specs.Rows.{Written}
+use Rattle.rows.proofs.Pass.{pass-none, pass-set, pass-end}
+use Rattle.rows.proofs.Passes as passes
+use Rattle.rows.proofs.row.raise.Statement.{statement}
+use Rattle.rows.proofs.row.raise.Tie as tie
+
+abbrev Inv-loop : tie.InvT-loop
+Inv-loop row₀ from to at j₀ row j = (from ≤ j) × (j ≤ to) × Written (λ k. max (nth row₀ k) (nth row₀ (at + k))) row₀ row from j
+
+abbrev μ-loop : tie.MeasureT-loop
+μ-loop row₀ from to at j₀ row j = to - j
+
+loop-holds : tie.Need-loop-holds Inv-loop μ-loop
+loop-holds c = (omega arith, omega arith, pass-none _ _ _)
+
+mul-larger : tie.Need-mul-larger Inv-loop μ-loop
+mul-larger c = omega (arith, c .before .loop .inv .2 .long)
+
+slice-read-larger : tie.Need-slice-read-larger Inv-loop μ-loop
+slice-read-larger c = omega (arith, c .before .before .loop .inv .2 .long)
+
+add-larger : tie.Need-add-larger Inv-loop μ-loop
+add-larger c = omega arith
+
+mul-larger-2 : tie.Need-mul-larger-2 Inv-loop μ-loop
+mul-larger-2 c = omega (arith, c .before .before .loop .inv .2 .long)
+
+slice-read-larger-2 : tie.Need-slice-read-larger-2 Inv-loop μ-loop
+slice-read-larger-2 c = omega (arith, c .before .before .before .loop .inv .2 .long)
+
+larger-requires : tie.Need-larger-requires Inv-loop μ-loop
+larger-requires c κs = search needs
+
+mul-row : tie.Need-mul-row Inv-loop μ-loop
+mul-row c = omega (arith, c .before .before .before .before .loop .inv .2 .long)
+
+slice-write-row : tie.Need-slice-write-row Inv-loop μ-loop
+slice-write-row c = omega (arith, c .before .before .before .before .loop .inv .2 .long)
+
+add-j : tie.Need-add-j Inv-loop μ-loop
+add-j c = omega arith
+
+loop-less : tie.Need-loop-less Inv-loop μ-loop
+loop-less c = omega arith
+
+loop-again : tie.Need-loop-again Inv-loop μ-loop
+loop-again c = (omega arith, omega arith, pass-set _ _ _ _ _ _ (c .before .before .before .before .loop .inv .2) (c .before .before .before .before .loop .inv .0) (omega arith) (passes.raise-step _ _ _ _ _ _ _ (c .before .before .before .before .loop .inv .2) (c .larger .ensures)))
+
+same-length : tie.Need-same-length Inv-loop μ-loop
+same-length c = c .before .loop .inv .2 .long
+
+returns : tie.Need-returns Inv-loop μ-loop
+returns c = pass-end _ _ _ _ _ _ (c .before .loop .inv .2) (c .before .loop .inv .1) (c .loop-test .left)
+
+pub raise-spec : {M : Type 1} → statement M
+raise-spec =
+    tie.close
+    (tie.spec
+    Inv-loop
+    μ-loop
+    loop-holds
+    mul-larger
+    slice-read-larger
+    add-larger
+    mul-larger-2
+    slice-read-larger-2
+    larger-requires
+    mul-row
+    slice-write-row
+    add-j
+    loop-less
+    loop-again
+    same-length
+    returns)

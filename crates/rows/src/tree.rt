@@ -1,0 +1,119 @@
+// The rows of the molecule's arcs, by a walk over their tree, heavy child first.
+use crate::row;
+ghost use mathlib.Core.Path.{_≡_};
+ghost use Prim.Native.Nat.{ℕ, _+_, _-_, _≤_, _<_};
+ghost use lib.ListN.{length};
+ghost use Rattle.strand.specs.Vocabulary.{nth};
+ghost use Rattle.strand.specs.Strands.{Nested};
+ghost use Rattle.embedding.specs.Embedding.{letters};
+ghost use Rattle.embedding.specs.Row.{IsRow};
+ghost use Rattle.rows.specs.Rows.{Setting, Partners, Sealed, Heavy, Room, LightRoom, Prepended};
+
+// The mate of a position.
+pub fn mate(qm: &[u16], i: usize) -> usize
+    requires { ⌜ i < length (now qm) ⌝ }
+    ensures { λ r. ⌜ r ≡ nth (now (qm .entry)) i ⌝ }
+{
+    qm[i] as usize
+}
+
+// The left end of the longest arc in lo..hi, or hi if there is none. It looks only at arcs that lie in no other.
+fn heaviest(qm: &[u16], lo: usize, hi: usize) -> usize
+    requires { ⌜ Nested (nth (now qm)) (length (now qm)) ⌝ }
+    requires { ⌜ (lo ≤ hi) × (hi ≤ length (now qm)) ⌝ }
+    requires { ⌜ Sealed (now qm) lo hi ⌝ }
+    ensures { λ r. ⌜ Heavy (now (qm .entry)) lo hi r ⌝ }
+{
+    let mut best = hi;
+    let mut size = 0;
+    let mut i = lo;
+    while i < hi {
+        let k = mate(qm, i);
+        if i < k {
+            if size < k - i {
+                best = i;
+                size = k - i;
+            }
+            i = k;
+        }
+        i += 1;
+    }
+    best
+}
+
+// Leaves the row of l + 1..r, inside the arc l, r, as the first row of work.
+pub fn inner_row(
+    p: &[u8],
+    pm: &[u16],
+    from: usize,
+    to: usize,
+    q: &[u8],
+    qm: &[u16],
+    l: usize,
+    r: usize,
+    work: &mut [u16],
+    partner: &[u8],
+)
+    requires { ⌜ Setting (now p) (now pm) (now q) (now qm) from to ⌝ }
+    requires { ⌜ (l < r) × ((r < length (now q)) × (nth (now qm) l ≡ r)) ⌝ }
+    requires { ⌜ Room (length (now p) + 1) (r - l) (length (now work)) ⌝ }
+    requires { ⌜ Partners (now p) (now pm) (now partner) ⌝ }
+    ensures { λ _. ⌜ IsRow (letters (now (p .entry)) (now (q .entry))) (nth (now (pm .entry))) (nth (now (qm .entry))) from to (l + 1) r (nth (now (work .exit))) ⌝ }
+{
+    let w = p.len() + 1;
+    let heavy = heaviest(qm, l + 1, r);
+    if r <= heavy {
+        row::identity(work, from, to);
+        prepend(p, pm, from, to, q, qm, l + 1, r, work, partner);
+        return;
+    }
+    let e = mate(qm, heavy);
+    inner_row(p, pm, from, to, q, qm, heavy, e, work, partner);
+    row::close_arc(work, p, pm, partner, from, to, q[heavy], q[e]);
+    if r <= e + 1 {
+        prepend(p, pm, from, to, q, qm, l + 1, heavy, work, partner);
+        return;
+    }
+    let part = &mut work[w..];
+    row::identity(part, from, to);
+    prepend(p, pm, from, to, q, qm, e + 1, r, part, partner);
+    row::combine_into(work, from, to, w);
+    prepend(p, pm, from, to, q, qm, l + 1, heavy, work, partner);
+}
+
+// Puts lo..hi, which no arc leaves, in front of the stretch whose row is the first of work.
+fn prepend(
+    p: &[u8],
+    pm: &[u16],
+    from: usize,
+    to: usize,
+    q: &[u8],
+    qm: &[u16],
+    lo: usize,
+    hi: usize,
+    work: &mut [u16],
+    partner: &[u8],
+)
+    requires { ⌜ Setting (now p) (now pm) (now q) (now qm) from to ⌝ }
+    requires { ⌜ (lo ≤ hi) × (hi ≤ length (now q)) ⌝ }
+    requires { ⌜ Sealed (now qm) lo hi ⌝ }
+    requires { ⌜ LightRoom (length (now p) + 1) (now qm) lo hi (length (now work)) ⌝ }
+    requires { ⌜ Partners (now p) (now pm) (now partner) ⌝ }
+    ensures { λ _. ⌜ Prepended (now (p .entry)) (now (pm .entry)) (now (q .entry)) (now (qm .entry)) from to lo hi (now (work .entry)) (now (work .exit)) ⌝ }
+{
+    let w = p.len() + 1;
+    let mut i = hi;
+    while lo < i {
+        let k = i - 1;
+        let c = mate(qm, k);
+        if c == k {
+            row::extend(work, p, pm, from, to, q[k]);
+        } else {
+            let part = &mut work[w..];
+            inner_row(p, pm, from, to, q, qm, c, k, part, partner);
+            row::close_arc(part, p, pm, partner, from, to, q[c], q[k]);
+            row::combine(work, from, to, w);
+        }
+        i = c;
+    }
+}
