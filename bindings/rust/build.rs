@@ -32,7 +32,7 @@ fn compile_peers(sources: &Path) {
     println!("cargo::rerun-if-env-changed=CC");
     println!("cargo::rerun-if-changed={}", sources.join("peer.h").display());
     let mut objects = Vec::new();
-    for name in ["rows", "windows", "sound", "query"] {
+    for name in ["rows", "windows", "show", "sound", "query"] {
         let (source, object) = (sources.join(name).with_extension("c"), out.join(name).with_extension("o"));
         println!("cargo::rerun-if-changed={}", source.display());
         run(Command::new(&compiler).args(["-O3", "-c", "-o"]).arg(&object).arg(&source));
@@ -41,6 +41,8 @@ fn compile_peers(sources: &Path) {
     run(Command::new("ar").arg("crs").arg(out.join("libpeers.a")).args(&objects));
     println!("cargo::rustc-link-search=native={}", out.display());
     println!("cargo::rustc-link-lib=static=peers");
+    let version = Command::new(&compiler).arg("--version").output().map(|o| String::from_utf8_lossy(&o.stdout).into_owned());
+    println!("cargo::rustc-env=LAKHIDO_PEER_COMPILER={}", version.unwrap_or_default().lines().next().unwrap_or(&compiler));
 }
 
 fn run(command: &mut Command) {

@@ -99,18 +99,7 @@ pub fn check(bases: &[u8], mates: &[u16]) -> Answer {
 pub fn length(p: &[u8], pm: &[u16], q: &[u8], qm: &[u16], work: &mut [u16]) -> Answer {
     // SAFETY: `work` alone is written, within its length, and as a `&mut` slice it overlaps none of the others.
     unsafe {
-        c::lakhido_length(
-            p.as_ptr(),
-            p.len(),
-            pm.as_ptr(),
-            pm.len(),
-            q.as_ptr(),
-            q.len(),
-            qm.as_ptr(),
-            qm.len(),
-            work.as_mut_ptr(),
-            work.len(),
-        )
+        c::lakhido_length(p.as_ptr(), p.len(), pm.as_ptr(), pm.len(), q.as_ptr(), q.len(), qm.as_ptr(), qm.len(), work.as_mut_ptr(), work.len())
     }
 }
 
@@ -137,18 +126,7 @@ pub fn show(p: &[u8], pm: &[u16], q: &[u8], qm: &[u16], places: &mut [u16], work
 pub fn verify(p: &[u8], pm: &[u16], q: &[u8], qm: &[u16], places: &[u16]) -> Answer {
     // SAFETY: five `&` slices, which the function only reads.
     unsafe {
-        c::lakhido_verify(
-            p.as_ptr(),
-            p.len(),
-            pm.as_ptr(),
-            pm.len(),
-            q.as_ptr(),
-            q.len(),
-            qm.as_ptr(),
-            qm.len(),
-            places.as_ptr(),
-            places.len(),
-        )
+        c::lakhido_verify(p.as_ptr(), p.len(), pm.as_ptr(), pm.len(), q.as_ptr(), q.len(), qm.as_ptr(), qm.len(), places.as_ptr(), places.len())
     }
 }
 

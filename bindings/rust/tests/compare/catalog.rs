@@ -5,7 +5,7 @@ use crate::make;
 use crate::plain::block::{BLOCK, ENTRY, MOLECULE, Owned};
 use crate::plain::calls::{self, work_size};
 use crate::plain::strand::{Refused, Strand};
-use crate::random::{Random, seed};
+use crate::random::{Random, rounds, seed};
 use crate::{lent, refused, report};
 
 /// A catalog and a cache.
@@ -87,7 +87,8 @@ pub fn pool(r: &mut Random, count: usize, longest: usize) -> (Vec<Owned>, Vec<Ow
     let motifs = (0..count)
         .map(|_| {
             let from = r.below(count);
-            let m = r.between(1, molecules[from].bases.len().min(ENTRY.most).min(12));
+            let most = if r.one_in(4) { ENTRY.most } else { 12 };
+            let m = r.between(1, molecules[from].bases.len().min(most));
             make::motif(r, &molecules[from], m)
         })
         .collect();
@@ -108,7 +109,7 @@ fn calls_on_any_content() {
     let seed = seed();
     let mut r = Random::new(seed);
     let (mut count, mut accepted) = (0, 0);
-    for case in 0..6_000 {
+    for case in 0..rounds(6_000) {
         let longest = if case % 10 == 0 { MOLECULE.most } else { 20 };
         let (molecules, motifs) = pool(&mut r, 3, longest);
         let (b, s) = (blocks(&mut r, 512), blocks(&mut r, 64));

@@ -5,7 +5,7 @@ use crate::plain::block::Owned;
 use crate::plain::calls::{self, LONGEST, work_size};
 use crate::plain::embedding::{longest_by_trying, verify_linear};
 use crate::plain::strand::{Refused, Strand};
-use crate::random::{Random, seed};
+use crate::random::{Random, rounds, seed};
 use crate::{lent, refused, report};
 
 /// Inputs between guards, so that a write to them or beside them shows.
@@ -109,9 +109,7 @@ fn folds(n: usize) -> Vec<Vec<u16>> {
 
 /// All words of n letters.
 fn words(alphabet: &[u8], n: usize) -> Vec<Vec<u8>> {
-    (0..n).fold(vec![Vec::new()], |shorter, _| {
-        shorter.iter().flat_map(|w| alphabet.iter().map(move |&b| [w.as_slice(), &[b]].concat())).collect()
-    })
+    (0..n).fold(vec![Vec::new()], |shorter, _| shorter.iter().flat_map(|w| alphabet.iter().map(move |&b| [w.as_slice(), &[b]].concat())).collect())
 }
 
 /// All nested strands of 1 to n bases in two letters.
@@ -181,19 +179,17 @@ fn all_small_places() {
     assert!(50_000 < count);
 }
 
-/// One random pair: all four calls.
-fn pair(r: &mut Random, p: Strand, q: Strand) {
+/// One random pair: all four calls. Gives the number of comparisons.
+fn pair(r: &mut Random, p: Strand, q: Strand) -> usize {
     check(q);
     let spare = if r.one_in(4) { r.below(40) } else { 0 };
     let size = work_size(p.len(), q.len()) + spare;
     let expected = calls::length(p, q, size);
     length(p, q, size, expected);
     let room = p.len() + if r.one_in(4) { r.below(9) } else { 0 };
-    let Some(mut places) = show(p, q, room, size, expected) else { return };
-    if let Ok(found) = expected {
-        for _ in found..p.len() {
-            places.push(r.below(q.len() + 2) as u16);
-        }
+    let mut places = show(p, q, room, size, expected).expect("a valid pair");
+    while places.len() < p.len() {
+        places.push(r.below(q.len() + 2) as u16);
     }
     verify(p, q, &places);
     let at = r.below(places.len());
@@ -204,40 +200,41 @@ fn pair(r: &mut Random, p: Strand, q: Strand) {
         _ => r.below(q.len()) as u16,
     };
     verify(p, q, &places);
+    5
 }
 
 #[test]
 fn short_pairs() {
     let seed = seed();
     let mut r = Random::new(seed);
-    let cases = 12_000;
-    for _ in 0..cases {
+    let mut count = 0;
+    for _ in 0..rounds(12_000) {
         let n = r.between(1, 60);
         let q = make::strand(&mut r, n);
         let m = r.between(1, n + 2);
         let p = make::motif(&mut r, &q, m);
-        pair(&mut r, p.lend(), q.lend());
+        count += pair(&mut r, p.lend(), q.lend());
     }
-    report("check, length, show, verify on short pairs", seed, 5 * cases);
+    report("check, length, show, verify on short pairs", seed, count);
 }
 
 #[test]
 fn long_pairs() {
     let seed = seed();
     let mut r = Random::new(seed);
-    let cases = 60;
-    for case in 0..cases {
+    let mut count = 0;
+    for case in 0..rounds(60) {
         let n = if case % 6 == 0 { LONGEST } else { r.between(61, 1500) };
         let q = make::strand(&mut r, n);
-        let m = if case % 12 == 0 { r.between(1, n) } else { r.between(1, 300.min(n)) };
+        let m = if case % 12 == 0 { r.between(1, n) } else { r.between(1, 200.min(n)) };
         let p = make::motif(&mut r, &q, m);
-        check(q.lend());
-        let size = work_size(p.bases.len(), n);
-        let expected = calls::length(p.lend(), q.lend(), size);
-        length(p.lend(), q.lend(), size, expected);
-        if n < 700 {
-            pair(&mut r, p.lend(), q.lend());
+        if m <= 200 {
+            count += pair(&mut r, p.lend(), q.lend());
+        } else {
+            let size = work_size(p.bases.len(), n);
+            length(p.lend(), q.lend(), size, calls::length(p.lend(), q.lend(), size));
+            count += 1;
         }
     }
-    report("length on long pairs", seed, 2 * cases);
+    report("check, length, show, verify on long pairs", seed, count);
 }

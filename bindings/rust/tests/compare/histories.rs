@@ -5,7 +5,7 @@ use crate::make;
 use crate::plain::block::{BLOCK, CHECKSUM, ENTRY, HIT, MOLECULE, Owned, SEARCHED};
 use crate::plain::calls::work_size;
 use crate::plain::model::{Found, Model};
-use crate::random::{Random, seed};
+use crate::random::{Random, rounds, seed};
 use crate::report;
 
 struct History {
@@ -122,7 +122,7 @@ fn random_histories() {
     let seed = seed();
     let mut r = Random::new(seed);
     let (mut compared, mut saved) = (0, 0);
-    for case in 0..1_500 {
+    for case in 0..rounds(1_500) {
         let b = match case % 50 {
             0 => r.between(1, 512),
             1..=9 => r.between(1, 40),

@@ -1,7 +1,7 @@
 //! Holds the library to `plain`, an independent implementation of document 01: the same inputs, answers and all buffers compared byte for byte.
 //!
 //! Each test prints its seed and how many comparisons it made (`cargo test --release -- --nocapture`). LAKHIDO_SEED sets the seed; otherwise it is taken from the
-//! clock. A difference prints the input that shows it.
+//! clock. LAKHIDO_ROUNDS multiplies the random cases. A difference prints the input that shows it.
 mod blocks;
 mod catalog;
 mod direct;

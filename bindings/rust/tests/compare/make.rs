@@ -35,12 +35,12 @@ pub fn random_fold(r: &mut Random, n: usize, quiet: usize) -> Vec<u16> {
     mates
 }
 
-fn stem(n: usize) -> Vec<u16> {
+pub fn stem(n: usize) -> Vec<u16> {
     (0..n as u16).rev().collect()
 }
 
 /// One arc around many short ones.
-fn comb(n: usize) -> Vec<u16> {
+pub fn comb(n: usize) -> Vec<u16> {
     let mut mates = no_arcs(n);
     if 1 < n {
         bond(&mut mates, 0, n - 1);
@@ -51,14 +51,19 @@ fn comb(n: usize) -> Vec<u16> {
     mates
 }
 
-fn balanced(mates: &mut [u16], lo: usize, hi: usize) {
-    if hi - lo < 2 {
-        return;
+/// Each arc around two halves.
+pub fn balanced(n: usize) -> Vec<u16> {
+    fn split(mates: &mut [u16], lo: usize, hi: usize) {
+        if 1 < hi - lo {
+            let middle = (lo + hi) / 2;
+            bond(mates, lo, hi - 1);
+            split(mates, lo + 1, middle);
+            split(mates, middle, hi - 1);
+        }
     }
-    let middle = (lo + hi) / 2;
-    bond(mates, lo, hi - 1);
-    balanced(mates, lo + 1, middle);
-    balanced(mates, middle, hi - 1);
+    let mut mates = no_arcs(n);
+    split(&mut mates, 0, n);
+    mates
 }
 
 pub fn fold(r: &mut Random, n: usize) -> Vec<u16> {
@@ -66,11 +71,7 @@ pub fn fold(r: &mut Random, n: usize) -> Vec<u16> {
         0 => no_arcs(n),
         1 => stem(n),
         2 => comb(n),
-        3 => {
-            let mut mates = no_arcs(n);
-            balanced(&mut mates, 0, n);
-            mates
-        }
+        3 => balanced(n),
         _ => {
             let quiet = r.below(10);
             random_fold(r, n, quiet)

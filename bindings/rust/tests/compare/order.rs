@@ -6,9 +6,8 @@ use crate::make;
 use crate::plain::block::{BLOCK, ENTRY, MOLECULE, Owned};
 use crate::plain::calls::{self, LONGEST, work_size};
 use crate::plain::strand::Refused;
-use crate::random::{Random, seed};
+use crate::random::{Random, rounds, seed};
 use crate::report;
-use std::collections::BTreeSet;
 
 /// A row with its side.
 type Label = (u32, u32);
@@ -34,35 +33,31 @@ fn apart(a: Label, b: Label) -> bool {
     a.1 == b.1 && a.1 < 2 && (a.0 == 2 && 2 < b.0 || b.0 == 2 && 2 < a.0)
 }
 
-/// Runs a call on inputs damaged by each pair of labels and by random sets, and asks that every pair that can apply did apply.
+/// Runs a call on inputs damaged by each pair of labels, until both rows applied and at least `turns` times, and by random sets of labels. The call gives the
+/// rows that applied.
 fn every_pair(name: &str, labels: &[Label], never: &[(Label, Label)], turns: usize, mut call: impl FnMut(&mut Random, &[Label]) -> Vec<Refused>) {
     let seed = seed();
     let mut r = Random::new(seed);
-    let (mut seen, mut count) = (BTreeSet::new(), 0);
+    let (turns, mut count) = (rounds(turns), 0);
     let mut run = |r: &mut Random, chosen: &[Label]| {
-        let rows: Vec<Label> = call(r, chosen).iter().map(|row| (row.0, row.1)).collect();
-        for &a in &rows {
-            seen.extend(rows.iter().map(|&b| (a, b)));
-        }
         count += 1;
+        let rows: Vec<Label> = call(r, chosen).iter().map(|row| (row.0, row.1)).collect();
+        chosen.iter().all(|label| rows.contains(label))
     };
-    for _ in 0..turns {
-        run(&mut r, &[]);
-        for &a in labels {
-            for &b in labels {
-                run(&mut r, &[a, b]);
-            }
-        }
-        for _ in 0..labels.len() {
-            let some: Vec<Label> = labels.iter().copied().filter(|_| r.one_in(4)).collect();
-            run(&mut r, &some);
-        }
-    }
     for &a in labels {
         for &b in labels {
             let never = apart(a, b) || never.contains(&(a, b)) || never.contains(&(b, a));
-            assert!(never || seen.contains(&(a, b)), "{name}: no input with the rows {a:?} and {b:?} (number, side), seed {seed}");
+            let (mut both, mut tries) = (never, 0);
+            while tries < turns || !both {
+                assert!(tries < turns + 1_000, "{name}: no input with the rows {a:?} and {b:?} (number, side), seed {seed}");
+                both |= run(&mut r, &[a, b]);
+                tries += 1;
+            }
         }
+    }
+    for _ in 0..turns * labels.len() {
+        let some: Vec<Label> = labels.iter().copied().filter(|_| r.one_in(4)).collect();
+        run(&mut r, &some);
     }
     report(&format!("order of refusals, {name}"), seed, count);
 }

@@ -3,7 +3,7 @@ use crate::make;
 use crate::plain::embedding::{closed, longest_by_trying, verify, verify_linear};
 use crate::plain::strand::{Strand, lowest_crossing, lowest_crossing_by_pairs};
 use crate::plain::{rows, table::Table};
-use crate::random::{Random, seed};
+use crate::random::{Random, rounds, seed};
 
 /// Rows, table and trying give one length, and the table's places are an embedding.
 fn lengths_agree(p: Strand, q: Strand, trying: bool) {
@@ -25,7 +25,7 @@ fn the_matchers_agree() {
     let seed = seed();
     let mut r = Random::new(seed);
     println!("plain matchers: seed {seed}");
-    for case in 0..30_000 {
+    for case in 0..rounds(30_000) {
         let n = if case % 100 == 0 { r.between(1, 300) } else { r.between(1, 14) };
         let q = make::strand(&mut r, n);
         let m = r.between(1, n.min(40));
@@ -40,7 +40,7 @@ fn the_verifiers_agree() {
     let mut r = Random::new(seed);
     println!("plain verifiers: seed {seed}");
     let mut yes = 0;
-    for _ in 0..50_000 {
+    for _ in 0..rounds(50_000) {
         let n = r.between(1, 12);
         let q = make::strand(&mut r, n);
         let m = r.between(1, n.min(6));
@@ -64,7 +64,7 @@ fn the_crossings_agree() {
     let mut r = Random::new(seed);
     println!("plain crossings: seed {seed}");
     let mut found = 0;
-    for _ in 0..100_000 {
+    for _ in 0..rounds(100_000) {
         let n = r.between(1, 24);
         let mut s = make::strand(&mut r, n);
         for _ in 0..r.below(3) {

@@ -10,6 +10,11 @@ pub fn seed() -> u64 {
     }
 }
 
+/// How many cases a random test takes: LAKHIDO_ROUNDS multiplies its own number.
+pub fn rounds(cases: usize) -> usize {
+    cases * std::env::var("LAKHIDO_ROUNDS").map_or(1, |text| text.parse().expect("LAKHIDO_ROUNDS is a number"))
+}
+
 impl Random {
     pub fn new(seed: u64) -> Self {
         Random(seed)

@@ -2,7 +2,7 @@
 use crate::direct;
 use crate::plain::strand::{Refused, Strand};
 use crate::refused;
-use lakhido::{BLOCK, Found};
+use lakhido::{BLOCK, Found, Reason};
 
 fn s<'a>(bases: &'a str, mates: &'a [u16]) -> Strand<'a> {
     Strand::new(bases.as_bytes(), mates)
@@ -83,4 +83,11 @@ fn the_history() {
     assert_eq!(query(&catalog, &mut cache, bonded), (Found { count: 2, searched: 2 }, vec![0, 1]));
     lakhido::remove(&mut catalog, &mut cache, 0).unwrap();
     assert_eq!(query(&catalog, &mut cache, bonded), (Found { count: 1, searched: 0 }, vec![1]));
+}
+
+#[test]
+fn reasons_by_number() {
+    assert!(Reason::ALL.iter().map(|reason| reason.number()).eq(1..=14));
+    let refusal = lakhido::check(l("AXC", &[0, 1, 2])).unwrap_err();
+    assert_eq!(refusal.to_string(), "refused (4): molecule: not a letter at 1");
 }

@@ -54,10 +54,7 @@ fn number(bytes: &[u8], at: usize) -> u16 {
 /// The strand of a block that is not empty and whose length is in range.
 pub fn decode(layout: &Layout, block: &[u8]) -> Owned {
     let n = block[1] as usize;
-    Owned {
-        bases: block[layout.bases..layout.bases + n].to_vec(),
-        mates: (0..n).map(|i| number(block, layout.mates + 2 * i)).collect(),
-    }
+    Owned { bases: block[layout.bases..layout.bases + n].to_vec(), mates: (0..n).map(|i| number(block, layout.mates + 2 * i)).collect() }
 }
 
 fn zero(bytes: &[u8]) -> bool {

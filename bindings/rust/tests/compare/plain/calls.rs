@@ -112,12 +112,7 @@ pub fn add_rows<'a>(catalog: &'a [u8], cache: &'a [u8], d: usize, molecule: Stra
 }
 
 pub fn remove_rows<'a>(catalog: &'a [u8], cache: &'a [u8], d: usize) -> Vec<Row<'a>> {
-    vec![
-        buffers(catalog, cache),
-        unsound(catalog),
-        plain(12, move || d >= catalog.len() / BLOCK),
-        plain(14, move || !held(catalog, d)),
-    ]
+    vec![buffers(catalog, cache), unsound(catalog), plain(12, move || d >= catalog.len() / BLOCK), plain(14, move || !held(catalog, d))]
 }
 
 pub fn query_rows<'a>(catalog: &'a [u8], cache: &'a [u8], motif: Strand<'a>, work: usize, hits: usize) -> Vec<Row<'a>> {

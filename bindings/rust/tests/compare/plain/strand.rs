@@ -93,9 +93,7 @@ pub fn lowest_crossing(mates: &[u16]) -> Option<usize> {
 
 /// The same by comparing all pairs of arcs.
 pub fn lowest_crossing_by_pairs(mates: &[u16]) -> Option<usize> {
-    let arcs: Vec<(usize, usize)> = (0..mates.len())
-        .map(|i| (i, mates[i] as usize))
-        .filter(|&(i, j)| i < j && mates.get(j).is_some_and(|&k| k as usize == i))
-        .collect();
+    let arcs: Vec<(usize, usize)> =
+        (0..mates.len()).map(|i| (i, mates[i] as usize)).filter(|&(i, j)| i < j && mates.get(j).is_some_and(|&k| k as usize == i)).collect();
     arcs.iter().filter(|&&(i, j)| arcs.iter().any(|&(a, b)| a < i && i < b && b < j)).map(|&(i, _)| i).min()
 }
