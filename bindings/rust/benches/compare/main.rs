@@ -94,10 +94,14 @@ fn microseconds(t: f64) -> String {
     if t < 100.0 { format!("{t:.2}") } else { format!("{t:.0}") }
 }
 
+fn ratio(x: f64) -> String {
+    if x < 0.1 { format!("{x:.3}") } else { format!("{x:.2}") }
+}
+
 /// Prints a row: its words, the times, then the ratios of the first time to each of the others.
 fn print_row(words: &[String], times: &[f64]) {
     let times_text = times.iter().map(|&t| microseconds(t));
-    let ratios = times[1..].iter().map(|t| format!("{:.2}", times[0] / t));
+    let ratios = times[1..].iter().map(|t| ratio(times[0] / t));
     let cells: Vec<String> = words.iter().cloned().chain(times_text).chain(ratios).collect();
     println!("| {} |", cells.join(" | "));
 }

@@ -113,7 +113,7 @@ fn calls_on_any_content() {
         let longest = if case % 10 == 0 { MOLECULE.most } else { 20 };
         let (molecules, motifs) = pool(&mut r, 3, longest);
         let (b, s) = (blocks(&mut r, 512), blocks(&mut r, 64));
-        let spoilt = if r.one_in(2) { 0 } else { 4 * b };
+        let spoilt = r.pick(&[0, 0, 4 * b, 3]);
         let catalog = blocks::catalog(&mut r, b, &molecules, spoilt);
         let numbers = if r.one_in(3) { 512 } else { b };
         let mut shop = Shop { cache: blocks::cache(&mut r, s, numbers, &motifs), catalog };
