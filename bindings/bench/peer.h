@@ -16,6 +16,9 @@ peer_matcher rows_length, windows_length;
 size_t peer_unsound_molecule(const uint8_t *catalog, size_t blocks);
 size_t peer_unsound_entry(const uint8_t *cache, size_t blocks);
 
+// Writes the checksum of a block.
+void peer_put_checksum(uint8_t *block);
+
 // A query (query.c): the soundness pass over catalog and cache, the search of each held molecule that the cache does not know, the hits, and the
 // entry written to the motif's slot. Gives the count of hits, or -1 where a block of the catalog is unsound.
 long peer_query_rows(const uint8_t *catalog, size_t blocks, uint8_t *cache, size_t slots, const uint8_t *p, const uint16_t *pm, size_t m,

@@ -1,6 +1,7 @@
 // Document 003's rows as written, in plain C: for each arc the row of what lies inside it and, beside it, the row of that with the arc's right end;
 // every row for all suffixes of the motif; the heavy child first. No window of the motif and no table.
-#include <stdint.h>
+#include "peer.h"
+
 #include <string.h>
 
 typedef struct {
@@ -79,8 +80,8 @@ static void arc(const Pair *s, int l, int r, uint16_t *work) {
     memcpy(work, inner, w * sizeof *work);
 }
 
-// The length of the longest closed prefix of the motif that embeds in the molecule.
-int rows_length(const uint8_t *p, const uint16_t *pm, int m, const uint8_t *q, const uint16_t *qm, int n, uint16_t *work) {
+size_t rows_length(const uint8_t *p, const uint16_t *pm, size_t length, const uint8_t *q, const uint16_t *qm, size_t n, uint16_t *work) {
+    int m = length;
     Pair s = {p, q, pm, qm, m};
     uint16_t *row = work, *part = work + m + 1;
     identity(row, m);

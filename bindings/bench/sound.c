@@ -1,0 +1,69 @@
+// The soundness pass in plain C: blocks of 512 bytes, by document 01's rules.
+#include "peer.h"
+
+enum { BLOCK = 512, CHECKSUM = 508, SEARCHED = 380, HITS = 444, MAP = 64 };
+
+static int zeros(const uint8_t *s, int from, int to) {
+    for (int i = from; i < to; i++)
+        if (s[i]) return 0;
+    return 1;
+}
+
+static int is_letter(uint8_t b) { return b == 'A' || b == 'C' || b == 'G' || b == 'U'; }
+
+// In range, mutual and nested, in linear time: the walk of each arc's inside jumps over the arcs in it.
+static int is_nested(const uint16_t *mates, int n) {
+    for (int i = 0; i < n; i++)
+        if (n <= mates[i]) return 0;
+    for (int i = 0; i < n; i++)
+        if (mates[mates[i]] != i) return 0;
+    for (int i = n - 1; 0 <= i; i--)
+        for (int k = i + 1, end = mates[i]; k < end; k = mates[k] + 1)
+            if (mates[k] < k || end <= mates[k]) return 0;
+    return 1;
+}
+
+static uint32_t checksum(const uint8_t *s) {
+    uint32_t sum = 0;
+    for (int i = 0; i < CHECKSUM; i++) sum += (i + 1) * s[i];
+    return sum;
+}
+
+// Kind, length, zero bytes, letters, unused places, mates and checksum of a block whose bases lie from `start`, with room for `most`.
+static int content_ok(const uint8_t *s, int kind, int start, int most) {
+    uint16_t mates[160];
+    int n = s[1], at = start + most;
+    if (s[0] != kind || n < 1 || most < n) return 0;
+    if (!zeros(s, 2, start) || !zeros(s, start + n, at) || !zeros(s, at + 2 * n, at + 2 * most)) return 0;
+    for (int i = 0; i < n; i++)
+        if (!is_letter(s[start + i])) return 0;
+    for (int i = 0; i < n; i++) mates[i] = s[at + 2 * i] | s[at + 2 * i + 1] << 8;
+    if (!is_nested(mates, n)) return 0;
+    return checksum(s) == (s[508] | s[509] << 8 | s[510] << 16 | (uint32_t)s[511] << 24);
+}
+
+static int molecule_ok(const uint8_t *s) { return zeros(s, 0, BLOCK) || content_ok(s, 1, 28, 160); }
+
+static int entry_ok(const uint8_t *s) {
+    if (zeros(s, 0, BLOCK)) return 1;
+    for (int i = 0; i < MAP; i++)
+        if (s[HITS + i] & ~s[SEARCHED + i]) return 0;
+    return content_ok(s, 2, 20, 120);
+}
+
+size_t peer_unsound_molecule(const uint8_t *catalog, size_t blocks) {
+    size_t d = 0;
+    while (d < blocks && molecule_ok(catalog + BLOCK * d)) d++;
+    return d;
+}
+
+size_t peer_unsound_entry(const uint8_t *cache, size_t blocks) {
+    size_t d = 0;
+    while (d < blocks && entry_ok(cache + BLOCK * d)) d++;
+    return d;
+}
+
+void peer_put_checksum(uint8_t *s) {
+    uint32_t sum = checksum(s);
+    for (int i = 0; i < 4; i++) s[CHECKSUM + i] = sum >> 8 * i;
+}

@@ -1,0 +1,138 @@
+// The library's algorithm in plain C (crates/matcher): one accumulator for an arc, rows for a window of the motif, the heavy child first, arcs closed in
+// passes, and the top of the molecule walked from left to right.
+#include "peer.h"
+
+typedef struct {
+    const uint8_t *p, *partner, *q;
+    const uint16_t *pm, *qm;
+    int m;
+} Pair;
+
+static int smaller(int a, int b) { return a < b ? a : b; }
+static uint16_t larger(uint16_t a, uint16_t b) { return a < b ? b : a; }
+
+// The row of an empty stretch.
+static void identity(uint16_t *row, int from, int to) {
+    for (int j = from; j <= to; j++) row[j] = j;
+}
+
+// Puts the unbonded base b in front of the row's stretch.
+static void extend(const Pair *s, uint16_t *row, int from, int to, uint8_t b) {
+    const uint8_t *p = s->p;
+    const uint16_t *pm = s->pm;
+    for (int j = from; j < to; j++) row[j] = pm[j] <= j && p[j] == b ? row[j + 1] : row[j];
+}
+
+// Puts the stretch of the row `front` in front.
+static void combine(uint16_t *row, const uint16_t *front, int from, int to) {
+    for (int j = from; j <= to; j++) row[j] = row[front[j]];
+}
+
+// Puts the stretch of the row `back` behind.
+static void combine_into(uint16_t *row, const uint16_t *back, int from, int to) {
+    for (int j = from; j <= to; j++) row[j] = back[row[j]];
+}
+
+// Where an unbonded base y takes the motif from k on.
+static int unit(const Pair *s, int to, int k, uint8_t y) { return k < to && s->pm[k] <= k && s->p[k] == y ? k + 1 : k; }
+
+// The entry for j of an arc with the letters x, y, from its inner row's entries for j and j + 1.
+static uint16_t arc_entry(const Pair *s, int to, int j, uint8_t x, uint8_t y, uint16_t here, uint16_t next) {
+    uint16_t best = unit(s, to, here, y);
+    if (s->p[j] != x) return best;
+    int k = s->pm[j];
+    if (k <= j) return larger(best, next);
+    if (to <= k || s->partner[j] != y || next < k) return best;
+    return larger(best, k + 1);
+}
+
+// The row of an arc with the letters x, y, in the place of its inner row; the next two rows are written too.
+static void close_arc(const Pair *s, uint16_t *row, int from, int to, uint8_t x, uint8_t y) {
+    if (to < from + 40) {
+        for (int j = from; j < to; j++) row[j] = arc_entry(s, to, j, x, y, row[j], row[j + 1]);
+        return;
+    }
+    const uint8_t *p = s->p, *partner = s->partner;
+    const uint16_t *pm = s->pm;
+    uint16_t *over = row + s->m + 1, *units = over + s->m + 1;
+    for (int j = from; j < to; j++) {
+        uint16_t k = pm[j], next = row[j + 1];
+        uint16_t closed = k < to && partner[j] == y && k <= next ? k + 1 : 0;
+        uint16_t taken = k <= j ? next : closed;
+        over[j] = p[j] == x ? taken : 0;
+    }
+    for (int j = from; j < to; j++) units[j] = pm[j] <= j && p[j] == y ? j + 1 : j;
+    units[to] = to;
+    combine_into(row, units, from, to);
+    for (int j = from; j < to; j++) row[j] = larger(row[j], over[j]);
+}
+
+// The left end of the longest arc directly in lo..hi, or hi.
+static int heaviest(const Pair *s, int lo, int hi) {
+    int best = hi, size = 0;
+    for (int i = lo; i < hi; i++) {
+        int k = s->qm[i];
+        if (i < k) {
+            if (size < k - i) best = i, size = k - i;
+            i = k;
+        }
+    }
+    return best;
+}
+
+static void inner_row(const Pair *s, int from, int to, int l, int r, uint16_t *work);
+
+// Puts lo..hi, which no arc leaves, in front of the stretch whose row is the first of work.
+static void prepend(const Pair *s, int from, int to, int lo, int hi, uint16_t *work) {
+    uint16_t *part = work + s->m + 1;
+    for (int i = hi; lo < i;) {
+        int k = i - 1, c = s->qm[k];
+        if (c == k) {
+            extend(s, work, from, to, s->q[k]);
+        } else {
+            inner_row(s, from, to, c, k, part);
+            close_arc(s, part, from, to, s->q[c], s->q[k]);
+            combine(work, part, from, to);
+        }
+        i = c;
+    }
+}
+
+// Leaves the row of l + 1..r, inside the arc l, r, as the first row of work.
+static void inner_row(const Pair *s, int from, int to, int l, int r, uint16_t *work) {
+    int heavy = heaviest(s, l + 1, r);
+    if (r <= heavy) {
+        identity(work, from, to);
+        prepend(s, from, to, l + 1, r, work);
+        return;
+    }
+    int e = s->qm[heavy];
+    inner_row(s, from, to, heavy, e, work);
+    close_arc(s, work, from, to, s->q[heavy], s->q[e]);
+    if (e + 1 < r) {
+        uint16_t *part = work + s->m + 1;
+        identity(part, from, to);
+        prepend(s, from, to, e + 1, r, part);
+        combine_into(work, part, from, to);
+    }
+    prepend(s, from, to, l + 1, heavy, work);
+}
+
+size_t windows_length(const uint8_t *p, const uint16_t *pm, size_t m, const uint8_t *q, const uint16_t *qm, size_t length, uint16_t *work) {
+    uint8_t partner[4096];
+    Pair s = {p, partner, q, pm, qm, m};
+    int cur = 0, n = length;
+    for (int j = 0; j < s.m; j++) partner[j] = p[pm[j]];
+    for (int i = 0; i < n && cur < s.m; i++) {
+        int r = qm[i];
+        if (i < r) {
+            int to = smaller(s.m, cur + r + 1 - i);
+            inner_row(&s, cur, to, i, r, work);
+            cur = arc_entry(&s, to, cur, q[i], q[r], work[cur], work[cur + 1]);
+        } else {
+            cur = unit(&s, s.m, cur, q[i]);
+        }
+        i = r;
+    }
+    return cur;
+}

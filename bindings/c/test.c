@@ -1,0 +1,98 @@
+/* Calls each function of the library on document 01's small examples, and prints ok. */
+#include "lakhido.h"
+
+#include <stdio.h>
+#include <string.h>
+
+#define BASES(s) (const uint8_t *)(s), sizeof(s) - 1
+#define MATES(...) (const uint16_t[]){__VA_ARGS__}, sizeof((const uint16_t[]){__VA_ARGS__}) / sizeof(uint16_t)
+#define NONE NULL, 0
+
+static uint8_t catalog[2 * LAKHIDO_BLOCK], cache[LAKHIDO_BLOCK + 1];
+static uint16_t places[4], hits[3], work[LAKHIDO_QUERY_WORK(LAKHIDO_MOTIF_MOST)];
+static int failed;
+
+static void is(int line, lakhido_answer a, size_t refusal, size_t side, size_t place, size_t value, size_t searched) {
+    if (a.refusal == refusal && a.side == side && a.place == place && a.value == value && a.searched == searched) return;
+    failed = 1;
+    printf("line %d: refusal %zu side %zu place %zu value %zu searched %zu\n", line, a.refusal, a.side, a.place, a.value, a.searched);
+}
+
+static void holds(int line, int fact) {
+    if (fact) return;
+    failed = 1;
+    printf("line %d: not so\n", line);
+}
+
+#define ACCEPTED(call, value, searched) is(__LINE__, call, LAKHIDO_ACCEPTED, 0, 0, value, searched)
+#define REFUSED(call, number, side, place) is(__LINE__, call, number, side, place, 0, 0)
+#define HOLDS(fact) holds(__LINE__, fact)
+
+#define WORK(m, n) work, LAKHIDO_WORK(m, n)
+#define CATALOG catalog, sizeof catalog
+#define CACHE cache, LAKHIDO_BLOCK
+#define QUERY_WORK work, LAKHIDO_QUERY_WORK(2)
+
+static void strands(void) {
+    ACCEPTED(lakhido_check(BASES("GAC"), MATES(2, 1, 0)), 0, 0);
+    REFUSED(lakhido_check(BASES("AC"), MATES(0)), LAKHIDO_UNEQUAL_LENGTHS, LAKHIDO_MOLECULE, 0);
+    REFUSED(lakhido_check(NONE, NONE), LAKHIDO_NO_BASES, LAKHIDO_MOLECULE, 0);
+    REFUSED(lakhido_check(BASES("AXC"), MATES(0, 1, 2)), LAKHIDO_BAD_LETTER, LAKHIDO_MOLECULE, 1);
+    REFUSED(lakhido_check(BASES("A"), MATES(1)), LAKHIDO_BAD_MATE, LAKHIDO_MOLECULE, 0);
+    REFUSED(lakhido_check(BASES("AC"), MATES(1, 1)), LAKHIDO_MATES_NOT_MUTUAL, LAKHIDO_MOLECULE, 0);
+    REFUSED(lakhido_check(BASES("ACGU"), MATES(2, 3, 0, 1)), LAKHIDO_ARCS_CROSS, LAKHIDO_MOLECULE, 1);
+}
+
+static void direct_calls(void) {
+    ACCEPTED(lakhido_length(BASES("GC"), MATES(1, 0), BASES("GAC"), MATES(2, 1, 0), WORK(2, 3)), 2, 0);
+    ACCEPTED(lakhido_length(BASES("GC"), MATES(0, 1), BASES("GAC"), MATES(2, 1, 0), WORK(2, 3)), 1, 0);
+    ACCEPTED(lakhido_length(BASES("GC"), MATES(1, 0), BASES("GC"), MATES(0, 1), WORK(2, 2)), 0, 0);
+    ACCEPTED(lakhido_length(BASES("A"), MATES(0), BASES("A"), MATES(0), work, 136), 1, 0);
+    REFUSED(lakhido_length(BASES("A"), MATES(0), BASES("A"), MATES(0), work, 135), LAKHIDO_WORK_TOO_SHORT, LAKHIDO_NEITHER, 0);
+    REFUSED(lakhido_length(BASES("AX"), MATES(0, 1), BASES("A"), MATES(0), NONE), LAKHIDO_BAD_LETTER, LAKHIDO_MOTIF, 1);
+
+    memset(places, 255, sizeof places);
+    ACCEPTED(lakhido_show(BASES("AGC"), MATES(0, 2, 1), BASES("AGAC"), MATES(0, 3, 2, 1), places, 4, WORK(3, 4)), 3, 0);
+    HOLDS(places[0] == 0 && places[1] == 1 && places[2] == 3 && places[3] == 65535);
+    REFUSED(lakhido_show(BASES("GC"), MATES(1, 0), BASES("GAC"), MATES(2, 1, 0), places, 1, WORK(2, 3)), LAKHIDO_WRONG_SLICE, LAKHIDO_NEITHER, 0);
+
+    ACCEPTED(lakhido_verify(BASES("GC"), MATES(1, 0), BASES("GAC"), MATES(2, 1, 0), MATES(0, 2)), 1, 0);
+    ACCEPTED(lakhido_verify(BASES("GC"), MATES(1, 0), BASES("GAC"), MATES(2, 1, 0), MATES(0, 3)), 0, 0);
+    REFUSED(lakhido_verify(BASES("GC"), MATES(1, 0), BASES("GAC"), MATES(2, 1, 0), MATES(0)), LAKHIDO_WRONG_SLICE, LAKHIDO_NEITHER, 0);
+}
+
+/* Document 01's story of two molecules and one slot. */
+static void story(void) {
+    REFUSED(lakhido_remove(CATALOG, CACHE, 0), LAKHIDO_NOT_HELD, LAKHIDO_NEITHER, 0);
+    ACCEPTED(lakhido_add(CATALOG, CACHE, 0, BASES("GAC"), MATES(2, 1, 0)), 0, 0);
+    ACCEPTED(lakhido_add(CATALOG, CACHE, 1, BASES("GGC"), MATES(2, 1, 0)), 0, 0);
+    REFUSED(lakhido_add(CATALOG, CACHE, 0, BASES("GAC"), MATES(2, 1, 0)), LAKHIDO_ALREADY_HELD, LAKHIDO_NEITHER, 0);
+    REFUSED(lakhido_add(CATALOG, CACHE, 2, BASES("GAC"), MATES(2, 1, 0)), LAKHIDO_NUMBER_TOO_LARGE, LAKHIDO_NEITHER, 0);
+    hits[2] = 7;
+    ACCEPTED(lakhido_query(CATALOG, CACHE, BASES("GC"), MATES(1, 0), QUERY_WORK, hits, 3), 2, 2);
+    HOLDS(hits[0] == 0 && hits[1] == 1 && hits[2] == 7);
+    ACCEPTED(lakhido_query(CATALOG, CACHE, BASES("GC"), MATES(1, 0), QUERY_WORK, hits, 3), 2, 0);
+    ACCEPTED(lakhido_query(CATALOG, CACHE, BASES("GC"), MATES(0, 1), QUERY_WORK, hits, 3), 1, 2);
+    HOLDS(hits[0] == 1);
+    ACCEPTED(lakhido_query(CATALOG, CACHE, BASES("GC"), MATES(1, 0), QUERY_WORK, hits, 3), 2, 2);
+    ACCEPTED(lakhido_remove(CATALOG, CACHE, 0), 0, 0);
+    ACCEPTED(lakhido_query(CATALOG, CACHE, BASES("GC"), MATES(1, 0), QUERY_WORK, hits, 3), 1, 0);
+    HOLDS(hits[0] == 1);
+}
+
+static void refused_buffers(void) {
+    REFUSED(lakhido_query(CATALOG, cache, LAKHIDO_BLOCK + 1, BASES("GC"), MATES(1, 0), QUERY_WORK, hits, 3), LAKHIDO_NOT_WHOLE_BLOCKS, LAKHIDO_NEITHER, 0);
+    REFUSED(lakhido_query(NONE, CACHE, BASES("GC"), MATES(1, 0), QUERY_WORK, hits, 3), LAKHIDO_NOT_WHOLE_BLOCKS, LAKHIDO_NEITHER, 0);
+    catalog[LAKHIDO_BLOCK] = 9;
+    REFUSED(lakhido_remove(CATALOG, CACHE, 1), LAKHIDO_UNSOUND_BLOCK, LAKHIDO_NEITHER, 1);
+    HOLDS(catalog[LAKHIDO_BLOCK] == 9);
+}
+
+int main(void) {
+    strands();
+    direct_calls();
+    story();
+    refused_buffers();
+    if (!failed) puts("ok");
+    return failed;
+}

@@ -1,0 +1,30 @@
+-- `capi::answers::tell_check` meets its contract.
+use borrow.Author.Needs.{needs}
+use mathlib.Core.Path.{ap, sym, _∙_}
+use Rattle.capi.specs.Interface.{checkTold}
+use Rattle.capi.proofs.answers.tell_check.Statement.{statement}
+use Rattle.capi.proofs.answers.tell_check.Tie as tie
+
+enum-known-a : tie.Need-enum-known-a
+enum-known-a c = search needs
+
+refuse-requires : tie.Need-refuse-requires
+refuse-requires c κs = search needs
+
+returns : tie.Need-returns
+unfolding checkTold
+returns c = c .refuse .ensures ∙ ap checkTold (sym (c .before .before .a .given .1))
+
+enum-told : tie.Need-enum-told
+enum-told c = search needs
+
+accept-requires : tie.Need-accept-requires
+accept-requires c κs = search needs
+
+returns-2 : tie.Need-returns-2
+unfolding checkTold
+returns-2 c = c .accept .ensures ∙ ap checkTold (sym (c .before .enum-told .given .1))
+
+pub tell-check-spec : {M : Type 1} → statement M
+tell-check-spec =
+    tie.close (tie.spec enum-known-a refuse-requires returns enum-told accept-requires returns-2)

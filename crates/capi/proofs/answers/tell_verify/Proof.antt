@@ -1,0 +1,50 @@
+-- `capi::answers::tell_verify` meets its contract.
+use borrow.Author.Needs.{needs}
+use mathlib.Core.Path.{ap, sym, _∙_}
+use Rattle.capi.specs.Interface.{verifyTold}
+use Rattle.capi.proofs.answers.tell_verify.Statement.{statement}
+use Rattle.capi.proofs.answers.tell_verify.Tie as tie
+
+enum-told : tie.Need-enum-told
+enum-told c = search needs
+
+accept-requires : tie.Need-accept-requires
+accept-requires c κs = search needs
+
+enum-told-2 : tie.Need-enum-told-2
+enum-told-2 c = search needs
+
+accept-requires-2 : tie.Need-accept-requires-2
+accept-requires-2 c κs = search needs
+
+enum-known-a : tie.Need-enum-known-a
+enum-known-a c = search needs
+
+refuse-requires : tie.Need-refuse-requires
+refuse-requires c κs = search needs
+
+returns : tie.Need-returns
+unfolding verifyTold
+returns c = c .accept .ensures ∙ ap verifyTold (sym (c .before .enum-told .given .1))
+
+returns-2 : tie.Need-returns-2
+unfolding verifyTold
+returns-2 c = c .accept2 .ensures ∙ ap verifyTold (sym (c .before .enum-told2 .given .1))
+
+returns-3 : tie.Need-returns-3
+unfolding verifyTold
+returns-3 c = c .refuse .ensures ∙ ap verifyTold (sym (c .before .before .a .given .1))
+
+pub tell-verify-spec : {M : Type 1} → statement M
+tell-verify-spec =
+    tie.close
+    (tie.spec
+    enum-told
+    accept-requires
+    enum-told-2
+    accept-requires-2
+    enum-known-a
+    refuse-requires
+    returns
+    returns-2
+    returns-3)

@@ -1,0 +1,34 @@
+-- `capi::lakhido_query` meets its contract.
+use borrow.Author.Needs.{needs}
+use mathlib.Core.Path.{ap}
+use Rattle.capi.proofs.SeenLaws.{query-seen, answer-of}
+use Rattle.capi.proofs.lakhido_query.Statement.{statement}
+use Rattle.capi.proofs.lakhido_query.Tie as tie
+
+query-requires : tie.Need-query-requires
+query-requires c κs = search needs
+
+tell-query-requires : tie.Need-tell-query-requires
+tell-query-requires c κs = search needs
+
+same-length : tie.Need-same-length
+same-length c = search needs
+
+same-length-2 : tie.Need-same-length-2
+same-length-2 c = search needs
+
+same-length-3 : tie.Need-same-length-3
+same-length-3 c = search needs
+
+returns : tie.Need-returns
+returns c = (
+  query-seen (c .tell-query .ensures) (c .before .before .before .before .before .before .before .query .ensures .0),
+  c .before .before .before .before .before .before .before .query .ensures .1,
+  rw (ap answer-of (c .before .before .before .before .before .before .before .query .ensures .0))
+      at (c .before .before .before .before .before .before .before .query .ensures .2),
+)
+
+pub lakhido-query-spec : {M : Type 1} → statement M
+lakhido-query-spec =
+    tie.close
+    (tie.spec query-requires tell-query-requires same-length same-length-2 same-length-3 returns)

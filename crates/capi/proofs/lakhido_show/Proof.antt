@@ -1,0 +1,29 @@
+-- `capi::lakhido_show` meets its contract.
+use borrow.Author.Needs.{needs}
+use mathlib.Core.Path.{ap, _∙_}
+use Rattle.capi.specs.Interface.{matchTold}
+use Rattle.capi.proofs.lakhido_show.Statement.{statement}
+use Rattle.capi.proofs.lakhido_show.Tie as tie
+
+show-requires : tie.Need-show-requires
+show-requires c κs = search needs
+
+tell-match-requires : tie.Need-tell-match-requires
+tell-match-requires c κs = search needs
+
+same-length : tie.Need-same-length
+same-length c = search needs
+
+same-length-2 : tie.Need-same-length-2
+same-length-2 c = search needs
+
+returns : tie.Need-returns
+returns c = (
+  c .tell-match .ensures ∙ ap matchTold (c .before .before .before .before .before .show .ensures .0),
+  rw (c .before .before .before .before .before .show .ensures .0) at (c .before .before .before .before .before .show .ensures .1),
+  rw (c .before .before .before .before .before .show .ensures .0) at (c .before .before .before .before .before .show .ensures .2),
+)
+
+pub lakhido-show-spec : {M : Type 1} → statement M
+lakhido-show-spec =
+    tie.close (tie.spec show-requires tell-match-requires same-length same-length-2 returns)

@@ -1,0 +1,121 @@
+// The calls as C sees them (include/lakhido.h). Each gives the call's answer as a struct of numbers and leaves every buffer as the call does.
+mod answers;
+
+ghost use mathlib.Core.Path.{_≡_};
+ghost use lib.ListN.{length};
+ghost use Rattle.strand.specs.Strands.{strandOf};
+ghost use Rattle.strand.specs.Refusals.{checkVerdict};
+ghost use Rattle.embedding.specs.Verify.{verifyAnswer};
+ghost use Rattle.matcher.specs.Answers.{lengthAnswer, showAnswer, WorkKept, PlacesShown};
+ghost use Rattle.catalog.specs.Motifs.{embeds};
+ghost use Rattle.catalog.specs.Calls.{addOutcome, removeOutcome, queryOutcome, workKept};
+ghost use Rattle.capi.specs.Interface.{checkTold, matchTold, verifyTold, updateSeen, seenUpdate, querySeen, seenQuery};
+
+// The answer of every call. Refused: number, side and place, else zeros. Accepted: refusal 0, and what the call says in `value` and `searched`.
+#[repr(C)]
+pub struct Answer {
+    pub refusal: usize,
+    pub side: usize,
+    pub place: usize,
+    pub value: usize,
+    pub searched: usize,
+}
+
+#[no_mangle]
+pub extern "C" fn lakhido_check(bases: &[u8], mates: &[u16]) -> Answer
+    ensures { λ r. ⌜ r ≡ checkTold (checkVerdict (now (bases .entry)) (now (mates .entry))) ⌝ }
+{
+    let a = strand::check(bases, mates);
+    answers::tell_check(a)
+}
+
+#[no_mangle]
+pub extern "C" fn lakhido_length(
+    p: &[u8],
+    pm: &[u16],
+    q: &[u8],
+    qm: &[u16],
+    work: &mut [u16],
+) -> Answer
+    ensures { λ r. ⌜ (r ≡ matchTold (lengthAnswer (now (p .entry)) (now (pm .entry)) (now (q .entry)) (now (qm .entry)) (length (now (work .entry)))))
+        × WorkKept (lengthAnswer (now (p .entry)) (now (pm .entry)) (now (q .entry)) (now (qm .entry)) (length (now (work .entry)))) (now (work .entry)) (now (work .exit)) ⌝ }
+{
+    let a = matcher::length(p, pm, q, qm, work);
+    answers::tell_match(a)
+}
+
+#[no_mangle]
+pub extern "C" fn lakhido_show(
+    p: &[u8],
+    pm: &[u16],
+    q: &[u8],
+    qm: &[u16],
+    places: &mut [u16],
+    work: &mut [u16],
+) -> Answer
+    ensures { λ r. ⌜ (r ≡ matchTold (showAnswer (now (p .entry)) (now (pm .entry)) (now (q .entry)) (now (qm .entry)) (length (now (places .entry))) (length (now (work .entry)))))
+        × PlacesShown (showAnswer (now (p .entry)) (now (pm .entry)) (now (q .entry)) (now (qm .entry)) (length (now (places .entry))) (length (now (work .entry))))
+        (now (p .entry)) (now (pm .entry)) (now (q .entry)) (now (qm .entry)) (now (places .entry)) (now (places .exit))
+        × WorkKept (showAnswer (now (p .entry)) (now (pm .entry)) (now (q .entry)) (now (qm .entry)) (length (now (places .entry))) (length (now (work .entry))))
+        (now (work .entry)) (now (work .exit)) ⌝ }
+{
+    let a = matcher::show(p, pm, q, qm, places, work);
+    answers::tell_match(a)
+}
+
+#[no_mangle]
+pub extern "C" fn lakhido_verify(
+    p: &[u8],
+    pm: &[u16],
+    q: &[u8],
+    qm: &[u16],
+    places: &[u16],
+) -> Answer
+    ensures { λ r. ⌜ r ≡ verifyTold (verifyAnswer (now (p .entry)) (now (pm .entry)) (now (q .entry)) (now (qm .entry)) (now (places .entry))) ⌝ }
+{
+    let a = embedding::verify(p, pm, q, qm, places);
+    answers::tell_verify(a)
+}
+
+#[no_mangle]
+pub extern "C" fn lakhido_add(
+    catalog: &mut [u8],
+    cache: &mut [u8],
+    d: usize,
+    bases: &[u8],
+    mates: &[u16],
+) -> Answer
+    ensures { λ r. ⌜ updateSeen r (now (catalog .exit)) (now (cache .exit))
+        ≡ seenUpdate (addOutcome (now (catalog .entry)) (now (cache .entry)) d (strandOf (now (bases .entry)) (now (mates .entry)))) ⌝ }
+{
+    let a = catalog::add(catalog, cache, d, bases, mates);
+    answers::tell_update(a)
+}
+
+#[no_mangle]
+pub extern "C" fn lakhido_remove(catalog: &mut [u8], cache: &mut [u8], d: usize) -> Answer
+    ensures { λ r. ⌜ updateSeen r (now (catalog .exit)) (now (cache .exit))
+        ≡ seenUpdate (removeOutcome (now (catalog .entry)) (now (cache .entry)) d) ⌝ }
+{
+    let a = catalog::remove(catalog, cache, d);
+    answers::tell_update(a)
+}
+
+#[no_mangle]
+pub extern "C" fn lakhido_query(
+    catalog: &[u8],
+    cache: &mut [u8],
+    bases: &[u8],
+    mates: &[u16],
+    work: &mut [u16],
+    hits: &mut [u16],
+) -> Answer
+    ensures { λ r. ⌜ (querySeen r (now (cache .exit)) (now (hits .exit))
+        ≡ seenQuery (queryOutcome embeds (now (catalog .entry)) (now (cache .entry)) (strandOf (now (bases .entry)) (now (mates .entry))) (length (now (work .entry))) (now (hits .entry))))
+        × (length (now (work .exit)) ≡ length (now (work .entry)))
+        × workKept (queryOutcome embeds (now (catalog .entry)) (now (cache .entry)) (strandOf (now (bases .entry)) (now (mates .entry))) (length (now (work .entry))) (now (hits .entry)) .answer)
+        (now (work .entry)) (now (work .exit)) ⌝ }
+{
+    let a = catalog::query(catalog, cache, bases, mates, work, hits);
+    answers::tell_query(a)
+}
