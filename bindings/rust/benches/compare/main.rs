@@ -18,7 +18,7 @@ use plain::block::{self, Owned};
 use plain::calls;
 use plain::strand::Strand;
 use random::Random;
-use timing::{Version, least};
+use timing::{TURNS, Version, least};
 
 const SEED: u64 = 20;
 const SIZES: [(usize, usize); 5] = [(160, 20), (160, 120), (1500, 200), (4096, 512), (4096, 4096)];
@@ -138,8 +138,10 @@ fn lengths() {
             Box::new(move || plain::rows::length(p, q)),
         ];
         let row = format!("{shape} ({}, {}) {motif}", q.len(), p.len());
+        let checks: Version = Box::new(move || [p, q].map(|s| lakhido::check(lent(s)).is_ok() as usize).iter().sum());
+        let checks = microseconds(least(&row, vec![checks]).1[0]);
         let (found, times) = least(&row, versions);
-        print_row(&[shape.into(), q.len().to_string(), p.len().to_string(), motif.into(), found.to_string()], &times);
+        print_row(&[shape.into(), q.len().to_string(), p.len().to_string(), motif.into(), found.to_string(), checks], &times);
         goal.hold(&row, times[0] / times[1]);
     }
     goal.told();
@@ -302,7 +304,10 @@ fn queries() {
 fn main() {
     let words: Vec<String> = std::env::args().skip(1).filter(|w| !w.starts_with('-')).collect();
     let wanted = |table: &str| words.is_empty() || words.iter().any(|w| w == table);
-    println!("Plain C by {} at -O3, plain Rust at opt-level 3; processor time, the least of 5 turns; seed {SEED}.", env!("LAKHIDO_PEER_COMPILER"));
+    println!(
+        "Plain C by {} at -O3, plain Rust at opt-level 3; processor time, the least of {TURNS} turns; seed {SEED}.",
+        env!("LAKHIDO_PEER_COMPILER")
+    );
     let tables: [(&str, fn()); 4] = [("length", lengths), ("show", shows), ("soundness", soundness), ("query", queries)];
     for (name, table) in tables {
         if wanted(name) {

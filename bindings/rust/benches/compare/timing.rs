@@ -19,9 +19,9 @@ fn now() -> f64 {
     t.seconds as f64 * 1e6 + t.nanoseconds as f64 / 1e3
 }
 
-const TURNS: usize = 5;
+pub const TURNS: usize = 8;
 /// Microseconds of one version in one turn, about.
-const TURN: f64 = 4_000.0;
+const TURN: f64 = 2_500.0;
 /// A version whose first call takes longer is called only once.
 const ONCE: f64 = 300_000.0;
 
