@@ -72,16 +72,16 @@ static void measure(const char *what, const Timed *timed, int calls, int turns, 
 }
 
 static void length_rows(void) { answer = rows_length(p, pm, m, q, qm, n, work); }
-static void length_windows(void) { answer = windows_length(p, pm, m, q, qm, n, work); }
+static void length_windows(void) { answer = peer_strand_ok(p, pm, m) && peer_strand_ok(q, qm, n) ? (long)windows_length(p, pm, m, q, qm, n, work) : -1; }
 static void length(void) { answer = lakhido_length(p, m, pm, m, q, n, qm, n, work, LAKHIDO_WORK(m, n)).value; }
 static void show(void) { answer = lakhido_show(p, m, pm, m, q, n, qm, n, places, m, work, LAKHIDO_WORK(m, n)).value; }
 
 static void lengths(int with_show) {
     static const int sizes[][2] = {{160, 20}, {160, 120}, {1500, 200}, {4096, 512}, {4096, 4096}};
     static const Timed timed[] = {{0, length_rows}, {0, length_windows}, {0, length}}, shown[] = {{0, show}};
-    puts("length (rows.c, windows.c: no check of the strands; the library checks them)");
-    printf("%-12s %5s %5s %5s %11s %11s %11s %8s %11s%s\n", "molecule", "n", "m", "L", "rows.c us", "windows.c", "library", "/rows.c", "/windows.c",
-           with_show ? "     show us  /length" : "");
+    puts("length, microseconds (rows.c: 003's rows as written, strands not checked; windows.c: the library's algorithm, strands checked, as the library does)");
+    printf("%-12s %5s %5s %5s %11s %11s %11s %8s %11s%s\n", "molecule", "n", "m", "L", "rows.c", "windows.c", "library", "/rows.c", "/windows.c",
+           with_show ? "        show  /length" : "");
     for (int shape = 0; shape < SHAPES; shape++)
         for (int s = 0; s < 5; s++) {
             double t[CALLS], u[CALLS];
@@ -134,7 +134,7 @@ static void pass(void) { answer = lakhido_remove(catalog, blocks * LAKHIDO_BLOCK
 static void passes(void) {
     static const Timed molecules[] = {{0, pass_peer}, {0, pass}}, entries[] = {{0, query_windows}, {0, query}};
     puts("\nsoundness pass, microseconds for each block: 512 molecules of 160 bases; 64 entries of 120 bases (a warm query of one molecule)");
-    printf("%-12s %11s %11s %8s %14s %11s %8s\n", "shape", "sound.c us", "library", "ratio", "entries: C us", "library", "ratio");
+    printf("%-12s %11s %11s %8s %14s %11s %8s\n", "shape", "sound.c", "library", "ratio", "entries: C", "library", "ratio");
     for (int shape = 0; shape < SHAPES; shape++) {
         double t[CALLS], u[CALLS];
         blocks = BLOCKS;
@@ -153,9 +153,9 @@ static void passes(void) {
 
 static void queries(void) {
     static const Timed cold[] = {{zero_cache, query_rows}, {zero_cache, query_windows}, {zero_cache, query}}, warm[] = {{0, query_windows}, {0, query}};
-    puts("\nquery of 512 molecules of 160 bases, 64 slots (peers: the same pass, search and entry)");
+    puts("\nquery of 512 molecules of 160 bases, 64 slots, microseconds (query.c: the same pass and entry, the search by rows.c or windows.c)");
     printf("%-12s %5s %6s %12s %11s %11s %8s %11s %11s %11s %6s\n", "molecules", "m", "hits", "cold: rows.c", "windows.c", "library", "/rows.c", "/windows.c",
-           "warm: C us", "library", "ratio");
+           "warm: C", "library", "ratio");
     for (int shape = 0; shape < SHAPES; shape++) {
         blocks = BLOCKS;
         fill_catalog(shape);

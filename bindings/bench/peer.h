@@ -12,6 +12,9 @@ typedef size_t peer_matcher(const uint8_t *p, const uint16_t *pm, size_t m, cons
 // By document 003's rows as written (rows.c), and by the library's own algorithm (windows.c).
 peer_matcher rows_length, windows_length;
 
+// Whether a strand's bases are letters and its mates in range, mutual and nested (sound.c).
+int peer_strand_ok(const uint8_t *bases, const uint16_t *mates, size_t n);
+
 // The lowest unsound block of a buffer of molecule blocks, and of one of cache entries; the number of blocks where all are sound (sound.c).
 size_t peer_unsound_molecule(const uint8_t *catalog, size_t blocks);
 size_t peer_unsound_entry(const uint8_t *cache, size_t blocks);

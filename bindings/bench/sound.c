@@ -1,4 +1,4 @@
-// The soundness pass in plain C: blocks of 512 bytes, by document 01's rules.
+// The check of a strand and the soundness pass in plain C, by document 01's rules.
 #include "peer.h"
 
 enum { BLOCK = 512, CHECKSUM = 508, SEARCHED = 380, HITS = 444, MAP = 64 };
@@ -23,6 +23,12 @@ static int is_nested(const uint16_t *mates, int n) {
     return 1;
 }
 
+int peer_strand_ok(const uint8_t *bases, const uint16_t *mates, size_t n) {
+    for (size_t i = 0; i < n; i++)
+        if (!is_letter(bases[i])) return 0;
+    return is_nested(mates, n);
+}
+
 static uint32_t checksum(const uint8_t *s) {
     uint32_t sum = 0;
     for (int i = 0; i < CHECKSUM; i++) sum += (i + 1) * s[i];
@@ -35,10 +41,8 @@ static int content_ok(const uint8_t *s, int kind, int start, int most) {
     int n = s[1], at = start + most;
     if (s[0] != kind || n < 1 || most < n) return 0;
     if (!zeros(s, 2, start) || !zeros(s, start + n, at) || !zeros(s, at + 2 * n, at + 2 * most)) return 0;
-    for (int i = 0; i < n; i++)
-        if (!is_letter(s[start + i])) return 0;
     for (int i = 0; i < n; i++) mates[i] = s[at + 2 * i] | s[at + 2 * i + 1] << 8;
-    if (!is_nested(mates, n)) return 0;
+    if (!peer_strand_ok(s + start, mates, n)) return 0;
     return checksum(s) == (s[508] | s[509] << 8 | s[510] << 16 | (uint32_t)s[511] << 24);
 }
 

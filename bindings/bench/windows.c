@@ -16,11 +16,21 @@ static void identity(uint16_t *row, int from, int to) {
     for (int j = from; j <= to; j++) row[j] = j;
 }
 
+// The bodies of the vector loops are functions of values: the compiler may then load every value in each turn. c and k are the base and the mate of j,
+// d the base of k; `here` and `next` are the row's entries for j and j + 1.
+static uint16_t extend_entry(uint8_t c, uint8_t b, uint16_t k, uint16_t j, uint16_t here, uint16_t next) { return k <= j && c == b ? next : here; }
+static uint16_t unit_entry(uint8_t c, uint8_t b, uint16_t k, uint16_t j) { return k <= j && c == b ? j + 1 : j; }
+static uint16_t over_entry(uint8_t c, uint8_t x, uint16_t k, uint16_t j, uint16_t to, uint8_t d, uint8_t y, uint16_t next) {
+    if (c != x) return 0;
+    if (k <= j) return next;
+    return k < to && d == y && k <= next ? k + 1 : 0;
+}
+
 // Puts the unbonded base b in front of the row's stretch.
 static void extend(const Pair *s, uint16_t *row, int from, int to, uint8_t b) {
     const uint8_t *p = s->p;
     const uint16_t *pm = s->pm;
-    for (int j = from; j < to; j++) row[j] = pm[j] <= j && p[j] == b ? row[j + 1] : row[j];
+    for (int j = from; j < to; j++) row[j] = extend_entry(p[j], b, pm[j], j, row[j], row[j + 1]);
 }
 
 // Puts the stretch of the row `front` in front.
@@ -55,13 +65,8 @@ static void close_arc(const Pair *s, uint16_t *row, int from, int to, uint8_t x,
     const uint8_t *p = s->p, *partner = s->partner;
     const uint16_t *pm = s->pm;
     uint16_t *over = row + s->m + 1, *units = over + s->m + 1;
-    for (int j = from; j < to; j++) {
-        uint16_t k = pm[j], next = row[j + 1];
-        uint16_t closed = k < to && partner[j] == y && k <= next ? k + 1 : 0;
-        uint16_t taken = k <= j ? next : closed;
-        over[j] = p[j] == x ? taken : 0;
-    }
-    for (int j = from; j < to; j++) units[j] = pm[j] <= j && p[j] == y ? j + 1 : j;
+    for (int j = from; j < to; j++) over[j] = over_entry(p[j], x, pm[j], j, to, partner[j], y, row[j + 1]);
+    for (int j = from; j < to; j++) units[j] = unit_entry(p[j], y, pm[j], j);
     units[to] = to;
     combine_into(row, units, from, to);
     for (int j = from; j < to; j++) row[j] = larger(row[j], over[j]);
