@@ -29,4 +29,7 @@ long peer_query_rows(const uint8_t *catalog, size_t blocks, uint8_t *cache, size
 long peer_query_windows(const uint8_t *catalog, size_t blocks, uint8_t *cache, size_t slots, const uint8_t *p, const uint16_t *pm, size_t m,
                         uint16_t *work, uint16_t *hits, size_t *searched);
 
+// Show (show.c): the length, and the places of an embedding. `rows` has (n + 1) (m + 1) numbers, a row for each position of the molecule.
+size_t table_show(const uint8_t *p, const uint16_t *pm, size_t m, const uint8_t *q, const uint16_t *qm, size_t n, uint16_t *rows, uint16_t *places);
+
 #endif

@@ -1,0 +1,317 @@
+//! Times the library against plain Rust (tests/compare/plain) and plain C (bindings/bench) on the same inputs in one run, all at optimization level 3, and prints
+//! tables and the goals. `cargo bench --features c-peers`; words after `--` choose the tables: length, show, soundness, query.
+#[allow(dead_code)]
+#[path = "../../tests/compare/make.rs"]
+mod make;
+mod peers;
+#[allow(dead_code)]
+#[path = "../../tests/compare/plain/mod.rs"]
+mod plain;
+#[allow(dead_code)]
+#[path = "../../tests/compare/random.rs"]
+mod random;
+mod timing;
+
+use lakhido::{BLOCK, BLOCKS_MOST, MOLECULE_MOST, MOTIF_MOST, SLOTS_MOST};
+use peers::By;
+use plain::block::{self, Owned};
+use plain::calls;
+use plain::strand::Strand;
+use random::Random;
+use timing::{TURNS, Version, least};
+
+const SEED: u64 = 20;
+const SIZES: [(usize, usize); 5] = [(160, 20), (160, 120), (1500, 200), (4096, 512), (4096, 4096)];
+const SHAPES: [&str; 5] = ["no arcs", "random fold", "stem", "comb", "balanced"];
+
+fn fold(r: &mut Random, shape: &str, n: usize) -> Vec<u16> {
+    match shape {
+        "no arcs" => make::no_arcs(n),
+        "random fold" => make::random_fold(r, n, 3),
+        "stem" => make::stem(n),
+        "comb" => make::comb(n),
+        _ => make::balanced(n),
+    }
+}
+
+fn strand(r: &mut Random, shape: &str, n: usize) -> Owned {
+    Owned { bases: (0..n).map(|_| r.pick(b"ACGU")).collect(), mates: fold(r, shape, n) }
+}
+
+/// A molecule and a motif of one shape: the motif unrelated, or taken out of the molecule so that it embeds.
+struct Case {
+    shape: &'static str,
+    motif: &'static str,
+    p: Owned,
+    q: Owned,
+}
+
+fn cases(sizes: &[(usize, usize)]) -> Vec<Case> {
+    let mut r = Random::new(SEED);
+    let mut cases = Vec::new();
+    for shape in SHAPES {
+        for &(n, m) in sizes {
+            let q = strand(&mut r, shape, n);
+            if n != m {
+                cases.push(Case { shape, motif: "unrelated", p: strand(&mut r, shape, m), q: q.clone() });
+            }
+            cases.push(Case { shape, motif: "embeds", p: make::taken_out(&mut r, &q, m), q });
+        }
+    }
+    cases
+}
+
+/// The rows of a table that miss a goal.
+struct Goal {
+    text: &'static str,
+    most: f64,
+    worst: f64,
+    missed: Vec<String>,
+}
+
+impl Goal {
+    fn new(text: &'static str, most: f64) -> Self {
+        Goal { text, most, worst: 0.0, missed: Vec::new() }
+    }
+
+    fn hold(&mut self, row: &str, ratio: f64) {
+        self.worst = self.worst.max(ratio);
+        if self.most < ratio {
+            self.missed.push(format!("{row}: {ratio:.2}"));
+        }
+    }
+
+    fn told(&self) {
+        let met = if self.missed.is_empty() { "met" } else { "MISSED" };
+        println!("\nGoal: {} at most {:.1} on every row: {met} (largest {:.2}).", self.text, self.most, self.worst);
+        for row in &self.missed {
+            println!("- missed: {row}");
+        }
+    }
+}
+
+fn microseconds(t: f64) -> String {
+    if t < 100.0 { format!("{t:.2}") } else { format!("{t:.0}") }
+}
+
+fn ratio(x: f64) -> String {
+    if x < 0.1 { format!("{x:.3}") } else { format!("{x:.2}") }
+}
+
+/// Prints a row: its words, the times, then the ratios of the first time to each of the others.
+fn print_row(words: &[String], times: &[f64]) {
+    let times_text = times.iter().map(|&t| microseconds(t));
+    let ratios = times[1..].iter().map(|t| ratio(times[0] / t));
+    let cells: Vec<String> = words.iter().cloned().chain(times_text).chain(ratios).collect();
+    println!("| {} |", cells.join(" | "));
+}
+
+fn print_head(words: &[&str]) {
+    println!("\n| {} |\n|{}", words.join(" | "), "---|".repeat(words.len()));
+}
+
+fn lengths() {
+    println!("\n## Length\n\nMicroseconds; the work slice is not cleared before a call, by any version.");
+    print_head(&[
+        "shape",
+        "n",
+        "m",
+        "motif",
+        "L",
+        "library",
+        "C, 003's rows",
+        "C, same algorithm",
+        "Rust, 003's rows",
+        "/ C rows",
+        "/ C same",
+        "/ Rust",
+    ]);
+    let mut goal = Goal::new("length / C of 003's rows", 0.5);
+    for Case { shape, motif, p, q } in cases(&SIZES) {
+        let (p, q) = (p.lend(), q.lend());
+        let size = lakhido::work_size(p.len(), q.len());
+        let (mut ours, mut rows, mut windows) = (vec![0; size], vec![0; size], vec![0; size]);
+        let versions: Vec<Version> = vec![
+            Box::new(move || lakhido::length(lent(p), lent(q), &mut ours).expect("accepted")),
+            Box::new(move || peers::length(By::Rows, p, q, &mut rows)),
+            Box::new(move || peers::length(By::Windows, p, q, &mut windows)),
+            Box::new(move || plain::rows::length(p, q)),
+        ];
+        let row = format!("{shape} ({}, {}) {motif}", q.len(), p.len());
+        let checks: Version = Box::new(move || [p, q].map(|s| lakhido::check(lent(s)).is_ok() as usize).iter().sum());
+        let checks = microseconds(least(&row, vec![checks]).1[0]);
+        let (found, times) = least(&row, versions);
+        print_row(&[shape.into(), q.len().to_string(), p.len().to_string(), motif.into(), found.to_string(), checks], &times);
+        goal.hold(&row, times[0] / times[1]);
+    }
+    goal.told();
+}
+
+fn lent<'a>(s: Strand<'a>) -> lakhido::Strand<'a> {
+    lakhido::Strand::new(s.bases, s.mates)
+}
+
+fn shows() {
+    println!(
+        "\n## Show\n\nMicroseconds; no buffer is cleared before a call. The library works in its work slice of 64 (m + 1) + 8 n numbers; the C and Rust versions keep a table of"
+    );
+    println!("all rows, (n + 1) (m + 1) numbers, which C is lent and Rust allocates. C's length is document 003's, without places.");
+    print_head(&["shape", "n", "m", "motif", "L", "library", "C, table", "Rust, table", "C, length", "/ C table", "/ Rust table", "/ C length"]);
+    for Case { shape, motif, p, q } in cases(&SIZES) {
+        let (p, q) = (p.lend(), q.lend());
+        let size = lakhido::work_size(p.len(), q.len());
+        let (mut work, mut other) = (vec![0; size], vec![0; size]);
+        let mut table = vec![0; (p.len() + 1) * (q.len() + 1)];
+        let (mut ours, mut of_c, mut of_rust) = (vec![0; p.len()], vec![0; p.len()], vec![0; p.len()]);
+        let versions: Vec<Version> = vec![
+            Box::new(move || lakhido::show(lent(p), lent(q), &mut ours, &mut work).expect("accepted")),
+            Box::new(move || peers::show(p, q, &mut table, &mut of_c)),
+            Box::new(move || plain::table::Table::new(p, q).show(&mut of_rust)),
+            Box::new(move || peers::length(By::Rows, p, q, &mut other)),
+        ];
+        let (found, times) = least(&format!("show, {shape} ({}, {}) {motif}", q.len(), p.len()), versions);
+        print_row(&[shape.into(), q.len().to_string(), p.len().to_string(), motif.into(), found.to_string()], &times);
+    }
+}
+
+/// A catalog of molecules of one shape.
+fn catalog(r: &mut Random, shape: &str) -> Vec<u8> {
+    (0..BLOCKS_MOST).flat_map(|_| block::molecule_block(strand(r, shape, MOLECULE_MOST).lend())).collect()
+}
+
+fn soundness() {
+    println!(
+        "\n## Soundness pass\n\nMicroseconds for {BLOCKS_MOST} molecule blocks of {MOLECULE_MOST} bases (a remove of number {BLOCKS_MOST}, which is refused after the pass), and for {SLOTS_MOST} entries of {MOTIF_MOST} bases (a query in"
+    );
+    println!("a catalog of one empty block, with the writing of one entry, which the C version does not do). Nothing is cleared before a call.");
+    print_head(&["shape", "blocks", "library", "C", "Rust", "/ C", "/ Rust"]);
+    let mut goal = Goal::new("soundness pass / C", 1.5);
+    let mut r = Random::new(SEED);
+    for shape in SHAPES {
+        let mut bytes = catalog(&mut r, shape);
+        let (of_c, mut of_rust) = (bytes.clone(), bytes.clone());
+        let (mut cache, mut other) = (vec![0; BLOCK], vec![0; BLOCK]);
+        let versions: Vec<Version> = vec![
+            Box::new(move || lakhido::remove(&mut bytes, &mut cache, BLOCKS_MOST).expect_err("refused").reason.number() as usize),
+            Box::new(move || if peers::unsound_molecule(&of_c) == BLOCKS_MOST { 12 } else { 11 }),
+            Box::new(move || calls::remove(&mut of_rust, &mut other, BLOCKS_MOST).expect_err("refused").0 as usize),
+        ];
+        let (_, times) = least(&format!("soundness, {shape}, molecules"), versions);
+        print_row(&[shape.into(), format!("{BLOCKS_MOST} molecules")], &times);
+        goal.hold(&format!("{shape}, molecules"), times[0] / times[1]);
+
+        let entries = (0..SLOTS_MOST).flat_map(|d| {
+            let p = strand(&mut r, shape, MOTIF_MOST);
+            block::entry_block(p.lend(), (0..BLOCKS_MOST).map(|k| (k, k % 7 == d % 7)))
+        });
+        let mut cache: Vec<u8> = entries.collect();
+        let (of_c, mut of_rust) = (cache.clone(), cache.clone());
+        let empty = [0; BLOCK];
+        let (motif, mut work) = (Strand::new(b"A", &[0]), vec![0; lakhido::query_work_size(1)]);
+        let size = work.len();
+        let versions: Vec<Version> = vec![
+            Box::new(move || lakhido::query(&empty, &mut cache, lent(motif), &mut work, &mut [0]).expect("accepted").count),
+            Box::new(move || SLOTS_MOST - peers::unsound_entry(&of_c)),
+            Box::new(move || calls::query(&empty, &mut of_rust, motif, size, &mut [0]).expect("accepted").0),
+        ];
+        let (_, times) = least(&format!("soundness, {shape}, entries"), versions);
+        print_row(&[shape.into(), format!("{SLOTS_MOST} entries")], &times);
+        goal.hold(&format!("{shape}, entries"), times[0] / times[1]);
+    }
+    goal.told();
+}
+
+/// One query of each version on buffers of its own; a cold one begins with a cache of zeros.
+fn query_versions<'a>(catalog: &'a [u8], p: Strand<'a>, cold: bool) -> Vec<Version<'a>> {
+    let size = lakhido::query_work_size(p.len());
+    let own = move || (vec![0u8; BLOCK * SLOTS_MOST], vec![0u16; size], vec![0u16; BLOCKS_MOST]);
+    let sum = |count: usize, searched: usize, hits: &[u16]| hits[..count].iter().map(|&d| d as usize).sum::<usize>() + 1_000_000 * searched;
+    let clear = move |cache: &mut [u8]| {
+        if cold {
+            cache.fill(0);
+        }
+    };
+    let of_c = move |by: By| -> Version<'a> {
+        let (mut cache, mut work, mut hits) = own();
+        peers::query(by, catalog, &mut cache, p, &mut work, &mut hits);
+        Box::new(move || {
+            clear(&mut cache);
+            let (count, searched) = peers::query(by, catalog, &mut cache, p, &mut work, &mut hits);
+            sum(count, searched, &hits)
+        })
+    };
+    let (mut cache, mut work, mut hits) = own();
+    let (mut cache2, _, mut hits2) = own();
+    lakhido::query(catalog, &mut cache, lent(p), &mut work, &mut hits).expect("accepted");
+    calls::query(catalog, &mut cache2, p, size, &mut hits2).expect("accepted");
+    vec![
+        Box::new(move || {
+            clear(&mut cache);
+            let found = lakhido::query(catalog, &mut cache, lent(p), &mut work, &mut hits).expect("accepted");
+            sum(found.count, found.searched, &hits)
+        }),
+        of_c(By::Rows),
+        of_c(By::Windows),
+        Box::new(move || {
+            clear(&mut cache2);
+            let (count, searched) = calls::query(catalog, &mut cache2, p, size, &mut hits2).expect("accepted");
+            sum(count, searched, &hits2)
+        }),
+    ]
+}
+
+fn queries() {
+    println!(
+        "\n## Query\n\nMicroseconds for {BLOCKS_MOST} molecules of {MOLECULE_MOST} bases and a cache of {SLOTS_MOST} blocks. Cold: the cache is cleared before each call, by all versions, within the time; every molecule is"
+    );
+    println!("searched. Warm: the same query again, with nothing to search. Work and hits are not cleared.");
+    print_head(&[
+        "shape",
+        "m",
+        "motif",
+        "cache",
+        "library",
+        "C, 003's rows",
+        "C, same algorithm",
+        "Rust, 003's rows",
+        "/ C rows",
+        "/ C same",
+        "/ Rust",
+    ]);
+    let mut goal = Goal::new("cold query / C of 003's rows", 1.0);
+    for Case { shape, motif, p, q } in cases(&SIZES[..2]) {
+        let mut r = Random::new(SEED + p.bases.len() as u64);
+        let mut bytes = catalog(&mut r, shape);
+        if motif == "embeds" {
+            // Every fourth molecule has the motif.
+            for d in (0..BLOCKS_MOST).step_by(4) {
+                bytes[BLOCK * d..BLOCK * (d + 1)].copy_from_slice(&block::molecule_block(q.lend()));
+            }
+        }
+        for cold in [true, false] {
+            let name = if cold { "cold" } else { "warm" };
+            let row = format!("{shape}, m = {}, {motif}, {name}", p.bases.len());
+            let (_, times) = least(&row, query_versions(&bytes, p.lend(), cold));
+            print_row(&[shape.into(), p.bases.len().to_string(), motif.into(), name.into()], &times);
+            if cold {
+                goal.hold(&row, times[0] / times[1]);
+            }
+        }
+    }
+    goal.told();
+}
+
+fn main() {
+    let words: Vec<String> = std::env::args().skip(1).filter(|w| !w.starts_with('-')).collect();
+    let wanted = |table: &str| words.is_empty() || words.iter().any(|w| w == table);
+    println!(
+        "Plain C by {} at -O3, plain Rust at opt-level 3; processor time, the least of {TURNS} turns; seed {SEED}.",
+        env!("LAKHIDO_PEER_COMPILER")
+    );
+    let tables: [(&str, fn()); 4] = [("length", lengths), ("show", shows), ("soundness", soundness), ("query", queries)];
+    for (name, table) in tables {
+        if wanted(name) {
+            table();
+        }
+    }
+}

@@ -1,0 +1,117 @@
+//! The plain C versions of bindings/bench, compiled at -O3 by build.rs, with slices in the place of pointers.
+use crate::plain::strand::Strand;
+
+mod c {
+    type Matcher = unsafe extern "C" fn(*const u8, *const u16, usize, *const u8, *const u16, usize, *mut u16) -> usize;
+    pub const MATCHERS: [Matcher; 2] = [rows_length, windows_length];
+
+    unsafe extern "C" {
+        fn rows_length(p: *const u8, pm: *const u16, m: usize, q: *const u8, qm: *const u16, n: usize, work: *mut u16) -> usize;
+        fn windows_length(p: *const u8, pm: *const u16, m: usize, q: *const u8, qm: *const u16, n: usize, work: *mut u16) -> usize;
+        pub fn table_show(p: *const u8, pm: *const u16, m: usize, q: *const u8, qm: *const u16, n: usize, rows: *mut u16, places: *mut u16) -> usize;
+        pub fn peer_unsound_molecule(catalog: *const u8, blocks: usize) -> usize;
+        pub fn peer_unsound_entry(cache: *const u8, blocks: usize) -> usize;
+        fn peer_query_rows(
+            catalog: *const u8,
+            blocks: usize,
+            cache: *mut u8,
+            slots: usize,
+            p: *const u8,
+            pm: *const u16,
+            m: usize,
+            work: *mut u16,
+            hits: *mut u16,
+            searched: *mut usize,
+        ) -> std::ffi::c_long;
+        fn peer_query_windows(
+            catalog: *const u8,
+            blocks: usize,
+            cache: *mut u8,
+            slots: usize,
+            p: *const u8,
+            pm: *const u16,
+            m: usize,
+            work: *mut u16,
+            hits: *mut u16,
+            searched: *mut usize,
+        ) -> std::ffi::c_long;
+    }
+    type Query =
+        unsafe extern "C" fn(*const u8, usize, *mut u8, usize, *const u8, *const u16, usize, *mut u16, *mut u16, *mut usize) -> std::ffi::c_long;
+    pub const QUERIES: [Query; 2] = [peer_query_rows, peer_query_windows];
+}
+
+/// Which search a C version uses.
+#[derive(Clone, Copy)]
+pub enum By {
+    /// Document 003's rows as written.
+    Rows = 0,
+    /// The library's own algorithm.
+    Windows = 1,
+}
+
+fn asserted(p: Strand, q: Strand, work: &[u16]) {
+    assert!(p.bases.len() == p.mates.len() && q.bases.len() == q.mates.len());
+    assert!(lakhido::work_size(p.len(), q.len()) <= work.len());
+}
+
+/// The strands are valid.
+pub fn length(by: By, p: Strand, q: Strand, work: &mut [u16]) -> usize {
+    asserted(p, q, work);
+    let call = c::MATCHERS[by as usize];
+    // SAFETY: valid strands and a work slice as large as the library's, which is all that the peers ask.
+    unsafe { call(p.bases.as_ptr(), p.mates.as_ptr(), p.len(), q.bases.as_ptr(), q.mates.as_ptr(), q.len(), work.as_mut_ptr()) }
+}
+
+/// The strands are valid.
+pub fn show(p: Strand, q: Strand, rows: &mut [u16], places: &mut [u16]) -> usize {
+    assert!((p.len() + 1) * (q.len() + 1) <= rows.len() && p.len() <= places.len());
+    // SAFETY: valid strands, a row of m + 1 numbers for each of n + 1 positions, and m places, which is all that the peer asks.
+    unsafe {
+        c::table_show(
+            p.bases.as_ptr(),
+            p.mates.as_ptr(),
+            p.len(),
+            q.bases.as_ptr(),
+            q.mates.as_ptr(),
+            q.len(),
+            rows.as_mut_ptr(),
+            places.as_mut_ptr(),
+        )
+    }
+}
+
+pub fn unsound_molecule(catalog: &[u8]) -> usize {
+    // SAFETY: reads whole blocks of any content.
+    unsafe { c::peer_unsound_molecule(catalog.as_ptr(), catalog.len() / lakhido::BLOCK) }
+}
+
+pub fn unsound_entry(cache: &[u8]) -> usize {
+    // SAFETY: reads whole blocks of any content.
+    unsafe { c::peer_unsound_entry(cache.as_ptr(), cache.len() / lakhido::BLOCK) }
+}
+
+/// The motif is valid. Gives the count of hits and of molecules searched.
+pub fn query(by: By, catalog: &[u8], cache: &mut [u8], p: Strand, work: &mut [u16], hits: &mut [u16]) -> (usize, usize) {
+    assert!(p.bases.len() == p.mates.len() && lakhido::query_work_size(p.len()) <= work.len());
+    let (blocks, slots) = (catalog.len() / lakhido::BLOCK, cache.len() / lakhido::BLOCK);
+    assert!(blocks <= hits.len() && 0 < slots);
+    let mut searched = 0;
+    let call = c::QUERIES[by as usize];
+    // SAFETY: a valid motif, whole blocks, and work and hits as large as the library's, which is all that the peers ask.
+    let count = unsafe {
+        call(
+            catalog.as_ptr(),
+            blocks,
+            cache.as_mut_ptr(),
+            slots,
+            p.bases.as_ptr(),
+            p.mates.as_ptr(),
+            p.len(),
+            work.as_mut_ptr(),
+            hits.as_mut_ptr(),
+            &mut searched,
+        )
+    };
+    (usize::try_from(count).expect("a sound catalog"), searched)
+}

@@ -1,0 +1,53 @@
+//! Links the library's archive, libcapi.a, from the folder LAKHIDO_LIB_DIR, or from target/staticlib of the repository. With the feature `c-peers` it
+//! also compiles the plain C versions of bindings/bench, which the benchmark times against.
+use std::env;
+use std::path::{Path, PathBuf};
+use std::process::Command;
+
+fn main() {
+    let here = PathBuf::from(env::var_os("CARGO_MANIFEST_DIR").expect("cargo sets CARGO_MANIFEST_DIR"));
+    let repository = here.join("../..");
+    println!("cargo::rerun-if-env-changed=LAKHIDO_LIB_DIR");
+    let folder = env::var_os("LAKHIDO_LIB_DIR").map_or_else(|| repository.join("target/staticlib"), PathBuf::from);
+    let archive = folder.join("libcapi.a");
+    println!("cargo::rerun-if-changed={}", archive.display());
+    if !archive.exists() {
+        println!(
+            "cargo::error=lakhido: {} is not there. Build it with `rt staticlib capi` in the repository, or set LAKHIDO_LIB_DIR to the folder that holds libcapi.a",
+            archive.display()
+        );
+        return;
+    }
+    println!("cargo::rustc-link-search=native={}", folder.display());
+    println!("cargo::rustc-link-lib=static=capi");
+    if env::var_os("CARGO_FEATURE_C_PEERS").is_some() {
+        compile_peers(&repository.join("bindings/bench"));
+    }
+}
+
+/// The plain C versions at -O3, as one archive.
+fn compile_peers(sources: &Path) {
+    let out = PathBuf::from(env::var_os("OUT_DIR").expect("cargo sets OUT_DIR"));
+    let compiler = env::var("CC").unwrap_or_else(|_| "cc".to_string());
+    println!("cargo::rerun-if-env-changed=CC");
+    println!("cargo::rerun-if-changed={}", sources.join("peer.h").display());
+    let mut objects = Vec::new();
+    for name in ["rows", "windows", "show", "sound", "query"] {
+        let (source, object) = (sources.join(name).with_extension("c"), out.join(name).with_extension("o"));
+        println!("cargo::rerun-if-changed={}", source.display());
+        run(Command::new(&compiler).args(["-O3", "-c", "-o"]).arg(&object).arg(&source));
+        objects.push(object);
+    }
+    run(Command::new("ar").arg("crs").arg(out.join("libpeers.a")).args(&objects));
+    println!("cargo::rustc-link-search=native={}", out.display());
+    println!("cargo::rustc-link-lib=static=peers");
+    let version = Command::new(&compiler).arg("--version").output().map(|o| String::from_utf8_lossy(&o.stdout).into_owned());
+    println!("cargo::rustc-env=LAKHIDO_PEER_COMPILER={}", version.unwrap_or_default().lines().next().unwrap_or(&compiler));
+}
+
+fn run(command: &mut Command) {
+    match command.status() {
+        Ok(status) if status.success() => {}
+        other => println!("cargo::error=lakhido: {command:?} failed: {other:?}"),
+    }
+}

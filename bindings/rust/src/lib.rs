@@ -1,0 +1,165 @@
+//! Safe calls of Lakhido: motif search and an answer cache for folded RNA. The library is written and proved in Rattle; this crate hands it slices and
+//! gives back a [`Result`]. It has no dependencies.
+//!
+//! A molecule or a motif is a [`Strand`]: bases as bytes (`A`, `C`, `G`, `U`) and, for each base, the position of its mate, its own where it has
+//! no bond. Arcs are nested. An embedding gives the motif's positions rising positions of the molecule with the same bases, and two positions of the motif
+//! are an arc exactly when their places are.
+//!
+//! No call asks anything of its caller: every input is answered or refused, and a refused call changes no byte of any buffer. No call allocates;
+//! all memory is lent.
+//!
+//! ```
+//! use lakhido::{BLOCK, Reason, Side, Strand};
+//!
+//! # fn main() -> Result<(), lakhido::Refusal> {
+//! // The hairpin GAC, its G and C bonded; the motif is a G and a C with a bond.
+//! let hairpin = Strand::new(b"GAC", &[2, 1, 0]);
+//! let motif = Strand::new(b"GC", &[1, 0]);
+//!
+//! // How much of the motif embeds, and where.
+//! let mut work = vec![0; lakhido::work_size(2, 3)];
+//! let mut places = [0; 2];
+//! assert_eq!(lakhido::show(motif, hairpin, &mut places, &mut work)?, 2);
+//! assert_eq!(places, [0, 2]);
+//! assert!(lakhido::verify(motif, hairpin, &places)?);
+//!
+//! // A catalog of two blocks and a cache of one; both begin as zeros.
+//! let mut catalog = vec![0; 2 * BLOCK];
+//! let mut cache = vec![0; BLOCK];
+//! lakhido::add(&mut catalog, &mut cache, 1, hairpin)?;
+//!
+//! let mut work = vec![0; lakhido::query_work_size(2)];
+//! let mut hits = [0; 2];
+//! let found = lakhido::query(&catalog, &mut cache, motif, &mut work, &mut hits)?;
+//! assert_eq!((found.count, found.searched), (1, 1));
+//! assert_eq!(hits[..found.count], [1]);
+//!
+//! // The same query again is answered from the cache.
+//! assert_eq!(lakhido::query(&catalog, &mut cache, motif, &mut work, &mut hits)?.searched, 0);
+//!
+//! // A refusal says which rule, on which side, at which place.
+//! let refusal = lakhido::check(Strand::new(b"AXC", &[0, 1, 2])).unwrap_err();
+//! assert_eq!((refusal.reason, refusal.side, refusal.place), (Reason::BadLetter, Side::Molecule, 1));
+//! assert_eq!(refusal.reason.number(), 4);
+//! # Ok(())
+//! # }
+//! ```
+//!
+//! To build: `rt staticlib capi` in the repository proves the library and writes `target/staticlib/libcapi.a` (x86-64), which this crate links. Another
+//! folder is named by the variable `LAKHIDO_LIB_DIR`.
+//!
+//! A call may use up to 1 MiB of stack (measured, not proved).
+
+mod ffi;
+mod refusal;
+
+pub use refusal::{Reason, Refusal, Side};
+
+/// The most bases of a strand for [`check`], [`length`], [`show`] and [`verify`].
+pub const MOST: usize = 4096;
+/// The most bases of a molecule in the catalog.
+pub const MOLECULE_MOST: usize = 160;
+/// The most bases of a query's motif.
+pub const MOTIF_MOST: usize = 120;
+/// The bytes of a block. A block of zeros is empty.
+pub const BLOCK: usize = 512;
+/// The most blocks of a catalog; it has at least one.
+pub const BLOCKS_MOST: usize = 512;
+/// The most blocks of a cache; it has at least one.
+pub const SLOTS_MOST: usize = 64;
+
+/// The least work slice for [`length`] and [`show`]: a motif of m bases, a molecule of n.
+pub const fn work_size(m: usize, n: usize) -> usize {
+    64 * (m + 1) + 8 * n
+}
+
+/// The least work slice for [`query`]: a motif of m bases.
+pub const fn query_work_size(m: usize) -> usize {
+    work_size(m, MOLECULE_MOST)
+}
+
+/// A borrowed molecule or motif. It may break any rule: the calls check it.
+#[derive(Clone, Copy, PartialEq, Eq, Debug)]
+pub struct Strand<'a> {
+    /// The letters.
+    pub bases: &'a [u8],
+    /// For each base the position of its mate, its own where it has no bond.
+    pub mates: &'a [u16],
+}
+
+impl<'a> Strand<'a> {
+    pub const fn new(bases: &'a [u8], mates: &'a [u16]) -> Self {
+        Strand { bases, mates }
+    }
+}
+
+/// What [`query`] found. The hits stand at the start of the lent slice.
+#[derive(Clone, Copy, PartialEq, Eq, Debug)]
+pub struct Found {
+    /// How many molecules the motif embeds in.
+    pub count: usize,
+    /// How many molecules were searched; the cache knew the others.
+    pub searched: usize,
+}
+
+/// Accepts a nested molecule of 1 to [`MOST`] bases.
+///
+/// Refused by the reasons 1 to 7 with [`Side::Molecule`].
+pub fn check(molecule: Strand) -> Result<(), Refusal> {
+    refusal::accepted(ffi::check(molecule.bases, molecule.mates)).map(|_| ())
+}
+
+/// The length of the longest closed prefix of the motif that embeds in the molecule: the motif's length exactly when the motif embeds. A prefix is closed
+/// when no arc has one end in it and one outside.
+///
+/// `work` has at least [`work_size`] entries; what it holds before is of no matter, and what it holds after an accepted call is free.
+///
+/// Refused by the reasons 1 to 7 of the motif, 1 to 7 of the molecule, 8.
+pub fn length(motif: Strand, molecule: Strand, work: &mut [u16]) -> Result<usize, Refusal> {
+    let answer = ffi::length(motif.bases, motif.mates, molecule.bases, molecule.mates, work);
+    Ok(refusal::accepted(answer)?.value)
+}
+
+/// As [`length`], and writes the places of an embedding of that prefix to the start of `places`, keeping the later entries. `places` has at
+/// least as many entries as the motif has bases.
+///
+/// Refused by the reasons 1 to 7 of the motif, 1 to 7 of the molecule, 9, 8.
+pub fn show(motif: Strand, molecule: Strand, places: &mut [u16], work: &mut [u16]) -> Result<usize, Refusal> {
+    let answer = ffi::show(motif.bases, motif.mates, molecule.bases, molecule.mates, places, work);
+    Ok(refusal::accepted(answer)?.value)
+}
+
+/// Whether `places` is an embedding of the whole motif in the molecule. `places` has as many entries as the motif has bases; a place past the
+/// molecule's end gives `false` and is not refused.
+///
+/// Refused by the reasons 1 to 7 of the motif, 1 to 7 of the molecule, 9.
+pub fn verify(motif: Strand, molecule: Strand, places: &[u16]) -> Result<bool, Refusal> {
+    let answer = ffi::verify(motif.bases, motif.mates, molecule.bases, molecule.mates, places);
+    Ok(refusal::accepted(answer)?.value != 0)
+}
+
+/// Writes a molecule of 1 to [`MOLECULE_MOST`] bases to block `number` of the catalog, and zeroes every unsound block of the cache.
+///
+/// Refused by the reasons 10, 11, 12, 13, then 1 to 7 of the molecule.
+pub fn add(catalog: &mut [u8], cache: &mut [u8], number: usize, molecule: Strand) -> Result<(), Refusal> {
+    refusal::accepted(ffi::add(catalog, cache, number, molecule.bases, molecule.mates)).map(|_| ())
+}
+
+/// Zeroes block `number` of the catalog and every unsound block of the cache, and takes the number out of every cache entry.
+///
+/// Refused by the reasons 10, 11, 12, 14.
+pub fn remove(catalog: &mut [u8], cache: &mut [u8], number: usize) -> Result<(), Refusal> {
+    refusal::accepted(ffi::remove(catalog, cache, number)).map(|_| ())
+}
+
+/// Finds the molecules of the catalog that the motif, of 1 to [`MOTIF_MOST`] bases, embeds in, and writes their numbers, rising, to the start of `hits`,
+/// keeping the later entries. `hits` has at least as many entries as the catalog has blocks. What the cache knows of this motif is not searched
+/// again; the block of the motif's slot is written anew, and every unsound block of the cache is zeroed.
+///
+/// `work` has at least [`query_work_size`] entries; what it holds before is of no matter, and what it holds after an accepted call is free.
+///
+/// Refused by the reasons 10, 11, 1 to 7 of the motif, 9, 8.
+pub fn query(catalog: &[u8], cache: &mut [u8], motif: Strand, work: &mut [u16], hits: &mut [u16]) -> Result<Found, Refusal> {
+    let answer = refusal::accepted(ffi::query(catalog, cache, motif.bases, motif.mates, work, hits))?;
+    Ok(Found { count: answer.value, searched: answer.searched })
+}

@@ -1,0 +1,140 @@
+//! Refusals: the table's rows as an enum, with side and place.
+use crate::ffi::Answer;
+use std::fmt;
+
+/// Why a call was refused: a row of the table of refusals. Its number is [`Reason::number`].
+#[derive(Clone, Copy, PartialEq, Eq, Debug, Hash, PartialOrd, Ord)]
+#[repr(u8)]
+pub enum Reason {
+    /// 1: bases and mates differ in length.
+    UnequalLengths = 1,
+    /// 2: no bases.
+    NoBases = 2,
+    /// 3: more bases than the call takes.
+    TooLong = 3,
+    /// 4: a base that is not A, C, G or U. The place is the lowest.
+    BadLetter = 4,
+    /// 5: a mate that is no position. The place is the lowest base that has one.
+    BadMate = 5,
+    /// 6: mates not mutual. The place is the lowest i whose mate's mate is not i.
+    MatesNotMutual = 6,
+    /// 7: arcs (a, b) and (i, j) with a < i < b < j. The place is the lowest such i.
+    ArcsCross = 7,
+    /// 8: the work slice is shorter than [`work_size`](crate::work_size) or [`query_work_size`](crate::query_work_size) says.
+    WorkTooShort = 8,
+    /// 9: `show` has fewer places than the motif bases, `verify` not as many, or `query` fewer hits than the catalog blocks.
+    WrongSlice = 9,
+    /// 10: catalog or cache is not whole blocks, or none, or too many.
+    NotWholeBlocks = 10,
+    /// 11: an unsound block in the catalog. The place is the lowest.
+    UnsoundBlock = 11,
+    /// 12: a molecule number that is no block of the catalog.
+    NumberTooLarge = 12,
+    /// 13: `add` under a number that has a molecule.
+    AlreadyHeld = 13,
+    /// 14: `remove` of a number that has none.
+    NotHeld = 14,
+}
+
+impl Reason {
+    /// All reasons, by number.
+    pub const ALL: [Reason; 14] = [
+        Reason::UnequalLengths,
+        Reason::NoBases,
+        Reason::TooLong,
+        Reason::BadLetter,
+        Reason::BadMate,
+        Reason::MatesNotMutual,
+        Reason::ArcsCross,
+        Reason::WorkTooShort,
+        Reason::WrongSlice,
+        Reason::NotWholeBlocks,
+        Reason::UnsoundBlock,
+        Reason::NumberTooLarge,
+        Reason::AlreadyHeld,
+        Reason::NotHeld,
+    ];
+
+    /// The row's number in the table of refusals, 1 to 14.
+    pub const fn number(self) -> u8 {
+        self as u8
+    }
+
+    fn text(self) -> &'static str {
+        match self {
+            Reason::UnequalLengths => "bases and mates differ in length",
+            Reason::NoBases => "no bases",
+            Reason::TooLong => "too long",
+            Reason::BadLetter => "not a letter",
+            Reason::BadMate => "a mate that is no position",
+            Reason::MatesNotMutual => "mates not mutual",
+            Reason::ArcsCross => "arcs cross",
+            Reason::WorkTooShort => "work slice too short",
+            Reason::WrongSlice => "places or hits of the wrong length",
+            Reason::NotWholeBlocks => "catalog or cache not whole blocks, none, or too many",
+            Reason::UnsoundBlock => "unsound catalog block",
+            Reason::NumberTooLarge => "a number that is no block of the catalog",
+            Reason::AlreadyHeld => "the number has a molecule",
+            Reason::NotHeld => "the number has no molecule",
+        }
+    }
+}
+
+/// What a refusal is about.
+#[derive(Clone, Copy, PartialEq, Eq, Debug, Hash, PartialOrd, Ord)]
+#[repr(u8)]
+pub enum Side {
+    /// 0: the motif.
+    Motif = 0,
+    /// 1: the molecule.
+    Molecule = 1,
+    /// 2: neither; every reason from [`Reason::WorkTooShort`] on.
+    Neither = 2,
+}
+
+impl Side {
+    /// The side's number, 0 to 2.
+    pub const fn number(self) -> u8 {
+        self as u8
+    }
+}
+
+/// A refused call. It has changed nothing.
+#[derive(Clone, Copy, PartialEq, Eq, Debug, Hash)]
+pub struct Refusal {
+    pub reason: Reason,
+    pub side: Side,
+    /// The lowest position or block that the reason names, 0 where it names none.
+    pub place: usize,
+}
+
+impl fmt::Display for Refusal {
+    fn fmt(&self, f: &mut fmt::Formatter) -> fmt::Result {
+        let side = match self.side {
+            Side::Motif => "motif: ",
+            Side::Molecule => "molecule: ",
+            Side::Neither => "",
+        };
+        write!(f, "refused ({}): {side}{}", self.reason.number(), self.reason.text())?;
+        match self.reason {
+            Reason::BadLetter | Reason::BadMate | Reason::MatesNotMutual | Reason::ArcsCross => write!(f, " at {}", self.place),
+            Reason::UnsoundBlock => write!(f, " {}", self.place),
+            _ => Ok(()),
+        }
+    }
+}
+
+impl std::error::Error for Refusal {}
+
+/// The answer of a call: refused, or accepted with its values.
+pub(crate) fn accepted(answer: Answer) -> Result<Answer, Refusal> {
+    if answer.refusal == 0 {
+        return Ok(answer);
+    }
+    let reason = Reason::ALL.into_iter().find(|reason| reason.number() as usize == answer.refusal);
+    let side = [Side::Motif, Side::Molecule, Side::Neither].into_iter().find(|side| side.number() as usize == answer.side);
+    let (Some(reason), Some(side)) = (reason, side) else {
+        panic!("lakhido: the archive gave refusal {} with side {}, which the wrapper does not know", answer.refusal, answer.side)
+    };
+    Err(Refusal { reason, side, place: answer.place })
+}

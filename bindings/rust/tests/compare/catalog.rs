@@ -1,0 +1,143 @@
+//! Add, remove and query against the plain implementation, call by call, on catalogs and caches of any content: sound, lying, damaged.
+use crate::blocks::{self, written};
+use crate::guard::Guarded;
+use crate::make;
+use crate::plain::block::{BLOCK, ENTRY, MOLECULE, Owned};
+use crate::plain::calls::{self, work_size};
+use crate::plain::strand::{Refused, Strand};
+use crate::random::{Random, rounds, seed};
+use crate::{lent, refused, report};
+
+/// A catalog and a cache.
+#[derive(Clone)]
+pub struct Shop {
+    pub catalog: Vec<u8>,
+    pub cache: Vec<u8>,
+}
+
+impl std::fmt::Debug for Shop {
+    fn fmt(&self, f: &mut std::fmt::Formatter) -> std::fmt::Result {
+        write!(f, "catalog {}, cache {}", written(&self.catalog), written(&self.cache))
+    }
+}
+
+impl Shop {
+    pub fn empty(blocks: usize, slots: usize) -> Self {
+        Shop { catalog: vec![0; BLOCK * blocks], cache: vec![0; BLOCK * slots] }
+    }
+
+    /// Compares bytes after a call and keeps them.
+    fn take_over(&mut self, before: &Shop, catalog: Guarded<u8>, cache: Guarded<u8>, input: &dyn std::fmt::Debug) {
+        assert!(catalog.edges_kept() && cache.edges_kept(), "written beside a buffer: {input:?} on {before:?}");
+        assert_eq!(written(catalog.content()), written(&self.catalog), "catalog: library, plain; {input:?} on {before:?}");
+        assert_eq!(written(cache.content()), written(&self.cache), "cache: library, plain; {input:?} on {before:?}");
+    }
+
+    pub fn add(&mut self, d: usize, molecule: Strand) -> Result<(), Refused> {
+        let (before, input) = (self.clone(), ("add", d, molecule));
+        let (mut catalog, mut cache) = (Guarded::new(&self.catalog), Guarded::new(&self.cache));
+        let (bases, mates) = (Guarded::new(molecule.bases), Guarded::new(molecule.mates));
+        let ours = lakhido::add(catalog.lend(), cache.lend(), d, lakhido::Strand::new(bases.content(), mates.content())).map_err(refused);
+        let answer = calls::add(&mut self.catalog, &mut self.cache, d, molecule);
+        assert_eq!(ours, answer, "library, plain; {input:?} on {before:?}");
+        assert!(bases.kept() && mates.kept(), "add wrote to the molecule: {input:?} on {before:?}");
+        assert!(ours.is_ok() || catalog.kept() && cache.kept(), "a refused call wrote: {input:?} on {before:?}");
+        self.take_over(&before, catalog, cache, &input);
+        answer
+    }
+
+    pub fn remove(&mut self, d: usize) -> Result<(), Refused> {
+        let (before, input) = (self.clone(), ("remove", d));
+        let (mut catalog, mut cache) = (Guarded::new(&self.catalog), Guarded::new(&self.cache));
+        let ours = lakhido::remove(catalog.lend(), cache.lend(), d).map_err(refused);
+        let answer = calls::remove(&mut self.catalog, &mut self.cache, d);
+        assert_eq!(ours, answer, "library, plain; {input:?} on {before:?}");
+        assert!(ours.is_ok() || catalog.kept() && cache.kept(), "a refused call wrote: {input:?} on {before:?}");
+        self.take_over(&before, catalog, cache, &input);
+        answer
+    }
+
+    /// Gives the hits and the number searched.
+    pub fn query(&mut self, motif: Strand, size: usize, room: usize) -> Result<(Vec<u16>, usize), Refused> {
+        let (before, input) = (self.clone(), ("query", motif, "work", size, "hits", room));
+        let (catalog, mut cache) = (Guarded::new(&self.catalog), Guarded::new(&self.cache));
+        let old: Vec<u16> = (0..room as u16).map(|i| i ^ 0x3c3c).collect();
+        let (mut work, mut hits) = (Guarded::new(&vec![0xabcd; size]), Guarded::new(&old));
+        let ours = lakhido::query(catalog.content(), cache.lend(), lent(motif), work.lend(), hits.lend());
+        let ours = ours.map(|found| (found.count, found.searched)).map_err(refused);
+        let mut expected = old.clone();
+        let answer = calls::query(&self.catalog, &mut self.cache, motif, size, &mut expected);
+        assert_eq!(ours, answer, "count and searched: library, plain; {input:?} on {before:?}");
+        assert_eq!(hits.content(), expected, "hits: library, plain; {input:?} on {before:?}");
+        assert!(work.edges_kept() && hits.edges_kept() && catalog.kept(), "query wrote where it must not: {input:?} on {before:?}");
+        assert!(ours.is_ok() || work.kept() && hits.kept() && cache.kept(), "a refused call wrote: {input:?} on {before:?}");
+        self.take_over(&before, catalog, cache, &input);
+        answer.map(|(count, searched)| (expected[..count].to_vec(), searched))
+    }
+}
+
+/// A few molecules, and motifs that have to do with them.
+pub fn pool(r: &mut Random, count: usize, longest: usize) -> (Vec<Owned>, Vec<Owned>) {
+    let molecules: Vec<Owned> = (0..count)
+        .map(|_| {
+            let n = r.between(1, longest);
+            make::strand(r, n)
+        })
+        .collect();
+    let motifs = (0..count)
+        .map(|_| {
+            let from = r.below(count);
+            let most = if r.one_in(4) { ENTRY.most } else { 12 };
+            let m = r.between(1, molecules[from].bases.len().min(most));
+            make::motif(r, &molecules[from], m)
+        })
+        .collect();
+    (molecules, motifs)
+}
+
+/// A number of blocks, mostly small.
+fn blocks(r: &mut Random, most: usize) -> usize {
+    match r.below(200) {
+        0 => most,
+        1..=20 => r.between(1, 40.min(most)),
+        _ => r.between(1, 4.min(most)),
+    }
+}
+
+#[test]
+fn calls_on_any_content() {
+    let seed = seed();
+    let mut r = Random::new(seed);
+    let (mut count, mut accepted) = (0, 0);
+    for case in 0..rounds(6_000) {
+        let longest = if case % 10 == 0 { MOLECULE.most } else { 20 };
+        let (molecules, motifs) = pool(&mut r, 3, longest);
+        let (b, s) = (blocks(&mut r, 512), blocks(&mut r, 64));
+        let spoilt = r.pick(&[0, 0, 4 * b, 3]);
+        let catalog = blocks::catalog(&mut r, b, &molecules, spoilt);
+        let numbers = if r.one_in(3) { 512 } else { b };
+        let mut shop = Shop { cache: blocks::cache(&mut r, s, numbers, &motifs), catalog };
+        for _ in 0..4 {
+            let k = r.below(3);
+            let d = if r.one_in(8) { b } else { r.below(b) };
+            let answer = match r.below(5) {
+                0 => shop.add(d, molecules[k].lend()),
+                1 => shop.remove(d),
+                _ => {
+                    let motif = motifs[k].lend();
+                    let size = work_size(motif.len(), MOLECULE.most);
+                    let room = b + if r.one_in(3) { r.below(9) } else { 0 };
+                    shop.query(motif, size, room).map(drop)
+                }
+            };
+            accepted += answer.is_ok() as usize;
+            count += 1;
+            if r.one_in(3) {
+                let at = r.below(s);
+                blocks::spoil_any(&mut r, &mut shop.cache[BLOCK * at..BLOCK * (at + 1)]);
+            }
+        }
+    }
+    report("add, remove, query on any content", seed, count);
+    assert!(count / 3 < accepted, "only {accepted} of {count} accepted");
+}

@@ -1,0 +1,240 @@
+//! Check, length, show and verify against the plain implementation: exhaustively on small inputs, at random on short and long ones.
+use crate::guard::Guarded;
+use crate::make;
+use crate::plain::block::Owned;
+use crate::plain::calls::{self, LONGEST, work_size};
+use crate::plain::embedding::{longest_by_trying, verify_linear};
+use crate::plain::strand::{Refused, Strand};
+use crate::random::{Random, rounds, seed};
+use crate::{lent, refused, report};
+
+/// Inputs between guards, so that a write to them or beside them shows.
+struct Lent {
+    bases: Guarded<u8>,
+    mates: Guarded<u16>,
+}
+
+impl Lent {
+    fn new(s: Strand) -> Self {
+        Lent { bases: Guarded::new(s.bases), mates: Guarded::new(s.mates) }
+    }
+
+    fn strand(&self) -> lakhido::Strand<'_> {
+        lakhido::Strand::new(self.bases.content(), self.mates.content())
+    }
+
+    fn kept(&self) -> bool {
+        self.bases.kept() && self.mates.kept()
+    }
+}
+
+pub fn check(s: Strand) {
+    let input = Lent::new(s);
+    let answer = lakhido::check(input.strand()).map_err(refused);
+    assert_eq!(answer, calls::check(s), "check: library, plain; {s:?}");
+    assert!(input.kept(), "check wrote to its input: {s:?}");
+}
+
+/// What a work slice holds before a call: no answer may depend on it.
+fn work_of(size: usize) -> Vec<u16> {
+    (0..size).map(|i| (i as u16).wrapping_mul(40503) ^ size as u16).collect()
+}
+
+/// `expected` is the length where both strands are accepted.
+pub fn length(p: Strand, q: Strand, size: usize, expected: Result<usize, Refused>) {
+    let (pl, ql) = (Lent::new(p), Lent::new(q));
+    let mut work = Guarded::new(&work_of(size));
+    let answer = lakhido::length(pl.strand(), ql.strand(), work.lend()).map_err(refused);
+    assert_eq!(answer, expected, "length: library, plain; {p:?}, {q:?}, work {size}");
+    assert!(pl.kept() && ql.kept() && work.edges_kept(), "length wrote where it must not: {p:?}, {q:?}, work {size}");
+    assert!(answer.is_ok() || work.kept(), "a refused length wrote to work: {p:?}, {q:?}, work {size}");
+}
+
+/// Gives the places of an accepted call.
+pub fn show(p: Strand, q: Strand, room: usize, size: usize, expected: Result<usize, Refused>) -> Option<Vec<u16>> {
+    let (pl, ql) = (Lent::new(p), Lent::new(q));
+    let mut work = Guarded::new(&work_of(size));
+    let before: Vec<u16> = (0..room as u16).map(|i| i ^ 0x5a5a).collect();
+    let mut places = Guarded::new(&before);
+    let answer = lakhido::show(pl.strand(), ql.strand(), places.lend(), work.lend()).map_err(refused);
+    let input = || format!("{p:?}, {q:?}, places {room}, work {size}");
+    assert_eq!(answer, expected, "show: library, plain; {}", input());
+    assert!(pl.kept() && ql.kept() && work.edges_kept() && places.edges_kept(), "show wrote where it must not: {}", input());
+    let Ok(found) = answer else {
+        assert!(work.kept() && places.kept(), "a refused show wrote: {}", input());
+        return None;
+    };
+    let written = places.content();
+    let prefix = Strand::new(&p.bases[..found], &p.mates[..found]);
+    assert!(verify_linear(prefix, q, &written[..found]), "show's places {:?} are no embedding: {}", &written[..found], input());
+    assert_eq!(written[found..], before[found..], "show wrote past its {found} places: {}", input());
+    Some(written[..found].to_vec())
+}
+
+pub fn verify(p: Strand, q: Strand, places: &[u16]) {
+    let (pl, ql) = (Lent::new(p), Lent::new(q));
+    let lent = Guarded::new(places);
+    let answer = lakhido::verify(pl.strand(), ql.strand(), lent.content()).map_err(refused);
+    assert_eq!(answer, calls::verify(p, q, places), "verify: library, plain; {p:?}, {q:?}, &{places:?}");
+    assert!(pl.kept() && ql.kept() && lent.kept(), "verify wrote: {p:?}, {q:?}, &{places:?}");
+}
+
+/// All nested mates of n bases.
+fn folds(n: usize) -> Vec<Vec<u16>> {
+    fn fill(mates: &mut Vec<u16>, open: &mut Vec<usize>, n: usize, out: &mut Vec<Vec<u16>>) {
+        let i = mates.len();
+        if i == n {
+            if open.is_empty() {
+                out.push(mates.clone());
+            }
+            return;
+        }
+        mates.push(i as u16);
+        fill(mates, open, n, out);
+        open.push(i);
+        fill(mates, open, n, out);
+        open.pop();
+        if let Some(l) = open.pop() {
+            (mates[l], mates[i]) = (i as u16, l as u16);
+            fill(mates, open, n, out);
+            (mates[l], mates[i]) = (l as u16, i as u16);
+            open.push(l);
+        }
+        mates.pop();
+    }
+    let mut out = Vec::new();
+    fill(&mut Vec::new(), &mut Vec::new(), n, &mut out);
+    out
+}
+
+/// All words of n letters.
+fn words(alphabet: &[u8], n: usize) -> Vec<Vec<u8>> {
+    (0..n).fold(vec![Vec::new()], |shorter, _| shorter.iter().flat_map(|w| alphabet.iter().map(move |&b| [w.as_slice(), &[b]].concat())).collect())
+}
+
+/// All nested strands of 1 to n bases in two letters.
+fn small_strands(n: usize) -> Vec<Owned> {
+    (1..=n)
+        .flat_map(|n| {
+            let words = words(b"GC", n);
+            folds(n).into_iter().flat_map(move |mates| words.clone().into_iter().map(move |bases| Owned { bases, mates: mates.clone() }))
+        })
+        .collect()
+}
+
+#[test]
+fn all_small_pairs() {
+    let (motifs, molecules) = (small_strands(4), small_strands(5));
+    let mut work = vec![0; work_size(4, 5)];
+    let mut count = 0;
+    for p in &motifs {
+        for q in &molecules {
+            let (p, q) = (p.lend(), q.lend());
+            let expected = longest_by_trying(p, q);
+            let size = work_size(p.len(), q.len());
+            let answer = lakhido::length(lent(p), lent(q), &mut work[..size]).map_err(refused);
+            assert_eq!(answer, Ok(expected), "length: library, plain; {p:?}, {q:?}");
+            show(p, q, p.len(), size, Ok(expected));
+            count += 2;
+        }
+    }
+    println!("all motifs of up to 4 bases and molecules of up to 5 in two letters: {count} comparisons");
+    assert!(300_000 < count);
+}
+
+#[test]
+fn all_small_checks() {
+    let mut count = 0;
+    for n in 0..=4 {
+        let words = words(b"AUX", n);
+        let mut mates = vec![0; n];
+        loop {
+            for bases in &words {
+                check(Strand::new(bases, &mates));
+                count += 1;
+            }
+            let Some(at) = mates.iter().position(|&k| (k as usize) < n) else { break };
+            mates[at] += 1;
+            mates[..at].fill(0);
+        }
+    }
+    println!("all strands of up to 4 bases, mates up to 4: {count} comparisons");
+    assert!(50_000 < count);
+}
+
+#[test]
+fn all_small_places() {
+    let (motifs, molecules) = (small_strands(3), small_strands(3));
+    let mut count = 0;
+    for p in &motifs {
+        for q in &molecules {
+            for code in 0..4usize.pow(p.bases.len() as u32) {
+                let places: Vec<u16> = (0..p.bases.len() as u32).map(|j| (code / 4usize.pow(j) % 4) as u16).collect();
+                verify(p.lend(), q.lend(), &places);
+                count += 1;
+            }
+        }
+    }
+    println!("all places for motifs and molecules of up to 3 bases in two letters: {count} comparisons");
+    assert!(50_000 < count);
+}
+
+/// One random pair: all four calls. Gives the number of comparisons.
+fn pair(r: &mut Random, p: Strand, q: Strand) -> usize {
+    check(q);
+    let spare = if r.one_in(4) { r.below(40) } else { 0 };
+    let size = work_size(p.len(), q.len()) + spare;
+    let expected = calls::length(p, q, size);
+    length(p, q, size, expected);
+    let room = p.len() + if r.one_in(4) { r.below(9) } else { 0 };
+    let mut places = show(p, q, room, size, expected).expect("a valid pair");
+    while places.len() < p.len() {
+        places.push(r.below(q.len() + 2) as u16);
+    }
+    verify(p, q, &places);
+    let at = r.below(places.len());
+    places[at] = match r.below(4) {
+        0 => r.pick(&[q.len() as u16, 65535]),
+        1 => places[at].wrapping_add(1),
+        2 => places[at].wrapping_sub(1),
+        _ => r.below(q.len()) as u16,
+    };
+    verify(p, q, &places);
+    5
+}
+
+#[test]
+fn short_pairs() {
+    let seed = seed();
+    let mut r = Random::new(seed);
+    let mut count = 0;
+    for _ in 0..rounds(12_000) {
+        let n = r.between(1, 60);
+        let q = make::strand(&mut r, n);
+        let m = r.between(1, n + 2);
+        let p = make::motif(&mut r, &q, m);
+        count += pair(&mut r, p.lend(), q.lend());
+    }
+    report("check, length, show, verify on short pairs", seed, count);
+}
+
+#[test]
+fn long_pairs() {
+    let seed = seed();
+    let mut r = Random::new(seed);
+    let mut count = 0;
+    for case in 0..rounds(60) {
+        let n = if case % 6 == 0 { LONGEST } else { r.between(61, 1500) };
+        let q = make::strand(&mut r, n);
+        let m = if case % 12 == 0 { r.between(1, n) } else { r.between(1, 200.min(n)) };
+        let p = make::motif(&mut r, &q, m);
+        if m <= 200 {
+            count += pair(&mut r, p.lend(), q.lend());
+        } else {
+            let size = work_size(p.bases.len(), n);
+            length(p.lend(), q.lend(), size, calls::length(p.lend(), q.lend(), size));
+            count += 1;
+        }
+    }
+    report("check, length, show, verify on long pairs", seed, count);
+}

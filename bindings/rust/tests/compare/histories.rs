@@ -1,0 +1,143 @@
+//! Histories from zeroed buffers: add, remove and query, refused ones among them, with at most one alteration in each cache block between one accepted call
+//! and the next; every answer against the plain calls on bytes and against the reference model, which sees no bytes.
+use crate::catalog::{Shop, pool};
+use crate::make;
+use crate::plain::block::{BLOCK, CHECKSUM, ENTRY, HIT, MOLECULE, Owned, SEARCHED};
+use crate::plain::calls::work_size;
+use crate::plain::model::{Found, Model};
+use crate::random::{Random, rounds, seed};
+use crate::report;
+
+struct History {
+    shop: Shop,
+    model: Model,
+    b: usize,
+    s: usize,
+    /// The cache blocks altered since the last accepted call.
+    altered: Vec<bool>,
+    /// The steps so far, for the report of a difference.
+    steps: Vec<String>,
+    compared: usize,
+    saved: usize,
+}
+
+impl History {
+    fn new(b: usize, s: usize) -> Self {
+        let steps = vec![format!("B = {b}, S = {s}")];
+        History { shop: Shop::empty(b, s), model: Model::new(b, s), b, s, altered: vec![false; s], steps, compared: 0, saved: 0 }
+    }
+
+    fn told(&self) -> String {
+        self.steps.join("\n")
+    }
+
+    fn same<T: PartialEq + std::fmt::Debug, E: PartialEq + std::fmt::Debug>(&mut self, answer: Result<T, E>, model: Result<T, E>) {
+        assert_eq!(answer, model, "library, reference model; the history:\n{}", self.told());
+        self.compared += 1;
+        if answer.is_ok() {
+            self.altered.fill(false);
+        }
+    }
+
+    fn add(&mut self, d: usize, molecule: &Owned) {
+        self.steps.push(format!("add {d} {molecule:?}"));
+        let answer = self.shop.add(d, molecule.lend());
+        let model = self.model.add(d, molecule.lend());
+        self.same(answer, model);
+    }
+
+    fn remove(&mut self, d: usize) {
+        self.steps.push(format!("remove {d}"));
+        let answer = self.shop.remove(d);
+        let model = self.model.remove(d);
+        self.same(answer, model);
+    }
+
+    fn query(&mut self, motif: &Owned, size: usize, room: usize) {
+        self.steps.push(format!("query {motif:?}, work {size}, hits {room}"));
+        let answer = self.shop.query(motif.lend(), size, room).map(|(hits, searched)| Found { hits, searched });
+        if let Ok(found) = &answer {
+            self.saved += (found.searched == 0 && !found.hits.is_empty()) as usize;
+        }
+        let model = self.model.query(motif.lend(), size, room);
+        self.same(answer, model);
+    }
+
+    fn alter(&mut self, r: &mut Random) {
+        let slot = r.below(self.s);
+        if std::mem::replace(&mut self.altered[slot], true) {
+            return;
+        }
+        let offset = match r.below(5) {
+            0 => r.below(2),
+            1 => r.between(CHECKSUM, BLOCK - 1),
+            2 => r.pick(&[SEARCHED, HIT]) + r.below(self.b.div_ceil(8)),
+            _ => r.below(BLOCK),
+        };
+        let old = self.shop.cache[BLOCK * slot + offset];
+        let value = match r.below(4) {
+            0 => old,
+            1 => old ^ (1 << r.below(8)),
+            2 => 0,
+            _ => r.below(256) as u8,
+        };
+        self.steps.push(format!("alter block {slot}, byte {offset}: {value}"));
+        self.shop.cache[BLOCK * slot + offset] = value;
+        self.model.alter(slot, offset, value);
+    }
+}
+
+/// One step: mostly calls that are accepted, some that are not.
+fn step(r: &mut Random, h: &mut History, molecules: &[Owned], motifs: &[Owned]) {
+    let d = if r.one_in(20) { h.b + r.below(3) } else { r.below(h.b) };
+    match r.below(10) {
+        0 | 1 => h.alter(r),
+        2 | 3 => {
+            let at = r.below(molecules.len());
+            let mut molecule = molecules[at].clone();
+            if r.one_in(8) {
+                let row = r.between(1, 7) as u32;
+                make::damage(r, &mut molecule, row, MOLECULE.most);
+            }
+            h.add(d, &molecule);
+        }
+        4 => h.remove(d),
+        _ => {
+            let at = r.below(motifs.len());
+            let mut motif = motifs[at].clone();
+            if r.one_in(12) {
+                let row = r.between(1, 7) as u32;
+                make::damage(r, &mut motif, row, ENTRY.most);
+            }
+            let full = work_size(motif.bases.len(), MOLECULE.most);
+            let size = if r.one_in(16) { full - r.between(1, 3) } else { full + r.below(3) };
+            let room = if r.one_in(16) { h.b - 1 } else { h.b + r.below(3) };
+            h.query(&motif, size, room);
+        }
+    }
+}
+
+#[test]
+fn random_histories() {
+    let seed = seed();
+    let mut r = Random::new(seed);
+    let (mut compared, mut saved) = (0, 0);
+    for case in 0..rounds(1_500) {
+        let b = match case % 50 {
+            0 => r.between(1, 512),
+            1..=9 => r.between(1, 40),
+            _ => r.between(1, 5),
+        };
+        let s = if case % 7 == 0 { r.between(1, 64) } else { r.between(1, 4) };
+        let longest = if case % 20 == 0 { MOLECULE.most } else { 16 };
+        let (molecules, motifs) = pool(&mut r, 5, longest);
+        let mut h = History::new(b, s);
+        for _ in 0..40 {
+            step(&mut r, &mut h, &molecules, &motifs);
+        }
+        compared += h.compared;
+        saved += h.saved;
+    }
+    report("histories", seed, compared);
+    assert!(30_000 < compared && compared / 100 < saved, "{compared} compared, {saved} answered from the cache alone");
+}

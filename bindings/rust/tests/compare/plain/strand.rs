@@ -1,0 +1,99 @@
+//! Molecules and motifs: letters, mates, crossing arcs, and the rows 1 to 7 of the table of refusals.
+
+/// A refusal: number, side, place.
+#[derive(Clone, Copy, PartialEq, Eq, Debug)]
+pub struct Refused(pub u32, pub u32, pub usize);
+
+pub const MOTIF: u32 = 0;
+pub const MOLECULE: u32 = 1;
+pub const NEITHER: u32 = 2;
+
+/// A borrowed molecule or motif.
+#[derive(Clone, Copy, PartialEq, Eq)]
+pub struct Strand<'a> {
+    pub bases: &'a [u8],
+    pub mates: &'a [u16],
+}
+
+impl<'a> Strand<'a> {
+    pub fn new(bases: &'a [u8], mates: &'a [u16]) -> Self {
+        Strand { bases, mates }
+    }
+
+    pub fn len(&self) -> usize {
+        self.bases.len()
+    }
+
+    pub fn mate(&self, i: usize) -> usize {
+        self.mates[i] as usize
+    }
+
+    /// i is the left end of an arc.
+    pub fn opens(&self, i: usize) -> bool {
+        i < self.mate(i)
+    }
+
+    /// i and j are an arc, in either order.
+    pub fn arc(&self, i: usize, j: usize) -> bool {
+        i != j && self.mate(i) == j
+    }
+}
+
+/// Prints as the literals that make it again.
+impl std::fmt::Debug for Strand<'_> {
+    fn fmt(&self, f: &mut std::fmt::Formatter) -> std::fmt::Result {
+        write!(f, "Strand::new(b\"{}\", &{:?})", self.bases.escape_ascii(), self.mates)
+    }
+}
+
+fn is_letter(b: u8) -> bool {
+    matches!(b, b'A' | b'C' | b'G' | b'U')
+}
+
+/// The rows 1 to 7 in their order, each with its place where it applies. A later row is asked only of what it can be read from: a mate beyond the
+/// mates there are has no mate of its own.
+const ROWS: [fn(Strand, usize) -> Option<usize>; 7] = [
+    |s, _| (s.bases.len() != s.mates.len()).then_some(0),
+    |s, _| s.bases.is_empty().then_some(0),
+    |s, most| (s.bases.len() > most).then_some(0),
+    |s, _| s.bases.iter().position(|&b| !is_letter(b)),
+    |s, _| s.mates.iter().position(|&k| k as usize >= s.bases.len()),
+    |s, _| (0..s.mates.len()).find(|&i| s.mates.get(s.mate(i)).is_none_or(|&back| back as usize != i)),
+    |s, _| lowest_crossing(s.mates),
+];
+
+/// The first of the rows 1 to 7 that applies.
+pub fn judge(s: Strand, side: u32, most: usize) -> Option<Refused> {
+    (1..).zip(ROWS).find_map(|(number, row)| row(s, most).map(|place| Refused(number, side, place)))
+}
+
+/// All of the rows 1 to 7 that apply.
+pub fn judge_all(s: Strand, side: u32, most: usize) -> Vec<Refused> {
+    (1..).zip(ROWS).filter_map(|(number, row)| row(s, most).map(|place| Refused(number, side, place))).collect()
+}
+
+/// The lowest i with a < i < b < j for arcs (a, b) and (i, j). The right ends of the arcs around i are on a stack, the nearest on top: until the
+/// first crossing they are nested. Mates that are not mutual are taken as no arc.
+pub fn lowest_crossing(mates: &[u16]) -> Option<usize> {
+    let mut around: Vec<usize> = Vec::new();
+    for i in 0..mates.len() {
+        let j = mates[i] as usize;
+        while around.last().is_some_and(|&b| b <= i) {
+            around.pop();
+        }
+        if i < j && mates.get(j).is_some_and(|&k| k as usize == i) {
+            if around.last().is_some_and(|&b| b < j) {
+                return Some(i);
+            }
+            around.push(j);
+        }
+    }
+    None
+}
+
+/// The same by comparing all pairs of arcs.
+pub fn lowest_crossing_by_pairs(mates: &[u16]) -> Option<usize> {
+    let arcs: Vec<(usize, usize)> =
+        (0..mates.len()).map(|i| (i, mates[i] as usize)).filter(|&(i, j)| i < j && mates.get(j).is_some_and(|&k| k as usize == i)).collect();
+    arcs.iter().filter(|&&(i, j)| arcs.iter().any(|&(a, b)| a < i && i < b && b < j)).map(|&(i, _)| i).min()
+}

@@ -1,0 +1,78 @@
+//! The plain implementation against itself: each quick way against the words of document 01.
+use crate::make;
+use crate::plain::embedding::{closed, longest_by_trying, verify, verify_linear};
+use crate::plain::strand::{Strand, lowest_crossing, lowest_crossing_by_pairs};
+use crate::plain::{rows, table::Table};
+use crate::random::{Random, rounds, seed};
+
+/// Rows, table and trying give one length, and the table's places are an embedding.
+fn lengths_agree(p: Strand, q: Strand, trying: bool) {
+    let by_rows = rows::length(p, q);
+    let t = Table::new(p, q);
+    let mut places = vec![7777; p.len()];
+    assert_eq!(by_rows, t.show(&mut places), "rows and table: {p:?}, {q:?}");
+    assert!(closed(p, by_rows), "an open prefix: {p:?}, {q:?}");
+    let prefix = Strand::new(&p.bases[..by_rows], &p.mates[..by_rows]);
+    assert!(verify(prefix, q, &places[..by_rows]), "no embedding: {p:?}, {q:?}, {places:?}");
+    assert!(places[by_rows..].iter().all(|&x| x == 7777));
+    if trying {
+        assert_eq!(by_rows, longest_by_trying(p, q), "rows and trying: {p:?}, {q:?}");
+    }
+}
+
+#[test]
+fn the_matchers_agree() {
+    let seed = seed();
+    let mut r = Random::new(seed);
+    println!("plain matchers: seed {seed}");
+    for case in 0..rounds(30_000) {
+        let n = if case % 100 == 0 { r.between(1, 300) } else { r.between(1, 14) };
+        let q = make::strand(&mut r, n);
+        let m = r.between(1, n.min(40));
+        let p = make::motif(&mut r, &q, m);
+        lengths_agree(p.lend(), q.lend(), n < 15);
+    }
+}
+
+#[test]
+fn the_verifiers_agree() {
+    let seed = seed();
+    let mut r = Random::new(seed);
+    println!("plain verifiers: seed {seed}");
+    let mut yes = 0;
+    for _ in 0..rounds(50_000) {
+        let n = r.between(1, 12);
+        let q = make::strand(&mut r, n);
+        let m = r.between(1, n.min(6));
+        let p = make::motif(&mut r, &q, m);
+        let mut places = vec![0; p.bases.len()];
+        Table::new(p.lend(), q.lend()).show(&mut places);
+        if r.one_in(2) {
+            let at = r.below(places.len());
+            places[at] = r.below(n + 2) as u16;
+        }
+        let answer = verify(p.lend(), q.lend(), &places);
+        yes += answer as usize;
+        assert_eq!(answer, verify_linear(p.lend(), q.lend(), &places), "{p:?}, {q:?}, {places:?}");
+    }
+    assert!(1_000 < yes);
+}
+
+#[test]
+fn the_crossings_agree() {
+    let seed = seed();
+    let mut r = Random::new(seed);
+    println!("plain crossings: seed {seed}");
+    let mut found = 0;
+    for _ in 0..rounds(100_000) {
+        let n = r.between(1, 24);
+        let mut s = make::strand(&mut r, n);
+        for _ in 0..r.below(3) {
+            make::damage(&mut r, &mut s, 7, 0);
+        }
+        let place = lowest_crossing(&s.mates);
+        found += place.is_some() as usize;
+        assert_eq!(place, lowest_crossing_by_pairs(&s.mates), "{:?}", s.mates);
+    }
+    assert!(1_000 < found);
+}

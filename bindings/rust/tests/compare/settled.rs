@@ -1,0 +1,93 @@
+//! The settled examples of document 01, on the library.
+use crate::direct;
+use crate::plain::strand::{Refused, Strand};
+use crate::refused;
+use lakhido::{BLOCK, Found, Reason};
+
+fn s<'a>(bases: &'a str, mates: &'a [u16]) -> Strand<'a> {
+    Strand::new(bases.as_bytes(), mates)
+}
+
+fn l<'a>(bases: &'a str, mates: &'a [u16]) -> lakhido::Strand<'a> {
+    lakhido::Strand::new(bases.as_bytes(), mates)
+}
+
+#[test]
+fn lengths_and_places() {
+    let rows: [(Strand, Strand, usize, &[u16]); 9] = [
+        (s("A", &[0]), s("A", &[0]), 1, &[0]),
+        (s("GC", &[1, 0]), s("GAC", &[2, 1, 0]), 2, &[0, 2]),
+        (s("GC", &[0, 1]), s("GAC", &[2, 1, 0]), 1, &[0]),
+        (s("GC", &[1, 0]), s("GC", &[0, 1]), 0, &[]),
+        (s("GC", &[0, 1]), s("GCC", &[2, 1, 0]), 2, &[0, 1]),
+        (s("GC", &[0, 1]), s("GGC", &[2, 1, 0]), 2, &[1, 2]),
+        (s("AGC", &[0, 2, 1]), s("AG", &[0, 1]), 1, &[0]),
+        (s("AGC", &[0, 2, 1]), s("AGAC", &[0, 3, 2, 1]), 3, &[0, 1, 3]),
+        (s("GGCC", &[3, 2, 1, 0]), s("GGCC", &[0, 2, 1, 3]), 0, &[]),
+    ];
+    for (p, q, found, places) in rows {
+        let size = lakhido::work_size(p.len(), q.len());
+        direct::length(p, q, size, Ok(found));
+        let shown = direct::show(p, q, p.len(), size, Ok(found));
+        // With L = m the places of 01 are the only embedding.
+        if found == p.len() {
+            assert_eq!(shown.as_deref(), Some(places), "{p:?}, {q:?}");
+        }
+    }
+}
+
+#[test]
+fn refusals() {
+    let check = |q| lakhido::check(q).map_err(refused);
+    assert_eq!(check(l("AC", &[0])), Err(Refused(1, 1, 0)));
+    assert_eq!(check(l("", &[])), Err(Refused(2, 1, 0)));
+    assert_eq!(check(l("AXC", &[0, 1, 2])), Err(Refused(4, 1, 1)));
+    assert_eq!(check(l("A", &[1])), Err(Refused(5, 1, 0)));
+    assert_eq!(check(l("AC", &[1, 1])), Err(Refused(6, 1, 0)));
+    assert_eq!(check(l("ACGU", &[2, 3, 0, 1])), Err(Refused(7, 1, 1)));
+    let a = l("A", &[0]);
+    assert_eq!(lakhido::length(a, a, &mut [0; 135]).map_err(refused), Err(Refused(8, 2, 0)));
+    assert_eq!(lakhido::length(a, a, &mut [0; 136]), Ok(1));
+    let gc = l("GC", &[1, 0]);
+    assert_eq!(lakhido::show(gc, gc, &mut [0; 1], &mut [0; 500]).map_err(refused), Err(Refused(9, 2, 0)));
+    let (mut catalog, mut cache) = (vec![0; 2 * BLOCK], vec![0; 513]);
+    assert_eq!(lakhido::add(&mut catalog, &mut cache, 0, a).map_err(refused), Err(Refused(10, 2, 0)));
+    let mut cache = vec![0; BLOCK];
+    catalog[BLOCK] = 9;
+    assert_eq!(lakhido::remove(&mut catalog, &mut cache, 0).map_err(refused), Err(Refused(11, 2, 1)));
+    catalog[BLOCK] = 0;
+    assert_eq!(lakhido::add(&mut catalog, &mut cache, 2, a).map_err(refused), Err(Refused(12, 2, 0)));
+    assert_eq!(lakhido::remove(&mut catalog, &mut cache, 0).map_err(refused), Err(Refused(14, 2, 0)));
+    assert_eq!(lakhido::add(&mut catalog, &mut cache, 0, a), Ok(()));
+    assert_eq!(catalog[508..512], 1888u32.to_le_bytes(), "the checksum of A, 0");
+    assert_eq!(lakhido::add(&mut catalog, &mut cache, 0, a).map_err(refused), Err(Refused(13, 2, 0)));
+    let bases = "A".repeat(121);
+    let mates: Vec<u16> = (0..121).collect();
+    let found = lakhido::query(&catalog, &mut cache, l(&bases, &mates), &mut [0; 10_000], &mut [0; 2]);
+    assert_eq!(found.map_err(refused), Err(Refused(3, 0, 0)));
+}
+
+#[test]
+fn the_history() {
+    let (mut catalog, mut cache, mut hits) = (vec![0; 2 * BLOCK], vec![0; BLOCK], [0; 2]);
+    lakhido::add(&mut catalog, &mut cache, 0, l("GAC", &[2, 1, 0])).unwrap();
+    lakhido::add(&mut catalog, &mut cache, 1, l("GGC", &[2, 1, 0])).unwrap();
+    let (bonded, free) = (l("GC", &[1, 0]), l("GC", &[0, 1]));
+    let mut query = |catalog: &[u8], cache: &mut [u8], motif| {
+        let found = lakhido::query(catalog, cache, motif, &mut [0; 64 * 3 + 8 * 160], &mut hits).unwrap();
+        (found, hits[..found.count].to_vec())
+    };
+    assert_eq!(query(&catalog, &mut cache, bonded), (Found { count: 2, searched: 2 }, vec![0, 1]));
+    assert_eq!(query(&catalog, &mut cache, bonded), (Found { count: 2, searched: 0 }, vec![0, 1]));
+    assert_eq!(query(&catalog, &mut cache, free), (Found { count: 1, searched: 2 }, vec![1]));
+    assert_eq!(query(&catalog, &mut cache, bonded), (Found { count: 2, searched: 2 }, vec![0, 1]));
+    lakhido::remove(&mut catalog, &mut cache, 0).unwrap();
+    assert_eq!(query(&catalog, &mut cache, bonded), (Found { count: 1, searched: 0 }, vec![1]));
+}
+
+#[test]
+fn reasons_by_number() {
+    assert!(Reason::ALL.iter().map(|reason| reason.number()).eq(1..=14));
+    let refusal = lakhido::check(l("AXC", &[0, 1, 2])).unwrap_err();
+    assert_eq!(refusal.to_string(), "refused (4): molecule: not a letter at 1");
+}
