@@ -1,6 +1,6 @@
--- The entries of rows: of an empty stretch, of one base, of two stretches side by side, and of an arc from its inner row alone (one
--- accumulator: the inner stretch with the right end is the inner row followed by a unit row). Assumes nothing.
-use Prim.Native.Nat.{ℕ, suc, _≤_, _<_, max}
+-- The entries of rows: of an empty stretch, of one base, of two stretches side by side, of an arc from its inner row alone (one
+-- accumulator: the inner stretch with the right end is the inner row followed by a unit row), and for a narrower window. Assumes nothing.
+use Prim.Native.Nat.{ℕ, suc, _≤_, _<_, min, max}
 use mathlib.Core.Path.{_≡_, sym, _∙_}
 use mathlib.Core.Bool.{Bool, true}
 use native.Mathlib.Decide.{decLt, decLe, ℕ-discrete}
@@ -8,8 +8,9 @@ use native.Mathlib.Omega.{arith}
 use lib.Dec.{ltb, leb}
 use borrow.Author.Tests.{ltb-true, ltb-false, leb-true, leb-false}
 use Rattle.strand.specs.Strands.{Nested}
-use Rattle.embedding.specs.Row.{Split, Best, IsRow, unitAt, overAt, arcAt}
+use Rattle.embedding.specs.Row.{Closed, Split, Best, IsRow, unitAt, overAt, arcAt}
 use Rattle.embedding.proofs.Answers.{by-test, clash}
+use Rattle.embedding.proofs.Splitting.{restrict}
 use Rattle.embedding.proofs.Recurrence.{later, empty, combine, single-takes, single-skips, extend-takes, extend-skips}
 use Rattle.embedding.proofs.Arc.{same-mate, arc-free, arc-lays, arc-leaves}
 
@@ -132,3 +133,29 @@ module _ {fit : ℕ → ℕ → Bool} {pm qm : ℕ → ℕ} {lo z : ℕ} where
   -- The entries of a row lie between their index and z.
   pub row-from : {s e : ℕ} {f : ℕ → ℕ} → IsRow fit pm qm lo z s e f → (j : ℕ) → lo ≤ j → j ≤ z → (j ≤ f j) × (f j ≤ z)
   row-from F j a b = let B = F .best j a b in (B .reach .from, B .reach .upto)
+
+-- A row serves a narrower window P[lo′..z′), if that is closed: no entry goes past it.
+pub narrow-row : {fit : ℕ → ℕ → Bool} {pm qm : ℕ → ℕ} {lo z lo′ z′ s e : ℕ} {f h : ℕ → ℕ} → lo ≤ lo′ → z′ ≤ z → Closed pm lo′ z′
+    → IsRow fit pm qm lo z s e f → ((j : ℕ) → lo′ ≤ j → j ≤ z′ → h j ≡ min (f j) z′) → IsRow fit pm qm lo′ z′ s e h
+narrow-row {fit} {pm} {qm} {lo} {z} {lo′} {z′} {s} {e} {f} {h} la zb C F q = record { best = λ j a b. rw (q j a b) (best j a b (F .best j (omega arith) (omega arith))) }
+  where
+    best : (j : ℕ) → lo′ ≤ j → j ≤ z′ → Best fit pm qm z j (f j) s e → Best fit pm qm z′ j (min (f j) z′) s e
+    best j a b B =
+        record {
+          reach = elim (decLe (f j) z′) [
+            | yes t ↦
+                let i : min (f j) z′ ≡ f j = omega arith in
+                rw i record { from = B .reach .from; upto = t; closed = B .reach .closed; embeds = B .reach .embeds }
+            | no t ↦
+                let i : min (f j) z′ ≡ z′ = omega arith in
+                rw i record {
+                  from = b;
+                  upto = omega arith;
+                  closed = λ x p r. C x (omega arith) r;
+                  embeds = (B .reach .embeds .0, restrict j z′ s e (omega arith) (omega arith) (omega arith) (omega arith) (B .reach .embeds .1));
+                }
+          ];
+          most = λ k R.
+              let m = B .most k record { from = R .from; upto = omega (arith, R .upto); closed = R .closed; embeds = R .embeds } in
+              omega (arith, m, R .upto);
+        }

@@ -17,7 +17,7 @@ use Rattle.embedding.proofs.Window.{widen}
 use Rattle.embedding.proofs.Rows.{unit-best, arc-best}
 use Rattle.rows.specs.Rows.{Setting, Sealed, Room, matches}
 use Rattle.matcher.specs.Answers.{workSize}
-use Rattle.rows.proofs.Arcs.{seal-on}
+use Rattle.rows.proofs.Arcs.{seal-on, room-any}
 
 -- A window within a window.
 pub narrow : {p pm q qm : List ℕ} {from to : ℕ} (a z : ℕ) → Setting p pm q qm from to → a ≤ z → z ≤ length p → Setting p pm q qm a z
@@ -32,7 +32,7 @@ narrow a z S h g =
 
 -- The work slice has room for the rows of every arc.
 pub room-whole : (m n l r room : ℕ) → n ≤ 4096 → r < n → workSize m n ≤ room → Room (m + 1) (r - l) room
-room-whole m n l r room h g e = record { depth = 10; short = omega arith; rows = omega arith }
+room-whole m n l r room h g e = room-any (omega arith) (omega arith)
 
 pub room-row : (m n room : ℕ) → workSize m n ≤ room → m + 1 < room
 room-row m n room e = omega arith

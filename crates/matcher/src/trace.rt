@@ -95,7 +95,7 @@ fn turn_at(
     ensures { λ t. ⌜ Turned (now (p .entry)) (now (pm .entry)) (now (q .entry)) (now (qm .entry)) to j s r t ⌝ }
 {
     let z = walk::smaller(to, j + (r + 1 - s));
-    tree::inner_row(p, pm, j, z, q, qm, s, r, work, partner);
+    tree::inner_row(p, pm, j, z, q, qm, s, r, q.len(), work, partner);
     choose_turn(
         p,
         pm,

@@ -38,7 +38,7 @@ fn arc_end(
     ensures { λ k. ⌜ Best (letters (now (p .entry)) (now (q .entry))) (nth (now (pm .entry))) (nth (now (qm .entry))) (length (now (p .entry))) cur k l (r + 1) ⌝ }
 {
     let to = smaller(p.len(), cur + (r + 1 - l));
-    tree::inner_row(p, pm, cur, to, q, qm, l, r, work, partner);
+    tree::inner_row(p, pm, cur, to, q, qm, l, r, q.len(), work, partner);
     row::arc_entry(p, pm, to, cur, q[l], q[r], work[cur], work[cur + 1]) as usize
 }
 

@@ -177,6 +177,10 @@ module _ {qm : List ℕ} {n : ℕ} (N : Nested (nth qm) n) where
     pub light-left : (c : ℕ) → lo ≤ c → c < h → c < nth qm c → 2 * (nth qm c - c + 3) ≤ hi - lo + 4
     light-left c a b d = omega (arith, heavy-left .high c a b, H .most c a (omega arith) d, heavy-end, H .arc lt)
 
+-- 23 rows are room for any arc of a molecule.
+pub room-any : {w size room : ℕ} → size < 4096 → 23 * w ≤ room → Room w size room
+room-any h g = record { depth = 10; short = omega arith; rows = omega arith }
+
 -- Room for a shorter arc.
 pub room-less : {w room : ℕ} (size size′ : ℕ) → size′ ≤ size → Room w size room → Room w size′ room
 room-less size size′ h R = record { depth = R .depth; short = omega (arith, R .short); rows = R .rows }

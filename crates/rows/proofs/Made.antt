@@ -1,6 +1,6 @@
 -- How the code makes rows: a row in front of another, the row of an arc in the place of its inner row, and rows in parts of the work slice.
 -- Assumes nothing.
-use Prim.Native.Nat.{ℕ, suc, _+_, _-_, _≤_, _<_}
+use Prim.Native.Nat.{ℕ, suc, _+_, _-_, _≤_, _<_, min}
 use mathlib.Core.Path.{_≡_, refl, sym, ap, _∙_}
 use mathlib.Core.Bool.{Bool}
 use mathlib.Core.List.{List}
@@ -9,11 +9,11 @@ use native.Mathlib.Decide.{decLt}
 use native.Mathlib.Omega.{arith}
 use lib.ListN.{length}
 use Rattle.strand.specs.Vocabulary.{nth}
-use Rattle.embedding.specs.Row.{Split, IsRow, unitAt, arcAt}
+use Rattle.embedding.specs.Row.{Closed, Split, IsRow, unitAt, arcAt}
 use Rattle.embedding.specs.Embedding.{letters}
-use Rattle.embedding.proofs.Rows.{empty-row, unit-row, combine-row, arc-row, row-from}
-use Rattle.rows.specs.Rows.{Setting, Written, Remade, matches, Prepended}
-use Rattle.rows.proofs.Parts.{part, back, back-under, back-over}
+use Rattle.embedding.proofs.Rows.{empty-row, unit-row, combine-row, arc-row, row-from, narrow-row}
+use Rattle.rows.specs.Rows.{Setting, Written, Remade, matches, Prepended, Boxed}
+use Rattle.rows.proofs.Parts.{part, back, part-at, back-under, back-over}
 use Rattle.rows.proofs.Entries.{unit-end, over-end}
 
 -- The row in the part past the first row, looked up in the first, and the other way round.
@@ -95,6 +95,15 @@ module _ {p pm q qm : List ℕ} {from to : ℕ} where
       → IsRow (letters p q) (nth pm) (nth qm) from to c i (nth new)
   arc-front c k i e S ck kn m A W = rw (← e) (closed-row c k S ck kn m A W)
 
+  -- No row is known before.
+  pub no-box : (work : List ℕ) → Boxed p pm q qm from to (length q) work
+  no-box work = record { row = λ h. absurd (omega arith) }
+
+  -- The row inside the arc (l, r), if it is known before.
+  pub box-row : {l r stop : ℕ} {work : List ℕ} → Boxed p pm q qm from to stop work → l ≡ stop → l < r → r < length q → nth qm l ≡ r
+      → IsRow (letters p q) (nth pm) (nth qm) from to (l + 1) r (nth work)
+  box-row B e lr rn arc = rw (← arc, e) (B .row (omega arith))
+
 -- The entries of a row in a part, and of a row before a part.
 module _ {fit : ℕ → ℕ → Bool} {f g : ℕ → ℕ} {from to : ℕ} where
   pub range-over : {s e : ℕ} (w : ℕ) (xs ys : List ℕ) → w ≤ length xs → IsRow fit f g from to s e (nth ys)
@@ -104,3 +113,12 @@ module _ {fit : ℕ → ℕ → Bool} {f g : ℕ → ℕ} {from to : ℕ} where
   pub range-under : {s e : ℕ} (w : ℕ) (xs ys : List ℕ) → w ≤ length xs → to < w → IsRow fit f g from to s e (nth xs)
       → (j : ℕ) → from ≤ j → j ≤ to → nth (back w xs ys) j ≤ to
   range-under w xs ys le tw F j a b = rw (back-under w xs le ys j (omega arith)) (row-from F j a b .1)
+
+-- The known row, cut to a narrower window and written past it, is the known row of the part.
+pub cut-box : {p pm q qm : List ℕ} {lo z from to stop : ℕ} (w : ℕ) (old new : List ℕ) → lo ≤ from → to ≤ z → Closed (nth pm) from to → w ≤ length new
+    → Boxed p pm q qm lo z stop old → Written (λ k. min (nth old (k - w)) to) old new (w + from) (w + to + 1) → Boxed p pm q qm from to stop (part w new)
+cut-box {p} {pm} {q} {qm} {lo} {z} {from} {to} {stop} w old new la zb C le B W = record { row = λ h. narrow-row la zb C (B .row h) entry } where
+  entry : (j : ℕ) → from ≤ j → j ≤ to → nth (part w new) j ≡ min (nth old j) to
+  entry j a b =
+      let i : w + j - w ≡ j = omega arith in
+      part-at w new le j ∙ W .done (w + j) (omega arith) (omega arith) ∙ ap (λ (x : ℕ). min (nth old x) to) i

@@ -2,7 +2,7 @@
 use mathlib.Core.Path.{_≡_, ap, ap₂, _∙_}
 use mathlib.Core.Bool.{Bool, true, false}
 use mathlib.Core.List.{List}
-use Prim.Native.Nat.{ℕ, suc, _+_, _-_, _≤_, _<_, max}
+use Prim.Native.Nat.{ℕ, suc, _+_, _-_, _≤_, _<_, min, max}
 use native.Mathlib.Numerals.{add-one}
 use native.Mathlib.Omega.{arith}
 use lib.Dec.{leb}
@@ -73,6 +73,10 @@ module _ (has : ℕ → Bool) (pm : ℕ → ℕ) (z at j r : ℕ) where
 pub raise-step : (f : ℕ → ℕ) (at : ℕ) (row₀ row : List ℕ) (from j r : ℕ) → Written f row₀ row from j → r ≡ max (nth row j) (nth row (at + j))
     → r ≡ max (nth row₀ j) (nth row₀ (at + j))
 raise-step f at row₀ row from j r W e = e ∙ rw (W .past j (omega arith), W .past (at + j) (omega arith))
+
+pub cut-step : (f : ℕ → ℕ) (at z : ℕ) (row₀ row : List ℕ) (from j r : ℕ) → Written f row₀ row (at + from) (at + j) → j < at → r ≡ min (nth row j) z
+    → r ≡ min (nth row₀ (at + j - at)) z
+cut-step f at z row₀ row from j r W a e = let i : at + j - at ≡ j = omega arith in rw i (e ∙ ap (λ (x : ℕ). min x z) (W .under j (omega arith)))
 
 -- A store beside the row.
 pub set-at : (f : ℕ → ℕ) (old new : List ℕ) (at a e v : ℕ) → Written f old new (at + a) (at + e) → a ≤ e → at + e < length old → v ≡ f (at + e)

@@ -81,3 +81,7 @@ pub record Prepended (p pm q qm : List ℕ) (from to lo hi : ℕ) (old new : Lis
   pub row : ℕ → ℕ
   pub is : IsRow (letters p q) (nth pm) (nth qm) from to lo hi row
   pub entry : (j : ℕ) → from ≤ j → j ≤ to → nth new j ≡ nth old (row j)
+
+-- The first row of the work slice is the row inside the arc of Q from `stop`, if that is a position of Q.
+pub record Boxed (p pm q qm : List ℕ) (from to stop : ℕ) (work : List ℕ) : Type 0 where
+  pub row : stop < length q → IsRow (letters p q) (nth pm) (nth qm) from to (stop + 1) (nth qm stop) (nth work)

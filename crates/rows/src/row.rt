@@ -2,7 +2,7 @@
 // slice that the operation is lent; a second row starts `at` entries further on. The bodies of the loops are functions of values, with early returns:
 // the compiler makes vector code of them.
 ghost use mathlib.Core.Path.{_≡_};
-ghost use Prim.Native.Nat.{ℕ, _+_, _-_, _*_, _≤_, _<_, max};
+ghost use Prim.Native.Nat.{ℕ, _+_, _-_, _*_, _≤_, _<_, min, max};
 ghost use lib.ListN.{length};
 ghost use lib.Dec.{leb};
 ghost use Rattle.strand.specs.Vocabulary.{nth, choose};
@@ -14,6 +14,12 @@ pub fn larger(a: u16, b: u16) -> u16
     ensures { λ r. ⌜ r ≡ max a b ⌝ }
 {
     if a < b { b } else { a }
+}
+
+pub fn smaller(a: u16, b: u16) -> u16
+    ensures { λ r. ⌜ r ≡ min a b ⌝ }
+{
+    if a < b { a } else { b }
 }
 
 // The row of an empty stretch.
@@ -78,6 +84,18 @@ pub fn combine_into(row: &mut [u16], from: usize, to: usize, at: usize)
     while j <= to {
         let k = row[j] as usize;
         row[j] = row[at + k];
+        j += 1;
+    }
+}
+
+// Writes at `at` the row for the window that ends at `to`: no entry goes past it.
+pub fn cut(row: &mut [u16], from: usize, to: usize, at: usize)
+    requires { ⌜ (from ≤ to) × ((to ≤ 4096) × ((to < at) × (at + to < length (now row)))) ⌝ }
+    ensures { λ _. ⌜ Written (λ k. min (nth (now (row .entry)) (k - at)) to) (now (row .entry)) (now (row .exit)) (at + from) (at + to + 1) ⌝ }
+{
+    let mut j = from;
+    while j <= to {
+        row[at + j] = smaller(row[j], to as u16);
         j += 1;
     }
 }

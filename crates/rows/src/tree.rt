@@ -7,7 +7,7 @@ ghost use Rattle.strand.specs.Vocabulary.{nth};
 ghost use Rattle.strand.specs.Strands.{Nested};
 ghost use Rattle.embedding.specs.Embedding.{letters};
 ghost use Rattle.embedding.specs.Row.{IsRow};
-ghost use Rattle.rows.specs.Rows.{Setting, Partners, Sealed, Heavy, Room, LightRoom, Prepended};
+ghost use Rattle.rows.specs.Rows.{Setting, Partners, Sealed, Heavy, Room, LightRoom, Prepended, Boxed};
 
 // The mate of a position.
 pub fn mate(qm: &[u16], i: usize) -> usize
@@ -18,7 +18,7 @@ pub fn mate(qm: &[u16], i: usize) -> usize
 }
 
 // The left end of the longest arc in lo..hi, or hi if there is none. It looks only at arcs that lie in no other.
-fn heaviest(qm: &[u16], lo: usize, hi: usize) -> usize
+pub fn heaviest(qm: &[u16], lo: usize, hi: usize) -> usize
     requires { ⌜ Nested (nth (now qm)) (length (now qm)) ⌝ }
     requires { ⌜ (lo ≤ hi) × (hi ≤ length (now qm)) ⌝ }
     requires { ⌜ Sealed (now qm) lo hi ⌝ }
@@ -41,7 +41,7 @@ fn heaviest(qm: &[u16], lo: usize, hi: usize) -> usize
     best
 }
 
-// Leaves the row of l + 1..r, inside the arc l, r, as the first row of work.
+// Leaves the row of l + 1..r, inside the arc l, r, as the first row of work. Before, the row inside the arc from `stop` is there, or stop is q.len().
 pub fn inner_row(
     p: &[u8],
     pm: &[u16],
@@ -51,6 +51,7 @@ pub fn inner_row(
     qm: &[u16],
     l: usize,
     r: usize,
+    stop: usize,
     work: &mut [u16],
     partner: &[u8],
 )
@@ -58,8 +59,12 @@ pub fn inner_row(
     requires { ⌜ (l < r) × ((r < length (now q)) × (nth (now qm) l ≡ r)) ⌝ }
     requires { ⌜ Room (length (now p) + 1) (r - l) (length (now work)) ⌝ }
     requires { ⌜ Partners (now p) (now pm) (now partner) ⌝ }
+    requires { ⌜ Boxed (now p) (now pm) (now q) (now qm) from to stop (now work) ⌝ }
     ensures { λ _. ⌜ IsRow (letters (now (p .entry)) (now (q .entry))) (nth (now (pm .entry))) (nth (now (qm .entry))) from to (l + 1) r (nth (now (work .exit))) ⌝ }
 {
+    if l == stop {
+        return;
+    }
     let w = p.len() + 1;
     let heavy = heaviest(qm, l + 1, r);
     if r <= heavy {
@@ -68,7 +73,7 @@ pub fn inner_row(
         return;
     }
     let e = mate(qm, heavy);
-    inner_row(p, pm, from, to, q, qm, heavy, e, work, partner);
+    inner_row(p, pm, from, to, q, qm, heavy, e, stop, work, partner);
     row::close_arc(work, p, pm, partner, from, to, q[heavy], q[e]);
     if r <= e + 1 {
         prepend(p, pm, from, to, q, qm, l + 1, heavy, work, partner);
@@ -110,7 +115,7 @@ fn prepend(
             row::extend(work, p, pm, from, to, q[k]);
         } else {
             let part = &mut work[w..];
-            inner_row(p, pm, from, to, q, qm, c, k, part, partner);
+            inner_row(p, pm, from, to, q, qm, c, k, q.len(), part, partner);
             row::close_arc(part, p, pm, partner, from, to, q[c], q[k]);
             row::combine(work, from, to, w);
         }

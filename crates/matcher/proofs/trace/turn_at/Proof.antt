@@ -2,6 +2,7 @@
 use Prim.Native.Nat.{_+_, _-_}
 use native.Mathlib.Omega.{arith}
 use borrow.Author.Needs.{needs}
+use Rattle.rows.proofs.Made.{no-box}
 use Rattle.matcher.proofs.Top.{room-whole, window-of}
 use Rattle.matcher.proofs.Turning.{turned}
 use Rattle.matcher.proofs.trace.turn_at.Statement.{statement}
@@ -20,7 +21,7 @@ smaller-requires : tie.Need-smaller-requires
 smaller-requires c κs = search needs
 
 inner-row-requires : tie.Need-inner-row-requires
-inner-row-requires c κs = (window-of _ ((c .before .before .before .before .before .before .before .before .args) .s) ((c .before .before .before .before .before .before .before .before .args) .r) ((c .before .before .before .before .before .before .before .before .pre) .0) ((c .before .before .before .before .before .before .before .before .pre) .1 .0) ((c .before .smaller) .ensures) ((c .before .before .before .before .before .before .before .before .pre) .1 .1 .0 .0) ((c .before .before .before .before .before .before .before .before .pre) .1 .1 .0 .1 .0) ((c .before .before .before .before .before .before .before .before .pre) .1 .1 .0 .1 .1), ((((c .before .before .before .before .before .before .before .before .pre) .1 .1 .0 .0), (((c .before .before .before .before .before .before .before .before .pre) .1 .1 .0 .1 .0), ((c .before .before .before .before .before .before .before .before .pre) .1 .1 .0 .1 .1))), (room-whole _ _ _ _ _ (((c .before .before .before .before .before .before .before .before .pre) .0) .short) ((c .before .before .before .before .before .before .before .before .pre) .1 .1 .0 .1 .0) ((c .before .before .before .before .before .before .before .before .pre) .1 .1 .1 .0), (c .before .before .before .before .before .before .before .before .pre) .1 .1 .1 .1)))
+inner-row-requires c κs = (window-of _ ((c .before .before .before .before .before .before .before .before .args) .s) ((c .before .before .before .before .before .before .before .before .args) .r) ((c .before .before .before .before .before .before .before .before .pre) .0) ((c .before .before .before .before .before .before .before .before .pre) .1 .0) ((c .before .smaller) .ensures) ((c .before .before .before .before .before .before .before .before .pre) .1 .1 .0 .0) ((c .before .before .before .before .before .before .before .before .pre) .1 .1 .0 .1 .0) ((c .before .before .before .before .before .before .before .before .pre) .1 .1 .0 .1 .1), ((((c .before .before .before .before .before .before .before .before .pre) .1 .1 .0 .0), (((c .before .before .before .before .before .before .before .before .pre) .1 .1 .0 .1 .0), ((c .before .before .before .before .before .before .before .before .pre) .1 .1 .0 .1 .1))), (room-whole _ _ _ _ _ (((c .before .before .before .before .before .before .before .before .pre) .0) .short) ((c .before .before .before .before .before .before .before .before .pre) .1 .1 .0 .1 .0) ((c .before .before .before .before .before .before .before .before .pre) .1 .1 .1 .0), ((c .before .before .before .before .before .before .before .before .pre) .1 .1 .1 .1, no-box _))))
 
 shared-slice-read-choose-turn : tie.Need-shared-slice-read-choose-turn
 shared-slice-read-choose-turn c = search needs

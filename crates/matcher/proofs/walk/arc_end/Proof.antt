@@ -1,6 +1,7 @@
 -- `matcher::walk::arc_end` meets its contract.
 use Prim.Native.Nat.{_-_}
 use borrow.Author.Needs.{needs}
+use Rattle.rows.proofs.Made.{no-box}
 use Rattle.matcher.proofs.Top.{room-whole, window-of, window-best}
 use Rattle.matcher.proofs.walk.arc_end.Statement.{statement}
 use Rattle.matcher.proofs.walk.arc_end.Tie as tie
@@ -18,7 +19,7 @@ smaller-requires : tie.Need-smaller-requires
 smaller-requires c κs = search needs
 
 inner-row-requires : tie.Need-inner-row-requires
-inner-row-requires c κs = (window-of _ ((c .before .before .before .before .before .before .before .before .args) .l) ((c .before .before .before .before .before .before .before .before .args) .r) ((c .before .before .before .before .before .before .before .before .pre) .0) ((c .before .before .before .before .before .before .before .before .pre) .1 .0) ((c .before .smaller) .ensures) ((c .before .before .before .before .before .before .before .before .pre) .1 .1 .0 .0) ((c .before .before .before .before .before .before .before .before .pre) .1 .1 .0 .1 .0) ((c .before .before .before .before .before .before .before .before .pre) .1 .1 .0 .1 .1), ((((c .before .before .before .before .before .before .before .before .pre) .1 .1 .0 .0), (((c .before .before .before .before .before .before .before .before .pre) .1 .1 .0 .1 .0), ((c .before .before .before .before .before .before .before .before .pre) .1 .1 .0 .1 .1))), (room-whole _ _ _ _ _ (((c .before .before .before .before .before .before .before .before .pre) .0) .short) ((c .before .before .before .before .before .before .before .before .pre) .1 .1 .0 .1 .0) ((c .before .before .before .before .before .before .before .before .pre) .1 .1 .1 .0), (c .before .before .before .before .before .before .before .before .pre) .1 .1 .1 .1)))
+inner-row-requires c κs = (window-of _ ((c .before .before .before .before .before .before .before .before .args) .l) ((c .before .before .before .before .before .before .before .before .args) .r) ((c .before .before .before .before .before .before .before .before .pre) .0) ((c .before .before .before .before .before .before .before .before .pre) .1 .0) ((c .before .smaller) .ensures) ((c .before .before .before .before .before .before .before .before .pre) .1 .1 .0 .0) ((c .before .before .before .before .before .before .before .before .pre) .1 .1 .0 .1 .0) ((c .before .before .before .before .before .before .before .before .pre) .1 .1 .0 .1 .1), ((((c .before .before .before .before .before .before .before .before .pre) .1 .1 .0 .0), (((c .before .before .before .before .before .before .before .before .pre) .1 .1 .0 .1 .0), ((c .before .before .before .before .before .before .before .before .pre) .1 .1 .0 .1 .1))), (room-whole _ _ _ _ _ (((c .before .before .before .before .before .before .before .before .pre) .0) .short) ((c .before .before .before .before .before .before .before .before .pre) .1 .1 .0 .1 .0) ((c .before .before .before .before .before .before .before .before .pre) .1 .1 .1 .0), ((c .before .before .before .before .before .before .before .before .pre) .1 .1 .1 .1, no-box _))))
 
 shared-slice-read-arc-entry : tie.Need-shared-slice-read-arc-entry
 shared-slice-read-arc-entry c = search needs

@@ -1,4 +1,4 @@
--- `rows::tree::inner_rowprepend` meets its contract.
+-- `rows::tree::inner_row` and `prepend` meet their contracts.
 use mathlib.Core.Path.{_≡_, refl, subst, _∙_}
 use Prim.Native.Nat.{_+_, _-_, _≤_}
 use native.Mathlib.Omega.{arith}
@@ -7,7 +7,7 @@ use Rattle.embedding.proofs.Rows.{combine-row, row-from}
 use Rattle.rows.specs.Rows.{Sealed, Prepended}
 use Rattle.rows.proofs.Parts.{back, part-length, back-length}
 use Rattle.rows.proofs.Arcs.{inner-sealed, room-less, room-one, room-child, light-one, room-light, room-past, room-at, light-at, around, back-of}
-use Rattle.rows.proofs.Made.{prepend-none, prepend-step, closed-row, looked, looked-into, fresh-row, prepended-row, prepend-front, arc-front, range-over, range-under}
+use Rattle.rows.proofs.Made.{prepend-none, prepend-step, closed-row, looked, looked-into, fresh-row, prepended-row, prepend-front, arc-front, no-box, box-row, range-over, range-under}
 use Prim.Native.Nat.{ℕ, _<_}
 use borrow.Fn.Kinds.{In}
 use borrow.Fn.PlainCycle.{Measures, is, falls, and}
@@ -45,6 +45,24 @@ prepend-at t = and 6 prepend-kinds.ps (is 6 prepend-kinds.ps μ-prepend t) prepe
 
 abbrev prepend-below : ℕ → In 6 prepend-kinds.ps
 prepend-below t = and 6 prepend-kinds.ps (falls 6 prepend-kinds.ps _<_ μ-prepend t) prepend.Pre
+
+inner-row-returns : (t : ℕ) → inner-row-lts.Need-returns (
+  heaviest-reads.Asked,
+  heaviest-reads.Learnt,
+  identity-reads.Asked,
+  identity-reads.Learnt,
+  prepend-below t,
+  prepend.Post,
+  mate-reads.Asked,
+  mate-reads.Learnt,
+  inner-row-below t,
+  inner-row.Post,
+  close-arc-reads.Asked,
+  close-arc-reads.Learnt,
+  combine-into-reads.Asked,
+  combine-into-reads.Learnt,
+) (inner-row-at t) inner-row.Post
+inner-row-returns t c = box-row ((c .before .before .before .before .before .before .before .pre) .1 .1 .1 .1 .1) ((c .if1) .taken) ((c .before .before .before .before .before .before .before .pre) .1 .1 .0 .0) ((c .before .before .before .before .before .before .before .pre) .1 .1 .0 .1 .0) ((c .before .before .before .before .before .before .before .pre) .1 .1 .0 .1 .1)
 
 inner-row-add-w : (t : ℕ) → inner-row-lts.Need-add-w (
   heaviest-reads.Asked,
@@ -98,7 +116,7 @@ inner-row-heaviest-requires : (t : ℕ) → inner-row-lts.Need-heaviest-requires
   combine-into-reads.Asked,
   combine-into-reads.Learnt,
 ) (inner-row-at t) inner-row.Post
-inner-row-heaviest-requires t c κs = (rw (((c .before .before .before .before .before .before .pre) .1 .0) .equal) (((c .before .before .before .before .before .before .pre) .1 .0) .molecule), (omega (arith, ((c .before .before .before .before .before .before .pre) .1 .0) .equal), inner-sealed (((c .before .before .before .before .before .before .pre) .1 .0) .molecule) _ _ ((c .before .before .before .before .before .before .pre) .1 .1 .0 .0) ((c .before .before .before .before .before .before .pre) .1 .1 .0 .1 .0) ((c .before .before .before .before .before .before .pre) .1 .1 .0 .1 .1)))
+inner-row-heaviest-requires t c κs = (rw (((c .before .before .before .before .before .before .before .pre) .1 .0) .equal) (((c .before .before .before .before .before .before .before .pre) .1 .0) .molecule), (omega (arith, ((c .before .before .before .before .before .before .before .pre) .1 .0) .equal), inner-sealed (((c .before .before .before .before .before .before .before .pre) .1 .0) .molecule) _ _ ((c .before .before .before .before .before .before .before .pre) .1 .1 .0 .0) ((c .before .before .before .before .before .before .before .pre) .1 .1 .0 .1 .0) ((c .before .before .before .before .before .before .before .pre) .1 .1 .0 .1 .1)))
 
 inner-row-identity-requires : (t : ℕ) → inner-row-lts.Need-identity-requires (
   heaviest-reads.Asked,
@@ -116,7 +134,7 @@ inner-row-identity-requires : (t : ℕ) → inner-row-lts.Need-identity-requires
   combine-into-reads.Asked,
   combine-into-reads.Learnt,
 ) (inner-row-at t) inner-row.Post
-inner-row-identity-requires t c κs = (((c .before .before .before .before .before .before .before .before .before .pre) .1 .0) .window .order, (omega (arith, ((c .before .before .before .before .before .before .before .before .before .pre) .1 .0) .window .ends, ((c .before .before .before .before .before .before .before .before .before .pre) .1 .0) .window .small), omega (arith, ((c .before .before .before .before .before .before .before .before .before .pre) .1 .0) .window .ends, room-one ((c .before .before .before .before .before .before .before .before .before .pre) .1 .1 .1 .0))))
+inner-row-identity-requires t c κs = (((c .before .before .before .before .before .before .before .before .before .before .pre) .1 .0) .window .order, (omega (arith, ((c .before .before .before .before .before .before .before .before .before .before .pre) .1 .0) .window .ends, ((c .before .before .before .before .before .before .before .before .before .before .pre) .1 .0) .window .small), omega (arith, ((c .before .before .before .before .before .before .before .before .before .before .pre) .1 .0) .window .ends, room-one ((c .before .before .before .before .before .before .before .before .before .before .pre) .1 .1 .1 .0))))
 
 inner-row-add-prepend : (t : ℕ) → inner-row-lts.Need-add-prepend (
   heaviest-reads.Asked,
@@ -152,7 +170,7 @@ inner-row-prepend-requires : (t : ℕ) → inner-row-lts.Need-prepend-requires (
   combine-into-reads.Asked,
   combine-into-reads.Learnt,
 ) (inner-row-at t) inner-row.Post
-inner-row-prepend-requires t c κs = (omega (arith, (c .before .before .before .before .before .before .before .before .before .before .before .before .before .pre) .0), (((c .before .before .before .before .before .before .before .before .before .before .before .before .before .pre) .1 .0), (omega arith, (inner-sealed (((c .before .before .before .before .before .before .before .before .before .before .before .before .before .pre) .1 .0) .molecule) _ _ ((c .before .before .before .before .before .before .before .before .before .before .before .before .before .pre) .1 .1 .0 .0) ((c .before .before .before .before .before .before .before .before .before .before .before .before .before .pre) .1 .1 .0 .1 .0) ((c .before .before .before .before .before .before .before .before .before .before .before .before .before .pre) .1 .1 .0 .1 .1), (light-at (room-light _ _ _ ((c .before .before .before .before .before .before .before .before .before .before .before .before .before .pre) .1 .1 .1 .0) (λ x a b d. absurd (omega (arith, (c .before .before .before .before .before .before .heaviest) .ensures .most x a b d .0, (c .before .before .before .before .before .if1) .taken))) ((c .before .before .before .before .before .before .before .before .before .before .before .before .before .pre) .1 .1 .0 .0)) ((c .before .before .before .identity) .kept .0), ((c .before .before .before .before .before .before .before .before .before .before .before .before .before .pre) .1 .1 .1 .1))))))
+inner-row-prepend-requires t c κs = (omega (arith, (c .before .before .before .before .before .before .before .before .before .before .before .before .before .before .pre) .0), (((c .before .before .before .before .before .before .before .before .before .before .before .before .before .before .pre) .1 .0), (omega arith, (inner-sealed (((c .before .before .before .before .before .before .before .before .before .before .before .before .before .before .pre) .1 .0) .molecule) _ _ ((c .before .before .before .before .before .before .before .before .before .before .before .before .before .before .pre) .1 .1 .0 .0) ((c .before .before .before .before .before .before .before .before .before .before .before .before .before .before .pre) .1 .1 .0 .1 .0) ((c .before .before .before .before .before .before .before .before .before .before .before .before .before .before .pre) .1 .1 .0 .1 .1), (light-at (room-light _ _ _ ((c .before .before .before .before .before .before .before .before .before .before .before .before .before .before .pre) .1 .1 .1 .0) (λ x a b d. absurd (omega (arith, (c .before .before .before .before .before .before .heaviest) .ensures .most x a b d .0, (c .before .before .before .before .before .if2) .taken))) ((c .before .before .before .before .before .before .before .before .before .before .before .before .before .before .pre) .1 .1 .0 .0)) ((c .before .before .before .identity) .kept .0), ((c .before .before .before .before .before .before .before .before .before .before .before .before .before .before .pre) .1 .1 .1 .1 .0))))))
 
 inner-row-same-length : (t : ℕ) → inner-row-lts.Need-same-length (
   heaviest-reads.Asked,
@@ -172,7 +190,7 @@ inner-row-same-length : (t : ℕ) → inner-row-lts.Need-same-length (
 ) (inner-row-at t) inner-row.Post
 inner-row-same-length t c = (c .before .before .prepend) .kept .1 .1 .1 .1 .1 .1 .1 .1 .0 ∙ (c .before .before .before .before .before .before .identity) .kept .0
 
-inner-row-returns : (t : ℕ) → inner-row-lts.Need-returns (
+inner-row-returns-2 : (t : ℕ) → inner-row-lts.Need-returns-2 (
   heaviest-reads.Asked,
   heaviest-reads.Learnt,
   identity-reads.Asked,
@@ -188,7 +206,7 @@ inner-row-returns : (t : ℕ) → inner-row-lts.Need-returns (
   combine-into-reads.Asked,
   combine-into-reads.Learnt,
 ) (inner-row-at t) inner-row.Post
-inner-row-returns t c = fresh-row (λ j a b. (c .before .before .before .before .before .before .identity) .ensures .done j a (omega arith)) ((c .before .before .prepend) .ensures)
+inner-row-returns-2 t c = fresh-row (λ j a b. (c .before .before .before .before .before .before .identity) .ensures .done j a (omega arith)) ((c .before .before .prepend) .ensures)
 
 inner-row-mate-requires : (t : ℕ) → inner-row-lts.Need-mate-requires (
   heaviest-reads.Asked,
@@ -206,7 +224,7 @@ inner-row-mate-requires : (t : ℕ) → inner-row-lts.Need-mate-requires (
   combine-into-reads.Asked,
   combine-into-reads.Learnt,
 ) (inner-row-at t) inner-row.Post
-inner-row-mate-requires t c κs = omega (arith, ((c .before .before .before .before .before .before .before .before .pre) .1 .0) .equal, (c .if1) .left)
+inner-row-mate-requires t c κs = omega (arith, ((c .before .before .before .before .before .before .before .before .before .pre) .1 .0) .equal, (c .if2) .left)
 
 inner-row-inner-row-requires : (t : ℕ) → inner-row-lts.Need-inner-row-requires (
   heaviest-reads.Asked,
@@ -224,7 +242,7 @@ inner-row-inner-row-requires : (t : ℕ) → inner-row-lts.Need-inner-row-requir
   combine-into-reads.Asked,
   combine-into-reads.Learnt,
 ) (inner-row-at t) inner-row.Post
-inner-row-inner-row-requires t c κs = let A = (around (((c .before .before .before .before .before .before .before .before .before .before .pre) .1 .0) .molecule) ((c .before .before .before .before .before .before .before .before .before .before .pre) .1 .1 .0 .0) ((c .before .before .before .before .before .before .before .before .before .before .pre) .1 .1 .0 .1 .0) ((c .before .before .before .before .before .before .before .before .before .before .pre) .1 .1 .0 .1 .1) ((c .before .before .before .heaviest) .ensures) ((c .before .before .if1) .left) ((c .before .mate) .ensures)) in (omega (arith, (c .before .before .before .before .before .before .before .before .before .before .pre) .0, A .low, A .up, A .end), (((c .before .before .before .before .before .before .before .before .before .before .pre) .1 .0), ((A .up, (A .inside, A .mate)), (room-less _ _ (omega (arith, A .low, A .up, A .end)) ((c .before .before .before .before .before .before .before .before .before .before .pre) .1 .1 .1 .0), ((c .before .before .before .before .before .before .before .before .before .before .pre) .1 .1 .1 .1)))))
+inner-row-inner-row-requires t c κs = let A = (around (((c .before .before .before .before .before .before .before .before .before .before .before .pre) .1 .0) .molecule) ((c .before .before .before .before .before .before .before .before .before .before .before .pre) .1 .1 .0 .0) ((c .before .before .before .before .before .before .before .before .before .before .before .pre) .1 .1 .0 .1 .0) ((c .before .before .before .before .before .before .before .before .before .before .before .pre) .1 .1 .0 .1 .1) ((c .before .before .before .heaviest) .ensures) ((c .before .before .if2) .left) ((c .before .mate) .ensures)) in (omega (arith, (c .before .before .before .before .before .before .before .before .before .before .before .pre) .0, A .low, A .up, A .end), (((c .before .before .before .before .before .before .before .before .before .before .before .pre) .1 .0), ((A .up, (A .inside, A .mate)), (room-less _ _ (omega (arith, A .low, A .up, A .end)) ((c .before .before .before .before .before .before .before .before .before .before .before .pre) .1 .1 .1 .0), (((c .before .before .before .before .before .before .before .before .before .before .before .pre) .1 .1 .1 .1 .0), ((c .before .before .before .before .before .before .before .before .before .before .before .pre) .1 .1 .1 .1 .1))))))
 
 inner-row-shared-slice-read-close-arc : (t : ℕ) → inner-row-lts.Need-shared-slice-read-close-arc (
   heaviest-reads.Asked,
@@ -242,7 +260,7 @@ inner-row-shared-slice-read-close-arc : (t : ℕ) → inner-row-lts.Need-shared-
   combine-into-reads.Asked,
   combine-into-reads.Learnt,
 ) (inner-row-at t) inner-row.Post
-inner-row-shared-slice-read-close-arc t c = let A = (around (((c .before .before .before .before .before .before .before .before .before .before .before .before .before .before .before .pre) .1 .0) .molecule) ((c .before .before .before .before .before .before .before .before .before .before .before .before .before .before .before .pre) .1 .1 .0 .0) ((c .before .before .before .before .before .before .before .before .before .before .before .before .before .before .before .pre) .1 .1 .0 .1 .0) ((c .before .before .before .before .before .before .before .before .before .before .before .before .before .before .before .pre) .1 .1 .0 .1 .1) ((c .before .before .before .before .before .before .before .before .heaviest) .ensures) ((c .before .before .before .before .before .before .before .if1) .left) ((c .before .before .before .before .before .before .mate) .ensures)) in omega (arith, A .up, A .inside)
+inner-row-shared-slice-read-close-arc t c = let A = (around (((c .before .before .before .before .before .before .before .before .before .before .before .before .before .before .before .before .pre) .1 .0) .molecule) ((c .before .before .before .before .before .before .before .before .before .before .before .before .before .before .before .before .pre) .1 .1 .0 .0) ((c .before .before .before .before .before .before .before .before .before .before .before .before .before .before .before .before .pre) .1 .1 .0 .1 .0) ((c .before .before .before .before .before .before .before .before .before .before .before .before .before .before .before .before .pre) .1 .1 .0 .1 .1) ((c .before .before .before .before .before .before .before .before .heaviest) .ensures) ((c .before .before .before .before .before .before .before .if2) .left) ((c .before .before .before .before .before .before .mate) .ensures)) in omega (arith, A .up, A .inside)
 
 inner-row-shared-slice-read-close-arc-2 :
     (t : ℕ) → inner-row-lts.Need-shared-slice-read-close-arc-2 (
@@ -261,7 +279,7 @@ inner-row-shared-slice-read-close-arc-2 :
       combine-into-reads.Asked,
       combine-into-reads.Learnt,
     ) (inner-row-at t) inner-row.Post
-inner-row-shared-slice-read-close-arc-2 t c = let A = (around (((c .before .before .before .before .before .before .before .before .before .before .before .before .before .before .before .before .pre) .1 .0) .molecule) ((c .before .before .before .before .before .before .before .before .before .before .before .before .before .before .before .before .pre) .1 .1 .0 .0) ((c .before .before .before .before .before .before .before .before .before .before .before .before .before .before .before .before .pre) .1 .1 .0 .1 .0) ((c .before .before .before .before .before .before .before .before .before .before .before .before .before .before .before .before .pre) .1 .1 .0 .1 .1) ((c .before .before .before .before .before .before .before .before .before .heaviest) .ensures) ((c .before .before .before .before .before .before .before .before .if1) .left) ((c .before .before .before .before .before .before .before .mate) .ensures)) in omega (arith, A .inside)
+inner-row-shared-slice-read-close-arc-2 t c = let A = (around (((c .before .before .before .before .before .before .before .before .before .before .before .before .before .before .before .before .before .pre) .1 .0) .molecule) ((c .before .before .before .before .before .before .before .before .before .before .before .before .before .before .before .before .before .pre) .1 .1 .0 .0) ((c .before .before .before .before .before .before .before .before .before .before .before .before .before .before .before .before .before .pre) .1 .1 .0 .1 .0) ((c .before .before .before .before .before .before .before .before .before .before .before .before .before .before .before .before .before .pre) .1 .1 .0 .1 .1) ((c .before .before .before .before .before .before .before .before .before .heaviest) .ensures) ((c .before .before .before .before .before .before .before .before .if2) .left) ((c .before .before .before .before .before .before .before .mate) .ensures)) in omega (arith, A .inside)
 
 inner-row-close-arc-requires : (t : ℕ) → inner-row-lts.Need-close-arc-requires (
   heaviest-reads.Asked,
@@ -279,9 +297,9 @@ inner-row-close-arc-requires : (t : ℕ) → inner-row-lts.Need-close-arc-requir
   combine-into-reads.Asked,
   combine-into-reads.Learnt,
 ) (inner-row-at t) inner-row.Post
-inner-row-close-arc-requires t c κs = (((c .before .before .before .before .before .before .before .before .before .before .before .before .before .before .before .before .pre) .1 .0) .window, (((c .before .before .before .before .before .before .before .before .before .before .before .before .before .before .before .before .pre) .1 .1 .1 .1), (omega (arith, room-one ((c .before .before .before .before .before .before .before .before .before .before .before .before .before .before .before .before .pre) .1 .1 .1 .0), (c .before .before .before .before .before .inner-row) .kept .1 .1 .1 .1 .1 .1 .1 .1 .0), row-from ((c .before .before .before .before .before .inner-row) .ensures))))
+inner-row-close-arc-requires t c κs = (((c .before .before .before .before .before .before .before .before .before .before .before .before .before .before .before .before .before .pre) .1 .0) .window, (((c .before .before .before .before .before .before .before .before .before .before .before .before .before .before .before .before .before .pre) .1 .1 .1 .1 .0), (omega (arith, room-one ((c .before .before .before .before .before .before .before .before .before .before .before .before .before .before .before .before .before .pre) .1 .1 .1 .0), (c .before .before .before .before .before .inner-row) .kept .1 .1 .1 .1 .1 .1 .1 .1 .1 .0), row-from ((c .before .before .before .before .before .inner-row) .ensures))))
 
-inner-row-add-if2 : (t : ℕ) → inner-row-lts.Need-add-if2 (
+inner-row-add-if3 : (t : ℕ) → inner-row-lts.Need-add-if3 (
   heaviest-reads.Asked,
   heaviest-reads.Learnt,
   identity-reads.Asked,
@@ -297,7 +315,7 @@ inner-row-add-if2 : (t : ℕ) → inner-row-lts.Need-add-if2 (
   combine-into-reads.Asked,
   combine-into-reads.Learnt,
 ) (inner-row-at t) inner-row.Post
-inner-row-add-if2 t c = let A = (around (((c .before .before .before .before .before .before .before .before .before .before .before .before .before .before .before .before .before .before .before .pre) .1 .0) .molecule) ((c .before .before .before .before .before .before .before .before .before .before .before .before .before .before .before .before .before .before .before .pre) .1 .1 .0 .0) ((c .before .before .before .before .before .before .before .before .before .before .before .before .before .before .before .before .before .before .before .pre) .1 .1 .0 .1 .0) ((c .before .before .before .before .before .before .before .before .before .before .before .before .before .before .before .before .before .before .before .pre) .1 .1 .0 .1 .1) ((c .before .before .before .before .before .before .before .before .before .before .before .before .heaviest) .ensures) ((c .before .before .before .before .before .before .before .before .before .before .before .if1) .left) ((c .before .before .before .before .before .before .before .before .before .before .mate) .ensures)) in omega (arith, A .inside, ((c .before .before .before .before .before .before .before .before .before .before .before .before .before .before .before .before .before .before .before .pre) .1 .0) .short)
+inner-row-add-if3 t c = let A = (around (((c .before .before .before .before .before .before .before .before .before .before .before .before .before .before .before .before .before .before .before .before .pre) .1 .0) .molecule) ((c .before .before .before .before .before .before .before .before .before .before .before .before .before .before .before .before .before .before .before .before .pre) .1 .1 .0 .0) ((c .before .before .before .before .before .before .before .before .before .before .before .before .before .before .before .before .before .before .before .before .pre) .1 .1 .0 .1 .0) ((c .before .before .before .before .before .before .before .before .before .before .before .before .before .before .before .before .before .before .before .before .pre) .1 .1 .0 .1 .1) ((c .before .before .before .before .before .before .before .before .before .before .before .before .heaviest) .ensures) ((c .before .before .before .before .before .before .before .before .before .before .before .if2) .left) ((c .before .before .before .before .before .before .before .before .before .before .mate) .ensures)) in omega (arith, A .inside, ((c .before .before .before .before .before .before .before .before .before .before .before .before .before .before .before .before .before .before .before .before .pre) .1 .0) .short)
 
 inner-row-add-prepend-2 : (t : ℕ) → inner-row-lts.Need-add-prepend-2 (
   heaviest-reads.Asked,
@@ -333,7 +351,7 @@ inner-row-prepend-requires-2 : (t : ℕ) → inner-row-lts.Need-prepend-requires
   combine-into-reads.Asked,
   combine-into-reads.Learnt,
 ) (inner-row-at t) inner-row.Post
-inner-row-prepend-requires-2 t c κs = let A = (around (((c .before .before .before .before .before .before .before .before .before .before .before .before .before .before .before .before .before .before .before .before .before .pre) .1 .0) .molecule) ((c .before .before .before .before .before .before .before .before .before .before .before .before .before .before .before .before .before .before .before .before .before .pre) .1 .1 .0 .0) ((c .before .before .before .before .before .before .before .before .before .before .before .before .before .before .before .before .before .before .before .before .before .pre) .1 .1 .0 .1 .0) ((c .before .before .before .before .before .before .before .before .before .before .before .before .before .before .before .before .before .before .before .before .before .pre) .1 .1 .0 .1 .1) ((c .before .before .before .before .before .before .before .before .before .before .before .before .before .before .heaviest) .ensures) ((c .before .before .before .before .before .before .before .before .before .before .before .before .before .if1) .left) ((c .before .before .before .before .before .before .before .before .before .before .before .before .mate) .ensures)) in (omega (arith, (c .before .before .before .before .before .before .before .before .before .before .before .before .before .before .before .before .before .before .before .before .before .pre) .0, A .low, A .up, A .end), (((c .before .before .before .before .before .before .before .before .before .before .before .before .before .before .before .before .before .before .before .before .before .pre) .1 .0), (omega (arith, A .low, A .up, A .end, ((c .before .before .before .before .before .before .before .before .before .before .before .before .before .before .before .before .before .before .before .before .before .pre) .1 .1 .0 .1 .0)), (A .left, (light-at (room-light _ _ _ ((c .before .before .before .before .before .before .before .before .before .before .before .before .before .before .before .before .before .before .before .before .before .pre) .1 .1 .1 .0) (A .light-l) ((c .before .before .before .before .before .before .before .before .before .before .before .before .before .before .before .before .before .before .before .before .before .pre) .1 .1 .0 .0)) ((c .before .before .before .before .close-arc) .kept .0 ∙ (c .before .before .before .before .before .before .before .before .before .before .inner-row) .kept .1 .1 .1 .1 .1 .1 .1 .1 .0), ((c .before .before .before .before .before .before .before .before .before .before .before .before .before .before .before .before .before .before .before .before .before .pre) .1 .1 .1 .1))))))
+inner-row-prepend-requires-2 t c κs = let A = (around (((c .before .before .before .before .before .before .before .before .before .before .before .before .before .before .before .before .before .before .before .before .before .before .pre) .1 .0) .molecule) ((c .before .before .before .before .before .before .before .before .before .before .before .before .before .before .before .before .before .before .before .before .before .before .pre) .1 .1 .0 .0) ((c .before .before .before .before .before .before .before .before .before .before .before .before .before .before .before .before .before .before .before .before .before .before .pre) .1 .1 .0 .1 .0) ((c .before .before .before .before .before .before .before .before .before .before .before .before .before .before .before .before .before .before .before .before .before .before .pre) .1 .1 .0 .1 .1) ((c .before .before .before .before .before .before .before .before .before .before .before .before .before .before .heaviest) .ensures) ((c .before .before .before .before .before .before .before .before .before .before .before .before .before .if2) .left) ((c .before .before .before .before .before .before .before .before .before .before .before .before .mate) .ensures)) in (omega (arith, (c .before .before .before .before .before .before .before .before .before .before .before .before .before .before .before .before .before .before .before .before .before .before .pre) .0, A .low, A .up, A .end), (((c .before .before .before .before .before .before .before .before .before .before .before .before .before .before .before .before .before .before .before .before .before .before .pre) .1 .0), (omega (arith, A .low, A .up, A .end, ((c .before .before .before .before .before .before .before .before .before .before .before .before .before .before .before .before .before .before .before .before .before .before .pre) .1 .1 .0 .1 .0)), (A .left, (light-at (room-light _ _ _ ((c .before .before .before .before .before .before .before .before .before .before .before .before .before .before .before .before .before .before .before .before .before .before .pre) .1 .1 .1 .0) (A .light-l) ((c .before .before .before .before .before .before .before .before .before .before .before .before .before .before .before .before .before .before .before .before .before .before .pre) .1 .1 .0 .0)) ((c .before .before .before .before .close-arc) .kept .0 ∙ (c .before .before .before .before .before .before .before .before .before .before .inner-row) .kept .1 .1 .1 .1 .1 .1 .1 .1 .1 .0), ((c .before .before .before .before .before .before .before .before .before .before .before .before .before .before .before .before .before .before .before .before .before .before .pre) .1 .1 .1 .1 .0))))))
 
 inner-row-same-length-2 : (t : ℕ) → inner-row-lts.Need-same-length-2 (
   heaviest-reads.Asked,
@@ -351,223 +369,7 @@ inner-row-same-length-2 : (t : ℕ) → inner-row-lts.Need-same-length-2 (
   combine-into-reads.Asked,
   combine-into-reads.Learnt,
 ) (inner-row-at t) inner-row.Post
-inner-row-same-length-2 t c = (c .before .before .prepend2) .kept .1 .1 .1 .1 .1 .1 .1 .1 .0 ∙ (c .before .before .before .before .before .before .before .close-arc) .kept .0 ∙ (c .before .before .before .before .before .before .before .before .before .before .before .before .before .inner-row) .kept .1 .1 .1 .1 .1 .1 .1 .1 .0
-
-inner-row-returns-2 : (t : ℕ) → inner-row-lts.Need-returns-2 (
-  heaviest-reads.Asked,
-  heaviest-reads.Learnt,
-  identity-reads.Asked,
-  identity-reads.Learnt,
-  prepend-below t,
-  prepend.Post,
-  mate-reads.Asked,
-  mate-reads.Learnt,
-  inner-row-below t,
-  inner-row.Post,
-  close-arc-reads.Asked,
-  close-arc-reads.Learnt,
-  combine-into-reads.Asked,
-  combine-into-reads.Learnt,
-) (inner-row-at t) inner-row.Post
-inner-row-returns-2 t c = let A = (around (((c .before .before .before .before .before .before .before .before .before .before .before .before .before .before .before .before .before .before .before .before .before .before .before .before .pre) .1 .0) .molecule) ((c .before .before .before .before .before .before .before .before .before .before .before .before .before .before .before .before .before .before .before .before .before .before .before .before .pre) .1 .1 .0 .0) ((c .before .before .before .before .before .before .before .before .before .before .before .before .before .before .before .before .before .before .before .before .before .before .before .before .pre) .1 .1 .0 .1 .0) ((c .before .before .before .before .before .before .before .before .before .before .before .before .before .before .before .before .before .before .before .before .before .before .before .before .pre) .1 .1 .0 .1 .1) ((c .before .before .before .before .before .before .before .before .before .before .before .before .before .before .before .before .before .heaviest) .ensures) ((c .before .before .before .before .before .before .before .before .before .before .before .before .before .before .before .before .if1) .left) ((c .before .before .before .before .before .before .before .before .before .before .before .before .before .before .before .mate) .ensures)) in prepended-row (A .low) (omega (arith, A .up, A .end)) (A .split-l) (arc-front _ _ ((c .before .before .before .before .before .before .before .before .before .before .before .before .before .before .before .before .before .before .before .before .before .before .before .before .args) .r) (omega (arith, A .end, (c .before .before .before .before .if2) .taken)) ((c .before .before .before .before .before .before .before .before .before .before .before .before .before .before .before .before .before .before .before .before .before .before .before .before .pre) .1 .0) (A .up) (A .inside) (A .mate) ((c .before .before .before .before .before .before .before .before .before .before .before .before .before .inner-row) .ensures) ((c .before .before .before .before .before .before .before .close-arc) .ensures)) ((c .before .before .prepend2) .ensures)
-
-inner-row-mul-part : (t : ℕ) → inner-row-lts.Need-mul-part (
-  heaviest-reads.Asked,
-  heaviest-reads.Learnt,
-  identity-reads.Asked,
-  identity-reads.Learnt,
-  prepend-below t,
-  prepend.Post,
-  mate-reads.Asked,
-  mate-reads.Learnt,
-  inner-row-below t,
-  inner-row.Post,
-  close-arc-reads.Asked,
-  close-arc-reads.Learnt,
-  combine-into-reads.Asked,
-  combine-into-reads.Learnt,
-) (inner-row-at t) inner-row.Post
-inner-row-mul-part t c = omega (arith, (c .before .before .before .before .before .before .before .before .before .before .before .before .before .before .before .before .before .before .before .before .pre) .1 .0 .window .small)
-
-inner-row-sub-part : (t : ℕ) → inner-row-lts.Need-sub-part (
-  heaviest-reads.Asked,
-  heaviest-reads.Learnt,
-  identity-reads.Asked,
-  identity-reads.Learnt,
-  prepend-below t,
-  prepend.Post,
-  mate-reads.Asked,
-  mate-reads.Learnt,
-  inner-row-below t,
-  inner-row.Post,
-  close-arc-reads.Asked,
-  close-arc-reads.Learnt,
-  combine-into-reads.Asked,
-  combine-into-reads.Learnt,
-) (inner-row-at t) inner-row.Post
-inner-row-sub-part t c = omega (arith, (c .before .before .before .close-arc) .kept .0, (c .before .before .before .before .before .before .before .before .before .inner-row) .kept .1 .1 .1 .1 .1 .1 .1 .1 .0, room-one ((c .before .before .before .before .before .before .before .before .before .before .before .before .before .before .before .before .before .before .before .before .pre) .1 .1 .1 .0))
-
-inner-row-part-part-start : (t : ℕ) → inner-row-lts.Need-part-part-start (
-  heaviest-reads.Asked,
-  heaviest-reads.Learnt,
-  identity-reads.Asked,
-  identity-reads.Learnt,
-  prepend-below t,
-  prepend.Post,
-  mate-reads.Asked,
-  mate-reads.Learnt,
-  inner-row-below t,
-  inner-row.Post,
-  close-arc-reads.Asked,
-  close-arc-reads.Learnt,
-  combine-into-reads.Asked,
-  combine-into-reads.Learnt,
-) (inner-row-at t) inner-row.Post
-inner-row-part-part-start t c = omega (arith, (c .before .before .before .close-arc) .kept .0, (c .before .before .before .before .before .before .before .before .before .inner-row) .kept .1 .1 .1 .1 .1 .1 .1 .1 .0, room-one ((c .before .before .before .before .before .before .before .before .before .before .before .before .before .before .before .before .before .before .before .before .pre) .1 .1 .1 .0))
-
-inner-row-part-part-end : (t : ℕ) → inner-row-lts.Need-part-part-end (
-  heaviest-reads.Asked,
-  heaviest-reads.Learnt,
-  identity-reads.Asked,
-  identity-reads.Learnt,
-  prepend-below t,
-  prepend.Post,
-  mate-reads.Asked,
-  mate-reads.Learnt,
-  inner-row-below t,
-  inner-row.Post,
-  close-arc-reads.Asked,
-  close-arc-reads.Learnt,
-  combine-into-reads.Asked,
-  combine-into-reads.Learnt,
-) (inner-row-at t) inner-row.Post
-inner-row-part-part-end t c = omega (arith, (c .before .before .before .close-arc) .kept .0, (c .before .before .before .before .before .before .before .before .before .inner-row) .kept .1 .1 .1 .1 .1 .1 .1 .1 .0, room-one ((c .before .before .before .before .before .before .before .before .before .before .before .before .before .before .before .before .before .before .before .before .pre) .1 .1 .1 .0))
-
-inner-row-identity-requires-2 : (t : ℕ) → inner-row-lts.Need-identity-requires-2 (
-  heaviest-reads.Asked,
-  heaviest-reads.Learnt,
-  identity-reads.Asked,
-  identity-reads.Learnt,
-  prepend-below t,
-  prepend.Post,
-  mate-reads.Asked,
-  mate-reads.Learnt,
-  inner-row-below t,
-  inner-row.Post,
-  close-arc-reads.Asked,
-  close-arc-reads.Learnt,
-  combine-into-reads.Asked,
-  combine-into-reads.Learnt,
-) (inner-row-at t) inner-row.Post
-inner-row-identity-requires-2 t c κs = (((c .before .before .before .before .before .before .before .before .before .before .before .before .before .before .before .before .before .before .before .before .before .before .pre) .1 .0) .window .order, (omega (arith, ((c .before .before .before .before .before .before .before .before .before .before .before .before .before .before .before .before .before .before .before .before .before .before .pre) .1 .0) .window .ends, ((c .before .before .before .before .before .before .before .before .before .before .before .before .before .before .before .before .before .before .before .before .before .before .pre) .1 .0) .window .small), omega (arith, ((c .before .before .before .before .before .before .before .before .before .before .before .before .before .before .before .before .before .before .before .before .before .before .pre) .1 .0) .window .ends, (c .before .before .before .before .before .close-arc) .kept .0, (c .before .before .before .before .before .before .before .before .before .before .before .inner-row) .kept .1 .1 .1 .1 .1 .1 .1 .1 .0, room-one ((c .before .before .before .before .before .before .before .before .before .before .before .before .before .before .before .before .before .before .before .before .before .before .pre) .1 .1 .1 .0), part-length (length ((c .before .before .before .before .before .before .before .before .before .before .before .before .before .before .before .before .before .before .before .before .before .before .args) .p .now) + 1) ((c .before .before .before .before .before .close-arc) .last .0) (omega (arith, (c .before .before .before .before .before .close-arc) .kept .0, (c .before .before .before .before .before .before .before .before .before .before .before .inner-row) .kept .1 .1 .1 .1 .1 .1 .1 .1 .0, room-one ((c .before .before .before .before .before .before .before .before .before .before .before .before .before .before .before .before .before .before .before .before .before .before .pre) .1 .1 .1 .0))))))
-
-inner-row-add-prepend-3 : (t : ℕ) → inner-row-lts.Need-add-prepend-3 (
-  heaviest-reads.Asked,
-  heaviest-reads.Learnt,
-  identity-reads.Asked,
-  identity-reads.Learnt,
-  prepend-below t,
-  prepend.Post,
-  mate-reads.Asked,
-  mate-reads.Learnt,
-  inner-row-below t,
-  inner-row.Post,
-  close-arc-reads.Asked,
-  close-arc-reads.Learnt,
-  combine-into-reads.Asked,
-  combine-into-reads.Learnt,
-) (inner-row-at t) inner-row.Post
-inner-row-add-prepend-3 t c = let A = (around (((c .before .before .before .before .before .before .before .before .before .before .before .before .before .before .before .before .before .before .before .before .before .before .before .before .before .pre) .1 .0) .molecule) ((c .before .before .before .before .before .before .before .before .before .before .before .before .before .before .before .before .before .before .before .before .before .before .before .before .before .pre) .1 .1 .0 .0) ((c .before .before .before .before .before .before .before .before .before .before .before .before .before .before .before .before .before .before .before .before .before .before .before .before .before .pre) .1 .1 .0 .1 .0) ((c .before .before .before .before .before .before .before .before .before .before .before .before .before .before .before .before .before .before .before .before .before .before .before .before .before .pre) .1 .1 .0 .1 .1) ((c .before .before .before .before .before .before .before .before .before .before .before .before .before .before .before .before .before .before .heaviest) .ensures) ((c .before .before .before .before .before .before .before .before .before .before .before .before .before .before .before .before .before .if1) .left) ((c .before .before .before .before .before .before .before .before .before .before .before .before .before .before .before .before .mate) .ensures)) in omega (arith, A .inside, ((c .before .before .before .before .before .before .before .before .before .before .before .before .before .before .before .before .before .before .before .before .before .before .before .before .before .pre) .1 .0) .short)
-
-inner-row-prepend-requires-3 : (t : ℕ) → inner-row-lts.Need-prepend-requires-3 (
-  heaviest-reads.Asked,
-  heaviest-reads.Learnt,
-  identity-reads.Asked,
-  identity-reads.Learnt,
-  prepend-below t,
-  prepend.Post,
-  mate-reads.Asked,
-  mate-reads.Learnt,
-  inner-row-below t,
-  inner-row.Post,
-  close-arc-reads.Asked,
-  close-arc-reads.Learnt,
-  combine-into-reads.Asked,
-  combine-into-reads.Learnt,
-) (inner-row-at t) inner-row.Post
-inner-row-prepend-requires-3 t c κs = let A = (around (((c .before .before .before .before .before .before .before .before .before .before .before .before .before .before .before .before .before .before .before .before .before .before .before .before .before .pre) .1 .0) .molecule) ((c .before .before .before .before .before .before .before .before .before .before .before .before .before .before .before .before .before .before .before .before .before .before .before .before .before .pre) .1 .1 .0 .0) ((c .before .before .before .before .before .before .before .before .before .before .before .before .before .before .before .before .before .before .before .before .before .before .before .before .before .pre) .1 .1 .0 .1 .0) ((c .before .before .before .before .before .before .before .before .before .before .before .before .before .before .before .before .before .before .before .before .before .before .before .before .before .pre) .1 .1 .0 .1 .1) ((c .before .before .before .before .before .before .before .before .before .before .before .before .before .before .before .before .before .before .heaviest) .ensures) ((c .before .before .before .before .before .before .before .before .before .before .before .before .before .before .before .before .before .if1) .left) ((c .before .before .before .before .before .before .before .before .before .before .before .before .before .before .before .before .mate) .ensures)) in (omega (arith, (c .before .before .before .before .before .before .before .before .before .before .before .before .before .before .before .before .before .before .before .before .before .before .before .before .before .pre) .0, A .low, A .up, A .end), (((c .before .before .before .before .before .before .before .before .before .before .before .before .before .before .before .before .before .before .before .before .before .before .before .before .before .pre) .1 .0), (omega (arith, A .end, ((c .before .before .before .before .before .before .before .before .before .before .before .before .before .before .before .before .before .before .before .before .before .before .before .before .before .pre) .1 .1 .0 .1 .0)), (A .right, (light-at (room-past _ _ _ ((c .before .before .before .before .before .before .before .before .before .before .before .before .before .before .before .before .before .before .before .before .before .before .before .before .before .pre) .1 .1 .1 .0) (A .light-r) ((c .before .before .before .before .before .before .before .before .before .before .before .before .before .before .before .before .before .before .before .before .before .before .before .before .before .pre) .1 .1 .0 .0)) (omega (arith, (c .before .before .identity2) .kept .0, part-length (length ((c .before .before .before .before .before .before .before .before .before .before .before .before .before .before .before .before .before .before .before .before .before .before .before .before .before .args) .p .now) + 1) ((c .before .before .before .before .before .before .before .before .close-arc) .last .0) (omega (arith, (c .before .before .before .before .before .before .before .before .close-arc) .kept .0, (c .before .before .before .before .before .before .before .before .before .before .before .before .before .before .inner-row) .kept .1 .1 .1 .1 .1 .1 .1 .1 .0, room-one ((c .before .before .before .before .before .before .before .before .before .before .before .before .before .before .before .before .before .before .before .before .before .before .before .before .before .pre) .1 .1 .1 .0))), (c .before .before .before .before .before .before .before .before .close-arc) .kept .0, (c .before .before .before .before .before .before .before .before .before .before .before .before .before .before .inner-row) .kept .1 .1 .1 .1 .1 .1 .1 .1 .0, room-one ((c .before .before .before .before .before .before .before .before .before .before .before .before .before .before .before .before .before .before .before .before .before .before .before .before .before .pre) .1 .1 .1 .0))), ((c .before .before .before .before .before .before .before .before .before .before .before .before .before .before .before .before .before .before .before .before .before .before .before .before .before .pre) .1 .1 .1 .1))))))
-
-inner-row-combine-into-requires : (t : ℕ) → inner-row-lts.Need-combine-into-requires (
-  heaviest-reads.Asked,
-  heaviest-reads.Learnt,
-  identity-reads.Asked,
-  identity-reads.Learnt,
-  prepend-below t,
-  prepend.Post,
-  mate-reads.Asked,
-  mate-reads.Learnt,
-  inner-row-below t,
-  inner-row.Post,
-  close-arc-reads.Asked,
-  close-arc-reads.Learnt,
-  combine-into-reads.Asked,
-  combine-into-reads.Learnt,
-) (inner-row-at t) inner-row.Post
-inner-row-combine-into-requires t c κs = ((((c .before .before .before .before .before .before .before .before .before .before .before .before .before .before .before .before .before .before .before .before .before .before .before .before .before .before .before .before .before .pre) .1 .0) .window .order, (omega (arith, ((c .before .before .before .before .before .before .before .before .before .before .before .before .before .before .before .before .before .before .before .before .before .before .before .before .before .before .before .before .before .pre) .1 .0) .window .ends, ((c .before .before .before .before .before .before .before .before .before .before .before .before .before .before .before .before .before .before .before .before .before .before .before .before .before .before .before .before .before .pre) .1 .0) .window .small), (omega (arith, ((c .before .before .before .before .before .before .before .before .before .before .before .before .before .before .before .before .before .before .before .before .before .before .before .before .before .before .before .before .before .pre) .1 .0) .window .ends), omega (arith, ((c .before .before .before .before .before .before .before .before .before .before .before .before .before .before .before .before .before .before .before .before .before .before .before .before .before .before .before .before .before .pre) .1 .0) .window .ends, (c .before .before .before .before .before .before .before .before .before .before .before .before .close-arc) .kept .0, (c .before .before .before .before .before .before .before .before .before .before .before .before .before .before .before .before .before .before .inner-row) .kept .1 .1 .1 .1 .1 .1 .1 .1 .0, room-one ((c .before .before .before .before .before .before .before .before .before .before .before .before .before .before .before .before .before .before .before .before .before .before .before .before .before .before .before .before .before .pre) .1 .1 .1 .0), back-length (length ((c .before .before .before .before .before .before .before .before .before .before .before .before .before .before .before .before .before .before .before .before .before .before .before .before .before .before .before .before .before .args) .p .now) + 1) ((c .before .before .before .before .before .before .before .before .before .before .before .before .close-arc) .last .0) (omega (arith, (c .before .before .before .before .before .before .before .before .before .before .before .before .close-arc) .kept .0, (c .before .before .before .before .before .before .before .before .before .before .before .before .before .before .before .before .before .before .inner-row) .kept .1 .1 .1 .1 .1 .1 .1 .1 .0, room-one ((c .before .before .before .before .before .before .before .before .before .before .before .before .before .before .before .before .before .before .before .before .before .before .before .before .before .before .before .before .before .pre) .1 .1 .1 .0))) ((c .before .before .before .prepend3) .last .1 .1 .1 .1 .1 .1 .1 .1 .0) ((c .before .before .before .prepend3) .kept .1 .1 .1 .1 .1 .1 .1 .1 .0 ∙ (c .before .before .before .before .before .before .identity2) .kept .0))))), range-under (length ((c .before .before .before .before .before .before .before .before .before .before .before .before .before .before .before .before .before .before .before .before .before .before .before .before .before .before .before .before .before .args) .p .now) + 1) ((c .before .before .before .before .before .before .before .before .before .before .before .before .close-arc) .last .0) ((c .before .before .before .prepend3) .last .1 .1 .1 .1 .1 .1 .1 .1 .0) (omega (arith, (c .before .before .before .before .before .before .before .before .before .before .before .before .close-arc) .kept .0, (c .before .before .before .before .before .before .before .before .before .before .before .before .before .before .before .before .before .before .inner-row) .kept .1 .1 .1 .1 .1 .1 .1 .1 .0, room-one ((c .before .before .before .before .before .before .before .before .before .before .before .before .before .before .before .before .before .before .before .before .before .before .before .before .before .before .before .before .before .pre) .1 .1 .1 .0))) (omega (arith, ((c .before .before .before .before .before .before .before .before .before .before .before .before .before .before .before .before .before .before .before .before .before .before .before .before .before .before .before .before .before .pre) .1 .0) .window .ends)) (closed-row _ _ ((c .before .before .before .before .before .before .before .before .before .before .before .before .before .before .before .before .before .before .before .before .before .before .before .before .before .before .before .before .before .pre) .1 .0) ((around (((c .before .before .before .before .before .before .before .before .before .before .before .before .before .before .before .before .before .before .before .before .before .before .before .before .before .before .before .before .before .pre) .1 .0) .molecule) ((c .before .before .before .before .before .before .before .before .before .before .before .before .before .before .before .before .before .before .before .before .before .before .before .before .before .before .before .before .before .pre) .1 .1 .0 .0) ((c .before .before .before .before .before .before .before .before .before .before .before .before .before .before .before .before .before .before .before .before .before .before .before .before .before .before .before .before .before .pre) .1 .1 .0 .1 .0) ((c .before .before .before .before .before .before .before .before .before .before .before .before .before .before .before .before .before .before .before .before .before .before .before .before .before .before .before .before .before .pre) .1 .1 .0 .1 .1) ((c .before .before .before .before .before .before .before .before .before .before .before .before .before .before .before .before .before .before .before .before .before .before .heaviest) .ensures) ((c .before .before .before .before .before .before .before .before .before .before .before .before .before .before .before .before .before .before .before .before .before .if1) .left) ((c .before .before .before .before .before .before .before .before .before .before .before .before .before .before .before .before .before .before .before .before .mate) .ensures)) .up) ((around (((c .before .before .before .before .before .before .before .before .before .before .before .before .before .before .before .before .before .before .before .before .before .before .before .before .before .before .before .before .before .pre) .1 .0) .molecule) ((c .before .before .before .before .before .before .before .before .before .before .before .before .before .before .before .before .before .before .before .before .before .before .before .before .before .before .before .before .before .pre) .1 .1 .0 .0) ((c .before .before .before .before .before .before .before .before .before .before .before .before .before .before .before .before .before .before .before .before .before .before .before .before .before .before .before .before .before .pre) .1 .1 .0 .1 .0) ((c .before .before .before .before .before .before .before .before .before .before .before .before .before .before .before .before .before .before .before .before .before .before .before .before .before .before .before .before .before .pre) .1 .1 .0 .1 .1) ((c .before .before .before .before .before .before .before .before .before .before .before .before .before .before .before .before .before .before .before .before .before .before .heaviest) .ensures) ((c .before .before .before .before .before .before .before .before .before .before .before .before .before .before .before .before .before .before .before .before .before .if1) .left) ((c .before .before .before .before .before .before .before .before .before .before .before .before .before .before .before .before .before .before .before .before .mate) .ensures)) .inside) ((around (((c .before .before .before .before .before .before .before .before .before .before .before .before .before .before .before .before .before .before .before .before .before .before .before .before .before .before .before .before .before .pre) .1 .0) .molecule) ((c .before .before .before .before .before .before .before .before .before .before .before .before .before .before .before .before .before .before .before .before .before .before .before .before .before .before .before .before .before .pre) .1 .1 .0 .0) ((c .before .before .before .before .before .before .before .before .before .before .before .before .before .before .before .before .before .before .before .before .before .before .before .before .before .before .before .before .before .pre) .1 .1 .0 .1 .0) ((c .before .before .before .before .before .before .before .before .before .before .before .before .before .before .before .before .before .before .before .before .before .before .before .before .before .before .before .before .before .pre) .1 .1 .0 .1 .1) ((c .before .before .before .before .before .before .before .before .before .before .before .before .before .before .before .before .before .before .before .before .before .before .heaviest) .ensures) ((c .before .before .before .before .before .before .before .before .before .before .before .before .before .before .before .before .before .before .before .before .before .if1) .left) ((c .before .before .before .before .before .before .before .before .before .before .before .before .before .before .before .before .before .before .before .before .mate) .ensures)) .mate) ((c .before .before .before .before .before .before .before .before .before .before .before .before .before .before .before .before .before .before .inner-row) .ensures) ((c .before .before .before .before .before .before .before .before .before .before .before .before .close-arc) .ensures)))
-
-inner-row-add-prepend-4 : (t : ℕ) → inner-row-lts.Need-add-prepend-4 (
-  heaviest-reads.Asked,
-  heaviest-reads.Learnt,
-  identity-reads.Asked,
-  identity-reads.Learnt,
-  prepend-below t,
-  prepend.Post,
-  mate-reads.Asked,
-  mate-reads.Learnt,
-  inner-row-below t,
-  inner-row.Post,
-  close-arc-reads.Asked,
-  close-arc-reads.Learnt,
-  combine-into-reads.Asked,
-  combine-into-reads.Learnt,
-) (inner-row-at t) inner-row.Post
-inner-row-add-prepend-4 t c = omega (arith, ((c .before .before .before .before .before .before .before .before .before .before .before .before .before .before .before .before .before .before .before .before .before .before .before .before .before .before .before .before .before .before .before .before .pre) .1 .0) .short, ((c .before .before .before .before .before .before .before .before .before .before .before .before .before .before .before .before .before .before .before .before .before .before .before .before .before .before .before .before .before .before .before .before .pre) .1 .1 .0 .0), ((c .before .before .before .before .before .before .before .before .before .before .before .before .before .before .before .before .before .before .before .before .before .before .before .before .before .before .before .before .before .before .before .before .pre) .1 .1 .0 .1 .0))
-
-inner-row-prepend-requires-4 : (t : ℕ) → inner-row-lts.Need-prepend-requires-4 (
-  heaviest-reads.Asked,
-  heaviest-reads.Learnt,
-  identity-reads.Asked,
-  identity-reads.Learnt,
-  prepend-below t,
-  prepend.Post,
-  mate-reads.Asked,
-  mate-reads.Learnt,
-  inner-row-below t,
-  inner-row.Post,
-  close-arc-reads.Asked,
-  close-arc-reads.Learnt,
-  combine-into-reads.Asked,
-  combine-into-reads.Learnt,
-) (inner-row-at t) inner-row.Post
-inner-row-prepend-requires-4 t c κs = let A = (around (((c .before .before .before .before .before .before .before .before .before .before .before .before .before .before .before .before .before .before .before .before .before .before .before .before .before .before .before .before .before .before .before .before .before .pre) .1 .0) .molecule) ((c .before .before .before .before .before .before .before .before .before .before .before .before .before .before .before .before .before .before .before .before .before .before .before .before .before .before .before .before .before .before .before .before .before .pre) .1 .1 .0 .0) ((c .before .before .before .before .before .before .before .before .before .before .before .before .before .before .before .before .before .before .before .before .before .before .before .before .before .before .before .before .before .before .before .before .before .pre) .1 .1 .0 .1 .0) ((c .before .before .before .before .before .before .before .before .before .before .before .before .before .before .before .before .before .before .before .before .before .before .before .before .before .before .before .before .before .before .before .before .before .pre) .1 .1 .0 .1 .1) ((c .before .before .before .before .before .before .before .before .before .before .before .before .before .before .before .before .before .before .before .before .before .before .before .before .before .before .heaviest) .ensures) ((c .before .before .before .before .before .before .before .before .before .before .before .before .before .before .before .before .before .before .before .before .before .before .before .before .before .if1) .left) ((c .before .before .before .before .before .before .before .before .before .before .before .before .before .before .before .before .before .before .before .before .before .before .before .before .mate) .ensures)) in (omega (arith, (c .before .before .before .before .before .before .before .before .before .before .before .before .before .before .before .before .before .before .before .before .before .before .before .before .before .before .before .before .before .before .before .before .before .pre) .0, A .low, A .up, A .end), (((c .before .before .before .before .before .before .before .before .before .before .before .before .before .before .before .before .before .before .before .before .before .before .before .before .before .before .before .before .before .before .before .before .before .pre) .1 .0), (omega (arith, A .low, A .up, A .end, ((c .before .before .before .before .before .before .before .before .before .before .before .before .before .before .before .before .before .before .before .before .before .before .before .before .before .before .before .before .before .before .before .before .before .pre) .1 .1 .0 .1 .0)), (A .left, (light-at (room-light _ _ _ ((c .before .before .before .before .before .before .before .before .before .before .before .before .before .before .before .before .before .before .before .before .before .before .before .before .before .before .before .before .before .before .before .before .before .pre) .1 .1 .1 .0) (A .light-l) ((c .before .before .before .before .before .before .before .before .before .before .before .before .before .before .before .before .before .before .before .before .before .before .before .before .before .before .before .before .before .before .before .before .before .pre) .1 .1 .0 .0)) (omega (arith, (c .before .before .before .combine-into) .kept .0, (c .before .before .before .before .before .before .before .before .before .before .before .before .before .before .before .before .close-arc) .kept .0, (c .before .before .before .before .before .before .before .before .before .before .before .before .before .before .before .before .before .before .before .before .before .before .inner-row) .kept .1 .1 .1 .1 .1 .1 .1 .1 .0, room-one ((c .before .before .before .before .before .before .before .before .before .before .before .before .before .before .before .before .before .before .before .before .before .before .before .before .before .before .before .before .before .before .before .before .before .pre) .1 .1 .1 .0), back-length (length ((c .before .before .before .before .before .before .before .before .before .before .before .before .before .before .before .before .before .before .before .before .before .before .before .before .before .before .before .before .before .before .before .before .before .args) .p .now) + 1) ((c .before .before .before .before .before .before .before .before .before .before .before .before .before .before .before .before .close-arc) .last .0) (omega (arith, (c .before .before .before .before .before .before .before .before .before .before .before .before .before .before .before .before .close-arc) .kept .0, (c .before .before .before .before .before .before .before .before .before .before .before .before .before .before .before .before .before .before .before .before .before .before .inner-row) .kept .1 .1 .1 .1 .1 .1 .1 .1 .0, room-one ((c .before .before .before .before .before .before .before .before .before .before .before .before .before .before .before .before .before .before .before .before .before .before .before .before .before .before .before .before .before .before .before .before .before .pre) .1 .1 .1 .0))) ((c .before .before .before .before .before .before .before .prepend3) .last .1 .1 .1 .1 .1 .1 .1 .1 .0) ((c .before .before .before .before .before .before .before .prepend3) .kept .1 .1 .1 .1 .1 .1 .1 .1 .0 ∙ (c .before .before .before .before .before .before .before .before .before .before .identity2) .kept .0))), ((c .before .before .before .before .before .before .before .before .before .before .before .before .before .before .before .before .before .before .before .before .before .before .before .before .before .before .before .before .before .before .before .before .before .pre) .1 .1 .1 .1))))))
-
-inner-row-same-length-3 : (t : ℕ) → inner-row-lts.Need-same-length-3 (
-  heaviest-reads.Asked,
-  heaviest-reads.Learnt,
-  identity-reads.Asked,
-  identity-reads.Learnt,
-  prepend-below t,
-  prepend.Post,
-  mate-reads.Asked,
-  mate-reads.Learnt,
-  inner-row-below t,
-  inner-row.Post,
-  close-arc-reads.Asked,
-  close-arc-reads.Learnt,
-  combine-into-reads.Asked,
-  combine-into-reads.Learnt,
-) (inner-row-at t) inner-row.Post
-inner-row-same-length-3 t c = (c .before .before .prepend4) .kept .1 .1 .1 .1 .1 .1 .1 .1 .0 ∙ omega (arith, (c .before .before .before .before .before .before .combine-into) .kept .0, (c .before .before .before .before .before .before .before .before .before .before .before .before .before .before .before .before .before .before .before .close-arc) .kept .0, (c .before .before .before .before .before .before .before .before .before .before .before .before .before .before .before .before .before .before .before .before .before .before .before .before .before .inner-row) .kept .1 .1 .1 .1 .1 .1 .1 .1 .0, room-one ((c .before .before .before .before .before .before .before .before .before .before .before .before .before .before .before .before .before .before .before .before .before .before .before .before .before .before .before .before .before .before .before .before .before .before .before .before .pre) .1 .1 .1 .0), back-length (length ((c .before .before .before .before .before .before .before .before .before .before .before .before .before .before .before .before .before .before .before .before .before .before .before .before .before .before .before .before .before .before .before .before .before .before .before .before .args) .p .now) + 1) ((c .before .before .before .before .before .before .before .before .before .before .before .before .before .before .before .before .before .before .before .close-arc) .last .0) (omega (arith, (c .before .before .before .before .before .before .before .before .before .before .before .before .before .before .before .before .before .before .before .close-arc) .kept .0, (c .before .before .before .before .before .before .before .before .before .before .before .before .before .before .before .before .before .before .before .before .before .before .before .before .before .inner-row) .kept .1 .1 .1 .1 .1 .1 .1 .1 .0, room-one ((c .before .before .before .before .before .before .before .before .before .before .before .before .before .before .before .before .before .before .before .before .before .before .before .before .before .before .before .before .before .before .before .before .before .before .before .before .pre) .1 .1 .1 .0))) ((c .before .before .before .before .before .before .before .before .before .before .prepend3) .last .1 .1 .1 .1 .1 .1 .1 .1 .0) ((c .before .before .before .before .before .before .before .before .before .before .prepend3) .kept .1 .1 .1 .1 .1 .1 .1 .1 .0 ∙ (c .before .before .before .before .before .before .before .before .before .before .before .before .before .identity2) .kept .0))
+inner-row-same-length-2 t c = (c .before .before .prepend2) .kept .1 .1 .1 .1 .1 .1 .1 .1 .0 ∙ (c .before .before .before .before .before .before .before .close-arc) .kept .0 ∙ (c .before .before .before .before .before .before .before .before .before .before .before .before .before .inner-row) .kept .1 .1 .1 .1 .1 .1 .1 .1 .1 .0
 
 inner-row-returns-3 : (t : ℕ) → inner-row-lts.Need-returns-3 (
   heaviest-reads.Asked,
@@ -585,7 +387,223 @@ inner-row-returns-3 : (t : ℕ) → inner-row-lts.Need-returns-3 (
   combine-into-reads.Asked,
   combine-into-reads.Learnt,
 ) (inner-row-at t) inner-row.Post
-inner-row-returns-3 t c = prepended-row ((around (((c .before .before .before .before .before .before .before .before .before .before .before .before .before .before .before .before .before .before .before .before .before .before .before .before .before .before .before .before .before .before .before .before .before .before .before .before .pre) .1 .0) .molecule) ((c .before .before .before .before .before .before .before .before .before .before .before .before .before .before .before .before .before .before .before .before .before .before .before .before .before .before .before .before .before .before .before .before .before .before .before .before .pre) .1 .1 .0 .0) ((c .before .before .before .before .before .before .before .before .before .before .before .before .before .before .before .before .before .before .before .before .before .before .before .before .before .before .before .before .before .before .before .before .before .before .before .before .pre) .1 .1 .0 .1 .0) ((c .before .before .before .before .before .before .before .before .before .before .before .before .before .before .before .before .before .before .before .before .before .before .before .before .before .before .before .before .before .before .before .before .before .before .before .before .pre) .1 .1 .0 .1 .1) ((c .before .before .before .before .before .before .before .before .before .before .before .before .before .before .before .before .before .before .before .before .before .before .before .before .before .before .before .before .before .heaviest) .ensures) ((c .before .before .before .before .before .before .before .before .before .before .before .before .before .before .before .before .before .before .before .before .before .before .before .before .before .before .before .before .if1) .left) ((c .before .before .before .before .before .before .before .before .before .before .before .before .before .before .before .before .before .before .before .before .before .before .before .before .before .before .before .mate) .ensures)) .low) (omega (arith, (around (((c .before .before .before .before .before .before .before .before .before .before .before .before .before .before .before .before .before .before .before .before .before .before .before .before .before .before .before .before .before .before .before .before .before .before .before .before .pre) .1 .0) .molecule) ((c .before .before .before .before .before .before .before .before .before .before .before .before .before .before .before .before .before .before .before .before .before .before .before .before .before .before .before .before .before .before .before .before .before .before .before .before .pre) .1 .1 .0 .0) ((c .before .before .before .before .before .before .before .before .before .before .before .before .before .before .before .before .before .before .before .before .before .before .before .before .before .before .before .before .before .before .before .before .before .before .before .before .pre) .1 .1 .0 .1 .0) ((c .before .before .before .before .before .before .before .before .before .before .before .before .before .before .before .before .before .before .before .before .before .before .before .before .before .before .before .before .before .before .before .before .before .before .before .before .pre) .1 .1 .0 .1 .1) ((c .before .before .before .before .before .before .before .before .before .before .before .before .before .before .before .before .before .before .before .before .before .before .before .before .before .before .before .before .before .heaviest) .ensures) ((c .before .before .before .before .before .before .before .before .before .before .before .before .before .before .before .before .before .before .before .before .before .before .before .before .before .before .before .before .if1) .left) ((c .before .before .before .before .before .before .before .before .before .before .before .before .before .before .before .before .before .before .before .before .before .before .before .before .before .before .before .mate) .ensures)) .up, (around (((c .before .before .before .before .before .before .before .before .before .before .before .before .before .before .before .before .before .before .before .before .before .before .before .before .before .before .before .before .before .before .before .before .before .before .before .before .pre) .1 .0) .molecule) ((c .before .before .before .before .before .before .before .before .before .before .before .before .before .before .before .before .before .before .before .before .before .before .before .before .before .before .before .before .before .before .before .before .before .before .before .before .pre) .1 .1 .0 .0) ((c .before .before .before .before .before .before .before .before .before .before .before .before .before .before .before .before .before .before .before .before .before .before .before .before .before .before .before .before .before .before .before .before .before .before .before .before .pre) .1 .1 .0 .1 .0) ((c .before .before .before .before .before .before .before .before .before .before .before .before .before .before .before .before .before .before .before .before .before .before .before .before .before .before .before .before .before .before .before .before .before .before .before .before .pre) .1 .1 .0 .1 .1) ((c .before .before .before .before .before .before .before .before .before .before .before .before .before .before .before .before .before .before .before .before .before .before .before .before .before .before .before .before .before .heaviest) .ensures) ((c .before .before .before .before .before .before .before .before .before .before .before .before .before .before .before .before .before .before .before .before .before .before .before .before .before .before .before .before .if1) .left) ((c .before .before .before .before .before .before .before .before .before .before .before .before .before .before .before .before .before .before .before .before .before .before .before .before .before .before .before .mate) .ensures)) .end)) ((around (((c .before .before .before .before .before .before .before .before .before .before .before .before .before .before .before .before .before .before .before .before .before .before .before .before .before .before .before .before .before .before .before .before .before .before .before .before .pre) .1 .0) .molecule) ((c .before .before .before .before .before .before .before .before .before .before .before .before .before .before .before .before .before .before .before .before .before .before .before .before .before .before .before .before .before .before .before .before .before .before .before .before .pre) .1 .1 .0 .0) ((c .before .before .before .before .before .before .before .before .before .before .before .before .before .before .before .before .before .before .before .before .before .before .before .before .before .before .before .before .before .before .before .before .before .before .before .before .pre) .1 .1 .0 .1 .0) ((c .before .before .before .before .before .before .before .before .before .before .before .before .before .before .before .before .before .before .before .before .before .before .before .before .before .before .before .before .before .before .before .before .before .before .before .before .pre) .1 .1 .0 .1 .1) ((c .before .before .before .before .before .before .before .before .before .before .before .before .before .before .before .before .before .before .before .before .before .before .before .before .before .before .before .before .before .heaviest) .ensures) ((c .before .before .before .before .before .before .before .before .before .before .before .before .before .before .before .before .before .before .before .before .before .before .before .before .before .before .before .before .if1) .left) ((c .before .before .before .before .before .before .before .before .before .before .before .before .before .before .before .before .before .before .before .before .before .before .before .before .before .before .before .mate) .ensures)) .split-l) (combine-row (omega (arith, (around (((c .before .before .before .before .before .before .before .before .before .before .before .before .before .before .before .before .before .before .before .before .before .before .before .before .before .before .before .before .before .before .before .before .before .before .before .before .pre) .1 .0) .molecule) ((c .before .before .before .before .before .before .before .before .before .before .before .before .before .before .before .before .before .before .before .before .before .before .before .before .before .before .before .before .before .before .before .before .before .before .before .before .pre) .1 .1 .0 .0) ((c .before .before .before .before .before .before .before .before .before .before .before .before .before .before .before .before .before .before .before .before .before .before .before .before .before .before .before .before .before .before .before .before .before .before .before .before .pre) .1 .1 .0 .1 .0) ((c .before .before .before .before .before .before .before .before .before .before .before .before .before .before .before .before .before .before .before .before .before .before .before .before .before .before .before .before .before .before .before .before .before .before .before .before .pre) .1 .1 .0 .1 .1) ((c .before .before .before .before .before .before .before .before .before .before .before .before .before .before .before .before .before .before .before .before .before .before .before .before .before .before .before .before .before .heaviest) .ensures) ((c .before .before .before .before .before .before .before .before .before .before .before .before .before .before .before .before .before .before .before .before .before .before .before .before .before .before .before .before .if1) .left) ((c .before .before .before .before .before .before .before .before .before .before .before .before .before .before .before .before .before .before .before .before .before .before .before .before .before .before .before .mate) .ensures)) .up)) (omega (arith, (around (((c .before .before .before .before .before .before .before .before .before .before .before .before .before .before .before .before .before .before .before .before .before .before .before .before .before .before .before .before .before .before .before .before .before .before .before .before .pre) .1 .0) .molecule) ((c .before .before .before .before .before .before .before .before .before .before .before .before .before .before .before .before .before .before .before .before .before .before .before .before .before .before .before .before .before .before .before .before .before .before .before .before .pre) .1 .1 .0 .0) ((c .before .before .before .before .before .before .before .before .before .before .before .before .before .before .before .before .before .before .before .before .before .before .before .before .before .before .before .before .before .before .before .before .before .before .before .before .pre) .1 .1 .0 .1 .0) ((c .before .before .before .before .before .before .before .before .before .before .before .before .before .before .before .before .before .before .before .before .before .before .before .before .before .before .before .before .before .before .before .before .before .before .before .before .pre) .1 .1 .0 .1 .1) ((c .before .before .before .before .before .before .before .before .before .before .before .before .before .before .before .before .before .before .before .before .before .before .before .before .before .before .before .before .before .heaviest) .ensures) ((c .before .before .before .before .before .before .before .before .before .before .before .before .before .before .before .before .before .before .before .before .before .before .before .before .before .before .before .before .if1) .left) ((c .before .before .before .before .before .before .before .before .before .before .before .before .before .before .before .before .before .before .before .before .before .before .before .before .before .before .before .mate) .ensures)) .end)) ((around (((c .before .before .before .before .before .before .before .before .before .before .before .before .before .before .before .before .before .before .before .before .before .before .before .before .before .before .before .before .before .before .before .before .before .before .before .before .pre) .1 .0) .molecule) ((c .before .before .before .before .before .before .before .before .before .before .before .before .before .before .before .before .before .before .before .before .before .before .before .before .before .before .before .before .before .before .before .before .before .before .before .before .pre) .1 .1 .0 .0) ((c .before .before .before .before .before .before .before .before .before .before .before .before .before .before .before .before .before .before .before .before .before .before .before .before .before .before .before .before .before .before .before .before .before .before .before .before .pre) .1 .1 .0 .1 .0) ((c .before .before .before .before .before .before .before .before .before .before .before .before .before .before .before .before .before .before .before .before .before .before .before .before .before .before .before .before .before .before .before .before .before .before .before .before .pre) .1 .1 .0 .1 .1) ((c .before .before .before .before .before .before .before .before .before .before .before .before .before .before .before .before .before .before .before .before .before .before .before .before .before .before .before .before .before .heaviest) .ensures) ((c .before .before .before .before .before .before .before .before .before .before .before .before .before .before .before .before .before .before .before .before .before .before .before .before .before .before .before .before .if1) .left) ((c .before .before .before .before .before .before .before .before .before .before .before .before .before .before .before .before .before .before .before .before .before .before .before .before .before .before .before .mate) .ensures)) .split-r) (closed-row _ _ ((c .before .before .before .before .before .before .before .before .before .before .before .before .before .before .before .before .before .before .before .before .before .before .before .before .before .before .before .before .before .before .before .before .before .before .before .before .pre) .1 .0) ((around (((c .before .before .before .before .before .before .before .before .before .before .before .before .before .before .before .before .before .before .before .before .before .before .before .before .before .before .before .before .before .before .before .before .before .before .before .before .pre) .1 .0) .molecule) ((c .before .before .before .before .before .before .before .before .before .before .before .before .before .before .before .before .before .before .before .before .before .before .before .before .before .before .before .before .before .before .before .before .before .before .before .before .pre) .1 .1 .0 .0) ((c .before .before .before .before .before .before .before .before .before .before .before .before .before .before .before .before .before .before .before .before .before .before .before .before .before .before .before .before .before .before .before .before .before .before .before .before .pre) .1 .1 .0 .1 .0) ((c .before .before .before .before .before .before .before .before .before .before .before .before .before .before .before .before .before .before .before .before .before .before .before .before .before .before .before .before .before .before .before .before .before .before .before .before .pre) .1 .1 .0 .1 .1) ((c .before .before .before .before .before .before .before .before .before .before .before .before .before .before .before .before .before .before .before .before .before .before .before .before .before .before .before .before .before .heaviest) .ensures) ((c .before .before .before .before .before .before .before .before .before .before .before .before .before .before .before .before .before .before .before .before .before .before .before .before .before .before .before .before .if1) .left) ((c .before .before .before .before .before .before .before .before .before .before .before .before .before .before .before .before .before .before .before .before .before .before .before .before .before .before .before .mate) .ensures)) .up) ((around (((c .before .before .before .before .before .before .before .before .before .before .before .before .before .before .before .before .before .before .before .before .before .before .before .before .before .before .before .before .before .before .before .before .before .before .before .before .pre) .1 .0) .molecule) ((c .before .before .before .before .before .before .before .before .before .before .before .before .before .before .before .before .before .before .before .before .before .before .before .before .before .before .before .before .before .before .before .before .before .before .before .before .pre) .1 .1 .0 .0) ((c .before .before .before .before .before .before .before .before .before .before .before .before .before .before .before .before .before .before .before .before .before .before .before .before .before .before .before .before .before .before .before .before .before .before .before .before .pre) .1 .1 .0 .1 .0) ((c .before .before .before .before .before .before .before .before .before .before .before .before .before .before .before .before .before .before .before .before .before .before .before .before .before .before .before .before .before .before .before .before .before .before .before .before .pre) .1 .1 .0 .1 .1) ((c .before .before .before .before .before .before .before .before .before .before .before .before .before .before .before .before .before .before .before .before .before .before .before .before .before .before .before .before .before .heaviest) .ensures) ((c .before .before .before .before .before .before .before .before .before .before .before .before .before .before .before .before .before .before .before .before .before .before .before .before .before .before .before .before .if1) .left) ((c .before .before .before .before .before .before .before .before .before .before .before .before .before .before .before .before .before .before .before .before .before .before .before .before .before .before .before .mate) .ensures)) .inside) ((around (((c .before .before .before .before .before .before .before .before .before .before .before .before .before .before .before .before .before .before .before .before .before .before .before .before .before .before .before .before .before .before .before .before .before .before .before .before .pre) .1 .0) .molecule) ((c .before .before .before .before .before .before .before .before .before .before .before .before .before .before .before .before .before .before .before .before .before .before .before .before .before .before .before .before .before .before .before .before .before .before .before .before .pre) .1 .1 .0 .0) ((c .before .before .before .before .before .before .before .before .before .before .before .before .before .before .before .before .before .before .before .before .before .before .before .before .before .before .before .before .before .before .before .before .before .before .before .before .pre) .1 .1 .0 .1 .0) ((c .before .before .before .before .before .before .before .before .before .before .before .before .before .before .before .before .before .before .before .before .before .before .before .before .before .before .before .before .before .before .before .before .before .before .before .before .pre) .1 .1 .0 .1 .1) ((c .before .before .before .before .before .before .before .before .before .before .before .before .before .before .before .before .before .before .before .before .before .before .before .before .before .before .before .before .before .heaviest) .ensures) ((c .before .before .before .before .before .before .before .before .before .before .before .before .before .before .before .before .before .before .before .before .before .before .before .before .before .before .before .before .if1) .left) ((c .before .before .before .before .before .before .before .before .before .before .before .before .before .before .before .before .before .before .before .before .before .before .before .before .before .before .before .mate) .ensures)) .mate) ((c .before .before .before .before .before .before .before .before .before .before .before .before .before .before .before .before .before .before .before .before .before .before .before .before .before .inner-row) .ensures) ((c .before .before .before .before .before .before .before .before .before .before .before .before .before .before .before .before .before .before .before .close-arc) .ensures)) (fresh-row (λ j a b. (c .before .before .before .before .before .before .before .before .before .before .before .before .before .identity2) .ensures .done j a (omega arith)) ((c .before .before .before .before .before .before .before .before .before .before .prepend3) .ensures)) (looked-into ((c .before .before .before .before .before .before .before .before .before .before .before .before .before .before .before .before .before .before .before .before .before .before .before .before .before .before .before .before .before .before .before .before .before .before .before .before .args) .from) ((c .before .before .before .before .before .before .before .before .before .before .before .before .before .before .before .before .before .before .before .before .before .before .before .before .before .before .before .before .before .before .before .before .before .before .before .before .args) .to) (length ((c .before .before .before .before .before .before .before .before .before .before .before .before .before .before .before .before .before .before .before .before .before .before .before .before .before .before .before .before .before .before .before .before .before .before .before .before .args) .p .now) + 1) ((c .before .before .before .before .before .before .before .before .before .before .before .before .before .before .before .before .before .before .before .close-arc) .last .0) ((c .before .before .before .before .before .before .before .before .before .before .prepend3) .last .1 .1 .1 .1 .1 .1 .1 .1 .0) ((c .before .before .before .before .before .before .combine-into) .last .0) (omega (arith, (c .before .before .before .before .before .before .before .before .before .before .before .before .before .before .before .before .before .before .before .close-arc) .kept .0, (c .before .before .before .before .before .before .before .before .before .before .before .before .before .before .before .before .before .before .before .before .before .before .before .before .before .inner-row) .kept .1 .1 .1 .1 .1 .1 .1 .1 .0, room-one ((c .before .before .before .before .before .before .before .before .before .before .before .before .before .before .before .before .before .before .before .before .before .before .before .before .before .before .before .before .before .before .before .before .before .before .before .before .pre) .1 .1 .1 .0))) (omega (arith, ((c .before .before .before .before .before .before .before .before .before .before .before .before .before .before .before .before .before .before .before .before .before .before .before .before .before .before .before .before .before .before .before .before .before .before .before .before .pre) .1 .0) .window .ends)) ((c .before .before .before .before .before .before .combine-into) .ensures))) ((c .before .before .prepend4) .ensures)
+inner-row-returns-3 t c = let A = (around (((c .before .before .before .before .before .before .before .before .before .before .before .before .before .before .before .before .before .before .before .before .before .before .before .before .before .pre) .1 .0) .molecule) ((c .before .before .before .before .before .before .before .before .before .before .before .before .before .before .before .before .before .before .before .before .before .before .before .before .before .pre) .1 .1 .0 .0) ((c .before .before .before .before .before .before .before .before .before .before .before .before .before .before .before .before .before .before .before .before .before .before .before .before .before .pre) .1 .1 .0 .1 .0) ((c .before .before .before .before .before .before .before .before .before .before .before .before .before .before .before .before .before .before .before .before .before .before .before .before .before .pre) .1 .1 .0 .1 .1) ((c .before .before .before .before .before .before .before .before .before .before .before .before .before .before .before .before .before .heaviest) .ensures) ((c .before .before .before .before .before .before .before .before .before .before .before .before .before .before .before .before .if2) .left) ((c .before .before .before .before .before .before .before .before .before .before .before .before .before .before .before .mate) .ensures)) in prepended-row (A .low) (omega (arith, A .up, A .end)) (A .split-l) (arc-front _ _ ((c .before .before .before .before .before .before .before .before .before .before .before .before .before .before .before .before .before .before .before .before .before .before .before .before .before .args) .r) (omega (arith, A .end, (c .before .before .before .before .if3) .taken)) ((c .before .before .before .before .before .before .before .before .before .before .before .before .before .before .before .before .before .before .before .before .before .before .before .before .before .pre) .1 .0) (A .up) (A .inside) (A .mate) ((c .before .before .before .before .before .before .before .before .before .before .before .before .before .inner-row) .ensures) ((c .before .before .before .before .before .before .before .close-arc) .ensures)) ((c .before .before .prepend2) .ensures)
+
+inner-row-mul-part : (t : ℕ) → inner-row-lts.Need-mul-part (
+  heaviest-reads.Asked,
+  heaviest-reads.Learnt,
+  identity-reads.Asked,
+  identity-reads.Learnt,
+  prepend-below t,
+  prepend.Post,
+  mate-reads.Asked,
+  mate-reads.Learnt,
+  inner-row-below t,
+  inner-row.Post,
+  close-arc-reads.Asked,
+  close-arc-reads.Learnt,
+  combine-into-reads.Asked,
+  combine-into-reads.Learnt,
+) (inner-row-at t) inner-row.Post
+inner-row-mul-part t c = omega (arith, (c .before .before .before .before .before .before .before .before .before .before .before .before .before .before .before .before .before .before .before .before .before .pre) .1 .0 .window .small)
+
+inner-row-sub-part : (t : ℕ) → inner-row-lts.Need-sub-part (
+  heaviest-reads.Asked,
+  heaviest-reads.Learnt,
+  identity-reads.Asked,
+  identity-reads.Learnt,
+  prepend-below t,
+  prepend.Post,
+  mate-reads.Asked,
+  mate-reads.Learnt,
+  inner-row-below t,
+  inner-row.Post,
+  close-arc-reads.Asked,
+  close-arc-reads.Learnt,
+  combine-into-reads.Asked,
+  combine-into-reads.Learnt,
+) (inner-row-at t) inner-row.Post
+inner-row-sub-part t c = omega (arith, (c .before .before .before .close-arc) .kept .0, (c .before .before .before .before .before .before .before .before .before .inner-row) .kept .1 .1 .1 .1 .1 .1 .1 .1 .1 .0, room-one ((c .before .before .before .before .before .before .before .before .before .before .before .before .before .before .before .before .before .before .before .before .before .pre) .1 .1 .1 .0))
+
+inner-row-part-part-start : (t : ℕ) → inner-row-lts.Need-part-part-start (
+  heaviest-reads.Asked,
+  heaviest-reads.Learnt,
+  identity-reads.Asked,
+  identity-reads.Learnt,
+  prepend-below t,
+  prepend.Post,
+  mate-reads.Asked,
+  mate-reads.Learnt,
+  inner-row-below t,
+  inner-row.Post,
+  close-arc-reads.Asked,
+  close-arc-reads.Learnt,
+  combine-into-reads.Asked,
+  combine-into-reads.Learnt,
+) (inner-row-at t) inner-row.Post
+inner-row-part-part-start t c = omega (arith, (c .before .before .before .close-arc) .kept .0, (c .before .before .before .before .before .before .before .before .before .inner-row) .kept .1 .1 .1 .1 .1 .1 .1 .1 .1 .0, room-one ((c .before .before .before .before .before .before .before .before .before .before .before .before .before .before .before .before .before .before .before .before .before .pre) .1 .1 .1 .0))
+
+inner-row-part-part-end : (t : ℕ) → inner-row-lts.Need-part-part-end (
+  heaviest-reads.Asked,
+  heaviest-reads.Learnt,
+  identity-reads.Asked,
+  identity-reads.Learnt,
+  prepend-below t,
+  prepend.Post,
+  mate-reads.Asked,
+  mate-reads.Learnt,
+  inner-row-below t,
+  inner-row.Post,
+  close-arc-reads.Asked,
+  close-arc-reads.Learnt,
+  combine-into-reads.Asked,
+  combine-into-reads.Learnt,
+) (inner-row-at t) inner-row.Post
+inner-row-part-part-end t c = omega (arith, (c .before .before .before .close-arc) .kept .0, (c .before .before .before .before .before .before .before .before .before .inner-row) .kept .1 .1 .1 .1 .1 .1 .1 .1 .1 .0, room-one ((c .before .before .before .before .before .before .before .before .before .before .before .before .before .before .before .before .before .before .before .before .before .pre) .1 .1 .1 .0))
+
+inner-row-identity-requires-2 : (t : ℕ) → inner-row-lts.Need-identity-requires-2 (
+  heaviest-reads.Asked,
+  heaviest-reads.Learnt,
+  identity-reads.Asked,
+  identity-reads.Learnt,
+  prepend-below t,
+  prepend.Post,
+  mate-reads.Asked,
+  mate-reads.Learnt,
+  inner-row-below t,
+  inner-row.Post,
+  close-arc-reads.Asked,
+  close-arc-reads.Learnt,
+  combine-into-reads.Asked,
+  combine-into-reads.Learnt,
+) (inner-row-at t) inner-row.Post
+inner-row-identity-requires-2 t c κs = (((c .before .before .before .before .before .before .before .before .before .before .before .before .before .before .before .before .before .before .before .before .before .before .before .pre) .1 .0) .window .order, (omega (arith, ((c .before .before .before .before .before .before .before .before .before .before .before .before .before .before .before .before .before .before .before .before .before .before .before .pre) .1 .0) .window .ends, ((c .before .before .before .before .before .before .before .before .before .before .before .before .before .before .before .before .before .before .before .before .before .before .before .pre) .1 .0) .window .small), omega (arith, ((c .before .before .before .before .before .before .before .before .before .before .before .before .before .before .before .before .before .before .before .before .before .before .before .pre) .1 .0) .window .ends, (c .before .before .before .before .before .close-arc) .kept .0, (c .before .before .before .before .before .before .before .before .before .before .before .inner-row) .kept .1 .1 .1 .1 .1 .1 .1 .1 .1 .0, room-one ((c .before .before .before .before .before .before .before .before .before .before .before .before .before .before .before .before .before .before .before .before .before .before .before .pre) .1 .1 .1 .0), part-length (length ((c .before .before .before .before .before .before .before .before .before .before .before .before .before .before .before .before .before .before .before .before .before .before .before .args) .p .now) + 1) ((c .before .before .before .before .before .close-arc) .last .0) (omega (arith, (c .before .before .before .before .before .close-arc) .kept .0, (c .before .before .before .before .before .before .before .before .before .before .before .inner-row) .kept .1 .1 .1 .1 .1 .1 .1 .1 .1 .0, room-one ((c .before .before .before .before .before .before .before .before .before .before .before .before .before .before .before .before .before .before .before .before .before .before .before .pre) .1 .1 .1 .0))))))
+
+inner-row-add-prepend-3 : (t : ℕ) → inner-row-lts.Need-add-prepend-3 (
+  heaviest-reads.Asked,
+  heaviest-reads.Learnt,
+  identity-reads.Asked,
+  identity-reads.Learnt,
+  prepend-below t,
+  prepend.Post,
+  mate-reads.Asked,
+  mate-reads.Learnt,
+  inner-row-below t,
+  inner-row.Post,
+  close-arc-reads.Asked,
+  close-arc-reads.Learnt,
+  combine-into-reads.Asked,
+  combine-into-reads.Learnt,
+) (inner-row-at t) inner-row.Post
+inner-row-add-prepend-3 t c = let A = (around (((c .before .before .before .before .before .before .before .before .before .before .before .before .before .before .before .before .before .before .before .before .before .before .before .before .before .before .pre) .1 .0) .molecule) ((c .before .before .before .before .before .before .before .before .before .before .before .before .before .before .before .before .before .before .before .before .before .before .before .before .before .before .pre) .1 .1 .0 .0) ((c .before .before .before .before .before .before .before .before .before .before .before .before .before .before .before .before .before .before .before .before .before .before .before .before .before .before .pre) .1 .1 .0 .1 .0) ((c .before .before .before .before .before .before .before .before .before .before .before .before .before .before .before .before .before .before .before .before .before .before .before .before .before .before .pre) .1 .1 .0 .1 .1) ((c .before .before .before .before .before .before .before .before .before .before .before .before .before .before .before .before .before .before .heaviest) .ensures) ((c .before .before .before .before .before .before .before .before .before .before .before .before .before .before .before .before .before .if2) .left) ((c .before .before .before .before .before .before .before .before .before .before .before .before .before .before .before .before .mate) .ensures)) in omega (arith, A .inside, ((c .before .before .before .before .before .before .before .before .before .before .before .before .before .before .before .before .before .before .before .before .before .before .before .before .before .before .pre) .1 .0) .short)
+
+inner-row-prepend-requires-3 : (t : ℕ) → inner-row-lts.Need-prepend-requires-3 (
+  heaviest-reads.Asked,
+  heaviest-reads.Learnt,
+  identity-reads.Asked,
+  identity-reads.Learnt,
+  prepend-below t,
+  prepend.Post,
+  mate-reads.Asked,
+  mate-reads.Learnt,
+  inner-row-below t,
+  inner-row.Post,
+  close-arc-reads.Asked,
+  close-arc-reads.Learnt,
+  combine-into-reads.Asked,
+  combine-into-reads.Learnt,
+) (inner-row-at t) inner-row.Post
+inner-row-prepend-requires-3 t c κs = let A = (around (((c .before .before .before .before .before .before .before .before .before .before .before .before .before .before .before .before .before .before .before .before .before .before .before .before .before .before .pre) .1 .0) .molecule) ((c .before .before .before .before .before .before .before .before .before .before .before .before .before .before .before .before .before .before .before .before .before .before .before .before .before .before .pre) .1 .1 .0 .0) ((c .before .before .before .before .before .before .before .before .before .before .before .before .before .before .before .before .before .before .before .before .before .before .before .before .before .before .pre) .1 .1 .0 .1 .0) ((c .before .before .before .before .before .before .before .before .before .before .before .before .before .before .before .before .before .before .before .before .before .before .before .before .before .before .pre) .1 .1 .0 .1 .1) ((c .before .before .before .before .before .before .before .before .before .before .before .before .before .before .before .before .before .before .heaviest) .ensures) ((c .before .before .before .before .before .before .before .before .before .before .before .before .before .before .before .before .before .if2) .left) ((c .before .before .before .before .before .before .before .before .before .before .before .before .before .before .before .before .mate) .ensures)) in (omega (arith, (c .before .before .before .before .before .before .before .before .before .before .before .before .before .before .before .before .before .before .before .before .before .before .before .before .before .before .pre) .0, A .low, A .up, A .end), (((c .before .before .before .before .before .before .before .before .before .before .before .before .before .before .before .before .before .before .before .before .before .before .before .before .before .before .pre) .1 .0), (omega (arith, A .end, ((c .before .before .before .before .before .before .before .before .before .before .before .before .before .before .before .before .before .before .before .before .before .before .before .before .before .before .pre) .1 .1 .0 .1 .0)), (A .right, (light-at (room-past _ _ _ ((c .before .before .before .before .before .before .before .before .before .before .before .before .before .before .before .before .before .before .before .before .before .before .before .before .before .before .pre) .1 .1 .1 .0) (A .light-r) ((c .before .before .before .before .before .before .before .before .before .before .before .before .before .before .before .before .before .before .before .before .before .before .before .before .before .before .pre) .1 .1 .0 .0)) (omega (arith, (c .before .before .identity2) .kept .0, part-length (length ((c .before .before .before .before .before .before .before .before .before .before .before .before .before .before .before .before .before .before .before .before .before .before .before .before .before .before .args) .p .now) + 1) ((c .before .before .before .before .before .before .before .before .close-arc) .last .0) (omega (arith, (c .before .before .before .before .before .before .before .before .close-arc) .kept .0, (c .before .before .before .before .before .before .before .before .before .before .before .before .before .before .inner-row) .kept .1 .1 .1 .1 .1 .1 .1 .1 .1 .0, room-one ((c .before .before .before .before .before .before .before .before .before .before .before .before .before .before .before .before .before .before .before .before .before .before .before .before .before .before .pre) .1 .1 .1 .0))), (c .before .before .before .before .before .before .before .before .close-arc) .kept .0, (c .before .before .before .before .before .before .before .before .before .before .before .before .before .before .inner-row) .kept .1 .1 .1 .1 .1 .1 .1 .1 .1 .0, room-one ((c .before .before .before .before .before .before .before .before .before .before .before .before .before .before .before .before .before .before .before .before .before .before .before .before .before .before .pre) .1 .1 .1 .0))), ((c .before .before .before .before .before .before .before .before .before .before .before .before .before .before .before .before .before .before .before .before .before .before .before .before .before .before .pre) .1 .1 .1 .1 .0))))))
+
+inner-row-combine-into-requires : (t : ℕ) → inner-row-lts.Need-combine-into-requires (
+  heaviest-reads.Asked,
+  heaviest-reads.Learnt,
+  identity-reads.Asked,
+  identity-reads.Learnt,
+  prepend-below t,
+  prepend.Post,
+  mate-reads.Asked,
+  mate-reads.Learnt,
+  inner-row-below t,
+  inner-row.Post,
+  close-arc-reads.Asked,
+  close-arc-reads.Learnt,
+  combine-into-reads.Asked,
+  combine-into-reads.Learnt,
+) (inner-row-at t) inner-row.Post
+inner-row-combine-into-requires t c κs = ((((c .before .before .before .before .before .before .before .before .before .before .before .before .before .before .before .before .before .before .before .before .before .before .before .before .before .before .before .before .before .before .pre) .1 .0) .window .order, (omega (arith, ((c .before .before .before .before .before .before .before .before .before .before .before .before .before .before .before .before .before .before .before .before .before .before .before .before .before .before .before .before .before .before .pre) .1 .0) .window .ends, ((c .before .before .before .before .before .before .before .before .before .before .before .before .before .before .before .before .before .before .before .before .before .before .before .before .before .before .before .before .before .before .pre) .1 .0) .window .small), (omega (arith, ((c .before .before .before .before .before .before .before .before .before .before .before .before .before .before .before .before .before .before .before .before .before .before .before .before .before .before .before .before .before .before .pre) .1 .0) .window .ends), omega (arith, ((c .before .before .before .before .before .before .before .before .before .before .before .before .before .before .before .before .before .before .before .before .before .before .before .before .before .before .before .before .before .before .pre) .1 .0) .window .ends, (c .before .before .before .before .before .before .before .before .before .before .before .before .close-arc) .kept .0, (c .before .before .before .before .before .before .before .before .before .before .before .before .before .before .before .before .before .before .inner-row) .kept .1 .1 .1 .1 .1 .1 .1 .1 .1 .0, room-one ((c .before .before .before .before .before .before .before .before .before .before .before .before .before .before .before .before .before .before .before .before .before .before .before .before .before .before .before .before .before .before .pre) .1 .1 .1 .0), back-length (length ((c .before .before .before .before .before .before .before .before .before .before .before .before .before .before .before .before .before .before .before .before .before .before .before .before .before .before .before .before .before .before .args) .p .now) + 1) ((c .before .before .before .before .before .before .before .before .before .before .before .before .close-arc) .last .0) (omega (arith, (c .before .before .before .before .before .before .before .before .before .before .before .before .close-arc) .kept .0, (c .before .before .before .before .before .before .before .before .before .before .before .before .before .before .before .before .before .before .inner-row) .kept .1 .1 .1 .1 .1 .1 .1 .1 .1 .0, room-one ((c .before .before .before .before .before .before .before .before .before .before .before .before .before .before .before .before .before .before .before .before .before .before .before .before .before .before .before .before .before .before .pre) .1 .1 .1 .0))) ((c .before .before .before .prepend3) .last .1 .1 .1 .1 .1 .1 .1 .1 .0) ((c .before .before .before .prepend3) .kept .1 .1 .1 .1 .1 .1 .1 .1 .0 ∙ (c .before .before .before .before .before .before .identity2) .kept .0))))), range-under (length ((c .before .before .before .before .before .before .before .before .before .before .before .before .before .before .before .before .before .before .before .before .before .before .before .before .before .before .before .before .before .before .args) .p .now) + 1) ((c .before .before .before .before .before .before .before .before .before .before .before .before .close-arc) .last .0) ((c .before .before .before .prepend3) .last .1 .1 .1 .1 .1 .1 .1 .1 .0) (omega (arith, (c .before .before .before .before .before .before .before .before .before .before .before .before .close-arc) .kept .0, (c .before .before .before .before .before .before .before .before .before .before .before .before .before .before .before .before .before .before .inner-row) .kept .1 .1 .1 .1 .1 .1 .1 .1 .1 .0, room-one ((c .before .before .before .before .before .before .before .before .before .before .before .before .before .before .before .before .before .before .before .before .before .before .before .before .before .before .before .before .before .before .pre) .1 .1 .1 .0))) (omega (arith, ((c .before .before .before .before .before .before .before .before .before .before .before .before .before .before .before .before .before .before .before .before .before .before .before .before .before .before .before .before .before .before .pre) .1 .0) .window .ends)) (closed-row _ _ ((c .before .before .before .before .before .before .before .before .before .before .before .before .before .before .before .before .before .before .before .before .before .before .before .before .before .before .before .before .before .before .pre) .1 .0) ((around (((c .before .before .before .before .before .before .before .before .before .before .before .before .before .before .before .before .before .before .before .before .before .before .before .before .before .before .before .before .before .before .pre) .1 .0) .molecule) ((c .before .before .before .before .before .before .before .before .before .before .before .before .before .before .before .before .before .before .before .before .before .before .before .before .before .before .before .before .before .before .pre) .1 .1 .0 .0) ((c .before .before .before .before .before .before .before .before .before .before .before .before .before .before .before .before .before .before .before .before .before .before .before .before .before .before .before .before .before .before .pre) .1 .1 .0 .1 .0) ((c .before .before .before .before .before .before .before .before .before .before .before .before .before .before .before .before .before .before .before .before .before .before .before .before .before .before .before .before .before .before .pre) .1 .1 .0 .1 .1) ((c .before .before .before .before .before .before .before .before .before .before .before .before .before .before .before .before .before .before .before .before .before .before .heaviest) .ensures) ((c .before .before .before .before .before .before .before .before .before .before .before .before .before .before .before .before .before .before .before .before .before .if2) .left) ((c .before .before .before .before .before .before .before .before .before .before .before .before .before .before .before .before .before .before .before .before .mate) .ensures)) .up) ((around (((c .before .before .before .before .before .before .before .before .before .before .before .before .before .before .before .before .before .before .before .before .before .before .before .before .before .before .before .before .before .before .pre) .1 .0) .molecule) ((c .before .before .before .before .before .before .before .before .before .before .before .before .before .before .before .before .before .before .before .before .before .before .before .before .before .before .before .before .before .before .pre) .1 .1 .0 .0) ((c .before .before .before .before .before .before .before .before .before .before .before .before .before .before .before .before .before .before .before .before .before .before .before .before .before .before .before .before .before .before .pre) .1 .1 .0 .1 .0) ((c .before .before .before .before .before .before .before .before .before .before .before .before .before .before .before .before .before .before .before .before .before .before .before .before .before .before .before .before .before .before .pre) .1 .1 .0 .1 .1) ((c .before .before .before .before .before .before .before .before .before .before .before .before .before .before .before .before .before .before .before .before .before .before .heaviest) .ensures) ((c .before .before .before .before .before .before .before .before .before .before .before .before .before .before .before .before .before .before .before .before .before .if2) .left) ((c .before .before .before .before .before .before .before .before .before .before .before .before .before .before .before .before .before .before .before .before .mate) .ensures)) .inside) ((around (((c .before .before .before .before .before .before .before .before .before .before .before .before .before .before .before .before .before .before .before .before .before .before .before .before .before .before .before .before .before .before .pre) .1 .0) .molecule) ((c .before .before .before .before .before .before .before .before .before .before .before .before .before .before .before .before .before .before .before .before .before .before .before .before .before .before .before .before .before .before .pre) .1 .1 .0 .0) ((c .before .before .before .before .before .before .before .before .before .before .before .before .before .before .before .before .before .before .before .before .before .before .before .before .before .before .before .before .before .before .pre) .1 .1 .0 .1 .0) ((c .before .before .before .before .before .before .before .before .before .before .before .before .before .before .before .before .before .before .before .before .before .before .before .before .before .before .before .before .before .before .pre) .1 .1 .0 .1 .1) ((c .before .before .before .before .before .before .before .before .before .before .before .before .before .before .before .before .before .before .before .before .before .before .heaviest) .ensures) ((c .before .before .before .before .before .before .before .before .before .before .before .before .before .before .before .before .before .before .before .before .before .if2) .left) ((c .before .before .before .before .before .before .before .before .before .before .before .before .before .before .before .before .before .before .before .before .mate) .ensures)) .mate) ((c .before .before .before .before .before .before .before .before .before .before .before .before .before .before .before .before .before .before .inner-row) .ensures) ((c .before .before .before .before .before .before .before .before .before .before .before .before .close-arc) .ensures)))
+
+inner-row-add-prepend-4 : (t : ℕ) → inner-row-lts.Need-add-prepend-4 (
+  heaviest-reads.Asked,
+  heaviest-reads.Learnt,
+  identity-reads.Asked,
+  identity-reads.Learnt,
+  prepend-below t,
+  prepend.Post,
+  mate-reads.Asked,
+  mate-reads.Learnt,
+  inner-row-below t,
+  inner-row.Post,
+  close-arc-reads.Asked,
+  close-arc-reads.Learnt,
+  combine-into-reads.Asked,
+  combine-into-reads.Learnt,
+) (inner-row-at t) inner-row.Post
+inner-row-add-prepend-4 t c = omega (arith, ((c .before .before .before .before .before .before .before .before .before .before .before .before .before .before .before .before .before .before .before .before .before .before .before .before .before .before .before .before .before .before .before .before .before .pre) .1 .0) .short, ((c .before .before .before .before .before .before .before .before .before .before .before .before .before .before .before .before .before .before .before .before .before .before .before .before .before .before .before .before .before .before .before .before .before .pre) .1 .1 .0 .0), ((c .before .before .before .before .before .before .before .before .before .before .before .before .before .before .before .before .before .before .before .before .before .before .before .before .before .before .before .before .before .before .before .before .before .pre) .1 .1 .0 .1 .0))
+
+inner-row-prepend-requires-4 : (t : ℕ) → inner-row-lts.Need-prepend-requires-4 (
+  heaviest-reads.Asked,
+  heaviest-reads.Learnt,
+  identity-reads.Asked,
+  identity-reads.Learnt,
+  prepend-below t,
+  prepend.Post,
+  mate-reads.Asked,
+  mate-reads.Learnt,
+  inner-row-below t,
+  inner-row.Post,
+  close-arc-reads.Asked,
+  close-arc-reads.Learnt,
+  combine-into-reads.Asked,
+  combine-into-reads.Learnt,
+) (inner-row-at t) inner-row.Post
+inner-row-prepend-requires-4 t c κs = let A = (around (((c .before .before .before .before .before .before .before .before .before .before .before .before .before .before .before .before .before .before .before .before .before .before .before .before .before .before .before .before .before .before .before .before .before .before .pre) .1 .0) .molecule) ((c .before .before .before .before .before .before .before .before .before .before .before .before .before .before .before .before .before .before .before .before .before .before .before .before .before .before .before .before .before .before .before .before .before .before .pre) .1 .1 .0 .0) ((c .before .before .before .before .before .before .before .before .before .before .before .before .before .before .before .before .before .before .before .before .before .before .before .before .before .before .before .before .before .before .before .before .before .before .pre) .1 .1 .0 .1 .0) ((c .before .before .before .before .before .before .before .before .before .before .before .before .before .before .before .before .before .before .before .before .before .before .before .before .before .before .before .before .before .before .before .before .before .before .pre) .1 .1 .0 .1 .1) ((c .before .before .before .before .before .before .before .before .before .before .before .before .before .before .before .before .before .before .before .before .before .before .before .before .before .before .heaviest) .ensures) ((c .before .before .before .before .before .before .before .before .before .before .before .before .before .before .before .before .before .before .before .before .before .before .before .before .before .if2) .left) ((c .before .before .before .before .before .before .before .before .before .before .before .before .before .before .before .before .before .before .before .before .before .before .before .before .mate) .ensures)) in (omega (arith, (c .before .before .before .before .before .before .before .before .before .before .before .before .before .before .before .before .before .before .before .before .before .before .before .before .before .before .before .before .before .before .before .before .before .before .pre) .0, A .low, A .up, A .end), (((c .before .before .before .before .before .before .before .before .before .before .before .before .before .before .before .before .before .before .before .before .before .before .before .before .before .before .before .before .before .before .before .before .before .before .pre) .1 .0), (omega (arith, A .low, A .up, A .end, ((c .before .before .before .before .before .before .before .before .before .before .before .before .before .before .before .before .before .before .before .before .before .before .before .before .before .before .before .before .before .before .before .before .before .before .pre) .1 .1 .0 .1 .0)), (A .left, (light-at (room-light _ _ _ ((c .before .before .before .before .before .before .before .before .before .before .before .before .before .before .before .before .before .before .before .before .before .before .before .before .before .before .before .before .before .before .before .before .before .before .pre) .1 .1 .1 .0) (A .light-l) ((c .before .before .before .before .before .before .before .before .before .before .before .before .before .before .before .before .before .before .before .before .before .before .before .before .before .before .before .before .before .before .before .before .before .before .pre) .1 .1 .0 .0)) (omega (arith, (c .before .before .before .combine-into) .kept .0, (c .before .before .before .before .before .before .before .before .before .before .before .before .before .before .before .before .close-arc) .kept .0, (c .before .before .before .before .before .before .before .before .before .before .before .before .before .before .before .before .before .before .before .before .before .before .inner-row) .kept .1 .1 .1 .1 .1 .1 .1 .1 .1 .0, room-one ((c .before .before .before .before .before .before .before .before .before .before .before .before .before .before .before .before .before .before .before .before .before .before .before .before .before .before .before .before .before .before .before .before .before .before .pre) .1 .1 .1 .0), back-length (length ((c .before .before .before .before .before .before .before .before .before .before .before .before .before .before .before .before .before .before .before .before .before .before .before .before .before .before .before .before .before .before .before .before .before .before .args) .p .now) + 1) ((c .before .before .before .before .before .before .before .before .before .before .before .before .before .before .before .before .close-arc) .last .0) (omega (arith, (c .before .before .before .before .before .before .before .before .before .before .before .before .before .before .before .before .close-arc) .kept .0, (c .before .before .before .before .before .before .before .before .before .before .before .before .before .before .before .before .before .before .before .before .before .before .inner-row) .kept .1 .1 .1 .1 .1 .1 .1 .1 .1 .0, room-one ((c .before .before .before .before .before .before .before .before .before .before .before .before .before .before .before .before .before .before .before .before .before .before .before .before .before .before .before .before .before .before .before .before .before .before .pre) .1 .1 .1 .0))) ((c .before .before .before .before .before .before .before .prepend3) .last .1 .1 .1 .1 .1 .1 .1 .1 .0) ((c .before .before .before .before .before .before .before .prepend3) .kept .1 .1 .1 .1 .1 .1 .1 .1 .0 ∙ (c .before .before .before .before .before .before .before .before .before .before .identity2) .kept .0))), ((c .before .before .before .before .before .before .before .before .before .before .before .before .before .before .before .before .before .before .before .before .before .before .before .before .before .before .before .before .before .before .before .before .before .before .pre) .1 .1 .1 .1 .0))))))
+
+inner-row-same-length-3 : (t : ℕ) → inner-row-lts.Need-same-length-3 (
+  heaviest-reads.Asked,
+  heaviest-reads.Learnt,
+  identity-reads.Asked,
+  identity-reads.Learnt,
+  prepend-below t,
+  prepend.Post,
+  mate-reads.Asked,
+  mate-reads.Learnt,
+  inner-row-below t,
+  inner-row.Post,
+  close-arc-reads.Asked,
+  close-arc-reads.Learnt,
+  combine-into-reads.Asked,
+  combine-into-reads.Learnt,
+) (inner-row-at t) inner-row.Post
+inner-row-same-length-3 t c = (c .before .before .prepend4) .kept .1 .1 .1 .1 .1 .1 .1 .1 .0 ∙ omega (arith, (c .before .before .before .before .before .before .combine-into) .kept .0, (c .before .before .before .before .before .before .before .before .before .before .before .before .before .before .before .before .before .before .before .close-arc) .kept .0, (c .before .before .before .before .before .before .before .before .before .before .before .before .before .before .before .before .before .before .before .before .before .before .before .before .before .inner-row) .kept .1 .1 .1 .1 .1 .1 .1 .1 .1 .0, room-one ((c .before .before .before .before .before .before .before .before .before .before .before .before .before .before .before .before .before .before .before .before .before .before .before .before .before .before .before .before .before .before .before .before .before .before .before .before .before .pre) .1 .1 .1 .0), back-length (length ((c .before .before .before .before .before .before .before .before .before .before .before .before .before .before .before .before .before .before .before .before .before .before .before .before .before .before .before .before .before .before .before .before .before .before .before .before .before .args) .p .now) + 1) ((c .before .before .before .before .before .before .before .before .before .before .before .before .before .before .before .before .before .before .before .close-arc) .last .0) (omega (arith, (c .before .before .before .before .before .before .before .before .before .before .before .before .before .before .before .before .before .before .before .close-arc) .kept .0, (c .before .before .before .before .before .before .before .before .before .before .before .before .before .before .before .before .before .before .before .before .before .before .before .before .before .inner-row) .kept .1 .1 .1 .1 .1 .1 .1 .1 .1 .0, room-one ((c .before .before .before .before .before .before .before .before .before .before .before .before .before .before .before .before .before .before .before .before .before .before .before .before .before .before .before .before .before .before .before .before .before .before .before .before .before .pre) .1 .1 .1 .0))) ((c .before .before .before .before .before .before .before .before .before .before .prepend3) .last .1 .1 .1 .1 .1 .1 .1 .1 .0) ((c .before .before .before .before .before .before .before .before .before .before .prepend3) .kept .1 .1 .1 .1 .1 .1 .1 .1 .0 ∙ (c .before .before .before .before .before .before .before .before .before .before .before .before .before .identity2) .kept .0))
+
+inner-row-returns-4 : (t : ℕ) → inner-row-lts.Need-returns-4 (
+  heaviest-reads.Asked,
+  heaviest-reads.Learnt,
+  identity-reads.Asked,
+  identity-reads.Learnt,
+  prepend-below t,
+  prepend.Post,
+  mate-reads.Asked,
+  mate-reads.Learnt,
+  inner-row-below t,
+  inner-row.Post,
+  close-arc-reads.Asked,
+  close-arc-reads.Learnt,
+  combine-into-reads.Asked,
+  combine-into-reads.Learnt,
+) (inner-row-at t) inner-row.Post
+inner-row-returns-4 t c = prepended-row ((around (((c .before .before .before .before .before .before .before .before .before .before .before .before .before .before .before .before .before .before .before .before .before .before .before .before .before .before .before .before .before .before .before .before .before .before .before .before .before .pre) .1 .0) .molecule) ((c .before .before .before .before .before .before .before .before .before .before .before .before .before .before .before .before .before .before .before .before .before .before .before .before .before .before .before .before .before .before .before .before .before .before .before .before .before .pre) .1 .1 .0 .0) ((c .before .before .before .before .before .before .before .before .before .before .before .before .before .before .before .before .before .before .before .before .before .before .before .before .before .before .before .before .before .before .before .before .before .before .before .before .before .pre) .1 .1 .0 .1 .0) ((c .before .before .before .before .before .before .before .before .before .before .before .before .before .before .before .before .before .before .before .before .before .before .before .before .before .before .before .before .before .before .before .before .before .before .before .before .before .pre) .1 .1 .0 .1 .1) ((c .before .before .before .before .before .before .before .before .before .before .before .before .before .before .before .before .before .before .before .before .before .before .before .before .before .before .before .before .before .heaviest) .ensures) ((c .before .before .before .before .before .before .before .before .before .before .before .before .before .before .before .before .before .before .before .before .before .before .before .before .before .before .before .before .if2) .left) ((c .before .before .before .before .before .before .before .before .before .before .before .before .before .before .before .before .before .before .before .before .before .before .before .before .before .before .before .mate) .ensures)) .low) (omega (arith, (around (((c .before .before .before .before .before .before .before .before .before .before .before .before .before .before .before .before .before .before .before .before .before .before .before .before .before .before .before .before .before .before .before .before .before .before .before .before .before .pre) .1 .0) .molecule) ((c .before .before .before .before .before .before .before .before .before .before .before .before .before .before .before .before .before .before .before .before .before .before .before .before .before .before .before .before .before .before .before .before .before .before .before .before .before .pre) .1 .1 .0 .0) ((c .before .before .before .before .before .before .before .before .before .before .before .before .before .before .before .before .before .before .before .before .before .before .before .before .before .before .before .before .before .before .before .before .before .before .before .before .before .pre) .1 .1 .0 .1 .0) ((c .before .before .before .before .before .before .before .before .before .before .before .before .before .before .before .before .before .before .before .before .before .before .before .before .before .before .before .before .before .before .before .before .before .before .before .before .before .pre) .1 .1 .0 .1 .1) ((c .before .before .before .before .before .before .before .before .before .before .before .before .before .before .before .before .before .before .before .before .before .before .before .before .before .before .before .before .before .heaviest) .ensures) ((c .before .before .before .before .before .before .before .before .before .before .before .before .before .before .before .before .before .before .before .before .before .before .before .before .before .before .before .before .if2) .left) ((c .before .before .before .before .before .before .before .before .before .before .before .before .before .before .before .before .before .before .before .before .before .before .before .before .before .before .before .mate) .ensures)) .up, (around (((c .before .before .before .before .before .before .before .before .before .before .before .before .before .before .before .before .before .before .before .before .before .before .before .before .before .before .before .before .before .before .before .before .before .before .before .before .before .pre) .1 .0) .molecule) ((c .before .before .before .before .before .before .before .before .before .before .before .before .before .before .before .before .before .before .before .before .before .before .before .before .before .before .before .before .before .before .before .before .before .before .before .before .before .pre) .1 .1 .0 .0) ((c .before .before .before .before .before .before .before .before .before .before .before .before .before .before .before .before .before .before .before .before .before .before .before .before .before .before .before .before .before .before .before .before .before .before .before .before .before .pre) .1 .1 .0 .1 .0) ((c .before .before .before .before .before .before .before .before .before .before .before .before .before .before .before .before .before .before .before .before .before .before .before .before .before .before .before .before .before .before .before .before .before .before .before .before .before .pre) .1 .1 .0 .1 .1) ((c .before .before .before .before .before .before .before .before .before .before .before .before .before .before .before .before .before .before .before .before .before .before .before .before .before .before .before .before .before .heaviest) .ensures) ((c .before .before .before .before .before .before .before .before .before .before .before .before .before .before .before .before .before .before .before .before .before .before .before .before .before .before .before .before .if2) .left) ((c .before .before .before .before .before .before .before .before .before .before .before .before .before .before .before .before .before .before .before .before .before .before .before .before .before .before .before .mate) .ensures)) .end)) ((around (((c .before .before .before .before .before .before .before .before .before .before .before .before .before .before .before .before .before .before .before .before .before .before .before .before .before .before .before .before .before .before .before .before .before .before .before .before .before .pre) .1 .0) .molecule) ((c .before .before .before .before .before .before .before .before .before .before .before .before .before .before .before .before .before .before .before .before .before .before .before .before .before .before .before .before .before .before .before .before .before .before .before .before .before .pre) .1 .1 .0 .0) ((c .before .before .before .before .before .before .before .before .before .before .before .before .before .before .before .before .before .before .before .before .before .before .before .before .before .before .before .before .before .before .before .before .before .before .before .before .before .pre) .1 .1 .0 .1 .0) ((c .before .before .before .before .before .before .before .before .before .before .before .before .before .before .before .before .before .before .before .before .before .before .before .before .before .before .before .before .before .before .before .before .before .before .before .before .before .pre) .1 .1 .0 .1 .1) ((c .before .before .before .before .before .before .before .before .before .before .before .before .before .before .before .before .before .before .before .before .before .before .before .before .before .before .before .before .before .heaviest) .ensures) ((c .before .before .before .before .before .before .before .before .before .before .before .before .before .before .before .before .before .before .before .before .before .before .before .before .before .before .before .before .if2) .left) ((c .before .before .before .before .before .before .before .before .before .before .before .before .before .before .before .before .before .before .before .before .before .before .before .before .before .before .before .mate) .ensures)) .split-l) (combine-row (omega (arith, (around (((c .before .before .before .before .before .before .before .before .before .before .before .before .before .before .before .before .before .before .before .before .before .before .before .before .before .before .before .before .before .before .before .before .before .before .before .before .before .pre) .1 .0) .molecule) ((c .before .before .before .before .before .before .before .before .before .before .before .before .before .before .before .before .before .before .before .before .before .before .before .before .before .before .before .before .before .before .before .before .before .before .before .before .before .pre) .1 .1 .0 .0) ((c .before .before .before .before .before .before .before .before .before .before .before .before .before .before .before .before .before .before .before .before .before .before .before .before .before .before .before .before .before .before .before .before .before .before .before .before .before .pre) .1 .1 .0 .1 .0) ((c .before .before .before .before .before .before .before .before .before .before .before .before .before .before .before .before .before .before .before .before .before .before .before .before .before .before .before .before .before .before .before .before .before .before .before .before .before .pre) .1 .1 .0 .1 .1) ((c .before .before .before .before .before .before .before .before .before .before .before .before .before .before .before .before .before .before .before .before .before .before .before .before .before .before .before .before .before .heaviest) .ensures) ((c .before .before .before .before .before .before .before .before .before .before .before .before .before .before .before .before .before .before .before .before .before .before .before .before .before .before .before .before .if2) .left) ((c .before .before .before .before .before .before .before .before .before .before .before .before .before .before .before .before .before .before .before .before .before .before .before .before .before .before .before .mate) .ensures)) .up)) (omega (arith, (around (((c .before .before .before .before .before .before .before .before .before .before .before .before .before .before .before .before .before .before .before .before .before .before .before .before .before .before .before .before .before .before .before .before .before .before .before .before .before .pre) .1 .0) .molecule) ((c .before .before .before .before .before .before .before .before .before .before .before .before .before .before .before .before .before .before .before .before .before .before .before .before .before .before .before .before .before .before .before .before .before .before .before .before .before .pre) .1 .1 .0 .0) ((c .before .before .before .before .before .before .before .before .before .before .before .before .before .before .before .before .before .before .before .before .before .before .before .before .before .before .before .before .before .before .before .before .before .before .before .before .before .pre) .1 .1 .0 .1 .0) ((c .before .before .before .before .before .before .before .before .before .before .before .before .before .before .before .before .before .before .before .before .before .before .before .before .before .before .before .before .before .before .before .before .before .before .before .before .before .pre) .1 .1 .0 .1 .1) ((c .before .before .before .before .before .before .before .before .before .before .before .before .before .before .before .before .before .before .before .before .before .before .before .before .before .before .before .before .before .heaviest) .ensures) ((c .before .before .before .before .before .before .before .before .before .before .before .before .before .before .before .before .before .before .before .before .before .before .before .before .before .before .before .before .if2) .left) ((c .before .before .before .before .before .before .before .before .before .before .before .before .before .before .before .before .before .before .before .before .before .before .before .before .before .before .before .mate) .ensures)) .end)) ((around (((c .before .before .before .before .before .before .before .before .before .before .before .before .before .before .before .before .before .before .before .before .before .before .before .before .before .before .before .before .before .before .before .before .before .before .before .before .before .pre) .1 .0) .molecule) ((c .before .before .before .before .before .before .before .before .before .before .before .before .before .before .before .before .before .before .before .before .before .before .before .before .before .before .before .before .before .before .before .before .before .before .before .before .before .pre) .1 .1 .0 .0) ((c .before .before .before .before .before .before .before .before .before .before .before .before .before .before .before .before .before .before .before .before .before .before .before .before .before .before .before .before .before .before .before .before .before .before .before .before .before .pre) .1 .1 .0 .1 .0) ((c .before .before .before .before .before .before .before .before .before .before .before .before .before .before .before .before .before .before .before .before .before .before .before .before .before .before .before .before .before .before .before .before .before .before .before .before .before .pre) .1 .1 .0 .1 .1) ((c .before .before .before .before .before .before .before .before .before .before .before .before .before .before .before .before .before .before .before .before .before .before .before .before .before .before .before .before .before .heaviest) .ensures) ((c .before .before .before .before .before .before .before .before .before .before .before .before .before .before .before .before .before .before .before .before .before .before .before .before .before .before .before .before .if2) .left) ((c .before .before .before .before .before .before .before .before .before .before .before .before .before .before .before .before .before .before .before .before .before .before .before .before .before .before .before .mate) .ensures)) .split-r) (closed-row _ _ ((c .before .before .before .before .before .before .before .before .before .before .before .before .before .before .before .before .before .before .before .before .before .before .before .before .before .before .before .before .before .before .before .before .before .before .before .before .before .pre) .1 .0) ((around (((c .before .before .before .before .before .before .before .before .before .before .before .before .before .before .before .before .before .before .before .before .before .before .before .before .before .before .before .before .before .before .before .before .before .before .before .before .before .pre) .1 .0) .molecule) ((c .before .before .before .before .before .before .before .before .before .before .before .before .before .before .before .before .before .before .before .before .before .before .before .before .before .before .before .before .before .before .before .before .before .before .before .before .before .pre) .1 .1 .0 .0) ((c .before .before .before .before .before .before .before .before .before .before .before .before .before .before .before .before .before .before .before .before .before .before .before .before .before .before .before .before .before .before .before .before .before .before .before .before .before .pre) .1 .1 .0 .1 .0) ((c .before .before .before .before .before .before .before .before .before .before .before .before .before .before .before .before .before .before .before .before .before .before .before .before .before .before .before .before .before .before .before .before .before .before .before .before .before .pre) .1 .1 .0 .1 .1) ((c .before .before .before .before .before .before .before .before .before .before .before .before .before .before .before .before .before .before .before .before .before .before .before .before .before .before .before .before .before .heaviest) .ensures) ((c .before .before .before .before .before .before .before .before .before .before .before .before .before .before .before .before .before .before .before .before .before .before .before .before .before .before .before .before .if2) .left) ((c .before .before .before .before .before .before .before .before .before .before .before .before .before .before .before .before .before .before .before .before .before .before .before .before .before .before .before .mate) .ensures)) .up) ((around (((c .before .before .before .before .before .before .before .before .before .before .before .before .before .before .before .before .before .before .before .before .before .before .before .before .before .before .before .before .before .before .before .before .before .before .before .before .before .pre) .1 .0) .molecule) ((c .before .before .before .before .before .before .before .before .before .before .before .before .before .before .before .before .before .before .before .before .before .before .before .before .before .before .before .before .before .before .before .before .before .before .before .before .before .pre) .1 .1 .0 .0) ((c .before .before .before .before .before .before .before .before .before .before .before .before .before .before .before .before .before .before .before .before .before .before .before .before .before .before .before .before .before .before .before .before .before .before .before .before .before .pre) .1 .1 .0 .1 .0) ((c .before .before .before .before .before .before .before .before .before .before .before .before .before .before .before .before .before .before .before .before .before .before .before .before .before .before .before .before .before .before .before .before .before .before .before .before .before .pre) .1 .1 .0 .1 .1) ((c .before .before .before .before .before .before .before .before .before .before .before .before .before .before .before .before .before .before .before .before .before .before .before .before .before .before .before .before .before .heaviest) .ensures) ((c .before .before .before .before .before .before .before .before .before .before .before .before .before .before .before .before .before .before .before .before .before .before .before .before .before .before .before .before .if2) .left) ((c .before .before .before .before .before .before .before .before .before .before .before .before .before .before .before .before .before .before .before .before .before .before .before .before .before .before .before .mate) .ensures)) .inside) ((around (((c .before .before .before .before .before .before .before .before .before .before .before .before .before .before .before .before .before .before .before .before .before .before .before .before .before .before .before .before .before .before .before .before .before .before .before .before .before .pre) .1 .0) .molecule) ((c .before .before .before .before .before .before .before .before .before .before .before .before .before .before .before .before .before .before .before .before .before .before .before .before .before .before .before .before .before .before .before .before .before .before .before .before .before .pre) .1 .1 .0 .0) ((c .before .before .before .before .before .before .before .before .before .before .before .before .before .before .before .before .before .before .before .before .before .before .before .before .before .before .before .before .before .before .before .before .before .before .before .before .before .pre) .1 .1 .0 .1 .0) ((c .before .before .before .before .before .before .before .before .before .before .before .before .before .before .before .before .before .before .before .before .before .before .before .before .before .before .before .before .before .before .before .before .before .before .before .before .before .pre) .1 .1 .0 .1 .1) ((c .before .before .before .before .before .before .before .before .before .before .before .before .before .before .before .before .before .before .before .before .before .before .before .before .before .before .before .before .before .heaviest) .ensures) ((c .before .before .before .before .before .before .before .before .before .before .before .before .before .before .before .before .before .before .before .before .before .before .before .before .before .before .before .before .if2) .left) ((c .before .before .before .before .before .before .before .before .before .before .before .before .before .before .before .before .before .before .before .before .before .before .before .before .before .before .before .mate) .ensures)) .mate) ((c .before .before .before .before .before .before .before .before .before .before .before .before .before .before .before .before .before .before .before .before .before .before .before .before .before .inner-row) .ensures) ((c .before .before .before .before .before .before .before .before .before .before .before .before .before .before .before .before .before .before .before .close-arc) .ensures)) (fresh-row (λ j a b. (c .before .before .before .before .before .before .before .before .before .before .before .before .before .identity2) .ensures .done j a (omega arith)) ((c .before .before .before .before .before .before .before .before .before .before .prepend3) .ensures)) (looked-into ((c .before .before .before .before .before .before .before .before .before .before .before .before .before .before .before .before .before .before .before .before .before .before .before .before .before .before .before .before .before .before .before .before .before .before .before .before .before .args) .from) ((c .before .before .before .before .before .before .before .before .before .before .before .before .before .before .before .before .before .before .before .before .before .before .before .before .before .before .before .before .before .before .before .before .before .before .before .before .before .args) .to) (length ((c .before .before .before .before .before .before .before .before .before .before .before .before .before .before .before .before .before .before .before .before .before .before .before .before .before .before .before .before .before .before .before .before .before .before .before .before .before .args) .p .now) + 1) ((c .before .before .before .before .before .before .before .before .before .before .before .before .before .before .before .before .before .before .before .close-arc) .last .0) ((c .before .before .before .before .before .before .before .before .before .before .prepend3) .last .1 .1 .1 .1 .1 .1 .1 .1 .0) ((c .before .before .before .before .before .before .combine-into) .last .0) (omega (arith, (c .before .before .before .before .before .before .before .before .before .before .before .before .before .before .before .before .before .before .before .close-arc) .kept .0, (c .before .before .before .before .before .before .before .before .before .before .before .before .before .before .before .before .before .before .before .before .before .before .before .before .before .inner-row) .kept .1 .1 .1 .1 .1 .1 .1 .1 .1 .0, room-one ((c .before .before .before .before .before .before .before .before .before .before .before .before .before .before .before .before .before .before .before .before .before .before .before .before .before .before .before .before .before .before .before .before .before .before .before .before .before .pre) .1 .1 .1 .0))) (omega (arith, ((c .before .before .before .before .before .before .before .before .before .before .before .before .before .before .before .before .before .before .before .before .before .before .before .before .before .before .before .before .before .before .before .before .before .before .before .before .before .pre) .1 .0) .window .ends)) ((c .before .before .before .before .before .before .combine-into) .ensures))) ((c .before .before .prepend4) .ensures)
 
 abbrev prepend-Inv-loop : prepend-lts.InvT-loop
 prepend-Inv-loop p pm from to q qm lo hi work₀ partner w i₀ work i = (lo ≤ i) × (i ≤ hi) × Sealed qm lo i × Prepended p pm q qm from to i hi work₀ work × (length work ≡ length work₀)
@@ -745,7 +763,7 @@ prepend-inner-row-requires : (t : ℕ) → prepend-lts.Need-inner-row-requires (
   combine-reads.Asked,
   combine-reads.Learnt,
 ) (prepend-at t) prepend.Post prepend-Inv-loop prepend-μ-loop
-prepend-inner-row-requires t c κs = let B = (back-of (((c .before .before .before .before .before .before .before .before .before .before .before .before .pre) .1 .0) .molecule) ((c .before .before .before .before .before .loop) .inv .2) (omega (arith, (c .before .before .before .before .before .loop) .inv .1, (c .before .before .before .before .before .before .before .before .before .before .before .before .pre) .1 .1 .0)) ((c .before .before .before .before .loop-test) .taken) (omega (arith, (c .before .before .before .before .loop-test) .taken)) ((c .before .before .before .mate) .ensures)) in let ck : (c .before .before .before .mate) .result < (c .before .before .before .before .before .loop) .i - 1 = omega (arith, B .high, (c .before .before .if1) .left) in (omega (arith, (c .before .before .before .before .before .before .before .before .before .before .before .before .pre) .0, B .low, ck, (c .before .before .before .before .before .loop) .inv .1, (c .before .before .before .before .loop-test) .taken), (((c .before .before .before .before .before .before .before .before .before .before .before .before .pre) .1 .0), ((ck, (omega (arith, (c .before .before .before .before .before .loop) .inv .1, (c .before .before .before .before .before .before .before .before .before .before .before .before .pre) .1 .1 .0, (c .before .before .before .before .loop-test) .taken), B .back)), (room-at (room-less _ _ (omega (arith, B .back)) (room-child ((c .before .before .before .before .before .before .before .before .before .before .before .before .pre) .1 .1 .1 .1 .0) ((c .before .before .before .mate) .result) (B .low) (omega (arith, ck, (c .before .before .before .before .before .loop) .inv .1)) (omega (arith, ck, B .back)))) (omega (arith, part-length (length ((c .before .before .before .before .before .before .before .before .before .before .before .before .args) .p .now) + 1) ((c .before .before .before .before .before .loop) .work) (omega (arith, light-one ((c .before .before .before .before .before .before .before .before .before .before .before .before .pre) .1 .1 .1 .1 .0), ((c .before .before .before .before .before .loop) .inv .4))), ((c .before .before .before .before .before .loop) .inv .4))), ((c .before .before .before .before .before .before .before .before .before .before .before .before .pre) .1 .1 .1 .1 .1)))))
+prepend-inner-row-requires t c κs = let B = (back-of (((c .before .before .before .before .before .before .before .before .before .before .before .before .pre) .1 .0) .molecule) ((c .before .before .before .before .before .loop) .inv .2) (omega (arith, (c .before .before .before .before .before .loop) .inv .1, (c .before .before .before .before .before .before .before .before .before .before .before .before .pre) .1 .1 .0)) ((c .before .before .before .before .loop-test) .taken) (omega (arith, (c .before .before .before .before .loop-test) .taken)) ((c .before .before .before .mate) .ensures)) in let ck : (c .before .before .before .mate) .result < (c .before .before .before .before .before .loop) .i - 1 = omega (arith, B .high, (c .before .before .if1) .left) in (omega (arith, (c .before .before .before .before .before .before .before .before .before .before .before .before .pre) .0, B .low, ck, (c .before .before .before .before .before .loop) .inv .1, (c .before .before .before .before .loop-test) .taken), (((c .before .before .before .before .before .before .before .before .before .before .before .before .pre) .1 .0), ((ck, (omega (arith, (c .before .before .before .before .before .loop) .inv .1, (c .before .before .before .before .before .before .before .before .before .before .before .before .pre) .1 .1 .0, (c .before .before .before .before .loop-test) .taken), B .back)), (room-at (room-less _ _ (omega (arith, B .back)) (room-child ((c .before .before .before .before .before .before .before .before .before .before .before .before .pre) .1 .1 .1 .1 .0) ((c .before .before .before .mate) .result) (B .low) (omega (arith, ck, (c .before .before .before .before .before .loop) .inv .1)) (omega (arith, ck, B .back)))) (omega (arith, part-length (length ((c .before .before .before .before .before .before .before .before .before .before .before .before .args) .p .now) + 1) ((c .before .before .before .before .before .loop) .work) (omega (arith, light-one ((c .before .before .before .before .before .before .before .before .before .before .before .before .pre) .1 .1 .1 .1 .0), ((c .before .before .before .before .before .loop) .inv .4))), ((c .before .before .before .before .before .loop) .inv .4))), (((c .before .before .before .before .before .before .before .before .before .before .before .before .pre) .1 .1 .1 .1 .1), no-box _)))))
 
 prepend-shared-slice-read-close-arc : (t : ℕ) → prepend-lts.Need-shared-slice-read-close-arc (
   mate-reads.Asked,
@@ -787,7 +805,7 @@ prepend-close-arc-requires : (t : ℕ) → prepend-lts.Need-close-arc-requires (
   combine-reads.Asked,
   combine-reads.Learnt,
 ) (prepend-at t) prepend.Post prepend-Inv-loop prepend-μ-loop
-prepend-close-arc-requires t c κs = (((c .before .before .before .before .before .before .before .before .before .before .before .before .before .before .before .before .before .pre) .1 .0) .window, (((c .before .before .before .before .before .before .before .before .before .before .before .before .before .before .before .before .before .pre) .1 .1 .1 .1 .1), (let B = (back-of (((c .before .before .before .before .before .before .before .before .before .before .before .before .before .before .before .before .before .pre) .1 .0) .molecule) ((c .before .before .before .before .before .before .before .before .before .before .loop) .inv .2) (omega (arith, (c .before .before .before .before .before .before .before .before .before .before .loop) .inv .1, (c .before .before .before .before .before .before .before .before .before .before .before .before .before .before .before .before .before .pre) .1 .1 .0)) ((c .before .before .before .before .before .before .before .before .before .loop-test) .taken) (omega (arith, (c .before .before .before .before .before .before .before .before .before .loop-test) .taken)) ((c .before .before .before .before .before .before .before .before .mate) .ensures)) in let ck : (c .before .before .before .before .before .before .before .before .mate) .result < (c .before .before .before .before .before .before .before .before .before .before .loop) .i - 1 = omega (arith, B .high, (c .before .before .before .before .before .before .before .if1) .left) in omega (arith, (c .before .before .before .before .inner-row) .kept .1 .1 .1 .1 .1 .1 .1 .1 .0, part-length (length ((c .before .before .before .before .before .before .before .before .before .before .before .before .before .before .before .before .before .args) .p .now) + 1) ((c .before .before .before .before .before .before .before .before .before .before .loop) .work) (omega (arith, light-one ((c .before .before .before .before .before .before .before .before .before .before .before .before .before .before .before .before .before .pre) .1 .1 .1 .1 .0), ((c .before .before .before .before .before .before .before .before .before .before .loop) .inv .4))), ((c .before .before .before .before .before .before .before .before .before .before .loop) .inv .4), ((c .before .before .before .before .before .before .before .before .before .before .before .before .before .before .before .before .before .pre) .1 .0) .window .ends, room-one (room-child ((c .before .before .before .before .before .before .before .before .before .before .before .before .before .before .before .before .before .pre) .1 .1 .1 .1 .0) ((c .before .before .before .before .before .before .before .before .mate) .result) (B .low) (omega (arith, ck, (c .before .before .before .before .before .before .before .before .before .before .loop) .inv .1)) (omega (arith, ck, B .back)))), row-from ((c .before .before .before .before .inner-row) .ensures))))
+prepend-close-arc-requires t c κs = (((c .before .before .before .before .before .before .before .before .before .before .before .before .before .before .before .before .before .pre) .1 .0) .window, (((c .before .before .before .before .before .before .before .before .before .before .before .before .before .before .before .before .before .pre) .1 .1 .1 .1 .1), (let B = (back-of (((c .before .before .before .before .before .before .before .before .before .before .before .before .before .before .before .before .before .pre) .1 .0) .molecule) ((c .before .before .before .before .before .before .before .before .before .before .loop) .inv .2) (omega (arith, (c .before .before .before .before .before .before .before .before .before .before .loop) .inv .1, (c .before .before .before .before .before .before .before .before .before .before .before .before .before .before .before .before .before .pre) .1 .1 .0)) ((c .before .before .before .before .before .before .before .before .before .loop-test) .taken) (omega (arith, (c .before .before .before .before .before .before .before .before .before .loop-test) .taken)) ((c .before .before .before .before .before .before .before .before .mate) .ensures)) in let ck : (c .before .before .before .before .before .before .before .before .mate) .result < (c .before .before .before .before .before .before .before .before .before .before .loop) .i - 1 = omega (arith, B .high, (c .before .before .before .before .before .before .before .if1) .left) in omega (arith, (c .before .before .before .before .inner-row) .kept .1 .1 .1 .1 .1 .1 .1 .1 .1 .0, part-length (length ((c .before .before .before .before .before .before .before .before .before .before .before .before .before .before .before .before .before .args) .p .now) + 1) ((c .before .before .before .before .before .before .before .before .before .before .loop) .work) (omega (arith, light-one ((c .before .before .before .before .before .before .before .before .before .before .before .before .before .before .before .before .before .pre) .1 .1 .1 .1 .0), ((c .before .before .before .before .before .before .before .before .before .before .loop) .inv .4))), ((c .before .before .before .before .before .before .before .before .before .before .loop) .inv .4), ((c .before .before .before .before .before .before .before .before .before .before .before .before .before .before .before .before .before .pre) .1 .0) .window .ends, room-one (room-child ((c .before .before .before .before .before .before .before .before .before .before .before .before .before .before .before .before .before .pre) .1 .1 .1 .1 .0) ((c .before .before .before .before .before .before .before .before .mate) .result) (B .low) (omega (arith, ck, (c .before .before .before .before .before .before .before .before .before .before .loop) .inv .1)) (omega (arith, ck, B .back)))), row-from ((c .before .before .before .before .inner-row) .ensures))))
 
 prepend-combine-requires : (t : ℕ) → prepend-lts.Need-combine-requires (
   mate-reads.Asked,
@@ -801,7 +819,7 @@ prepend-combine-requires : (t : ℕ) → prepend-lts.Need-combine-requires (
   combine-reads.Asked,
   combine-reads.Learnt,
 ) (prepend-at t) prepend.Post prepend-Inv-loop prepend-μ-loop
-prepend-combine-requires t c κs = ((((c .before .before .before .before .before .before .before .before .before .before .before .before .before .before .before .before .before .before .before .before .before .pre) .1 .0) .window .order, (omega (arith, ((c .before .before .before .before .before .before .before .before .before .before .before .before .before .before .before .before .before .before .before .before .before .pre) .1 .0) .window .ends, ((c .before .before .before .before .before .before .before .before .before .before .before .before .before .before .before .before .before .before .before .before .before .pre) .1 .0) .window .small), (omega (arith, ((c .before .before .before .before .before .before .before .before .before .before .before .before .before .before .before .before .before .before .before .before .before .pre) .1 .0) .window .ends), let B = (back-of (((c .before .before .before .before .before .before .before .before .before .before .before .before .before .before .before .before .before .before .before .before .before .pre) .1 .0) .molecule) ((c .before .before .before .before .before .before .before .before .before .before .before .before .before .before .loop) .inv .2) (omega (arith, (c .before .before .before .before .before .before .before .before .before .before .before .before .before .before .loop) .inv .1, (c .before .before .before .before .before .before .before .before .before .before .before .before .before .before .before .before .before .before .before .before .before .pre) .1 .1 .0)) ((c .before .before .before .before .before .before .before .before .before .before .before .before .before .loop-test) .taken) (omega (arith, (c .before .before .before .before .before .before .before .before .before .before .before .before .before .loop-test) .taken)) ((c .before .before .before .before .before .before .before .before .before .before .before .before .mate) .ensures)) in let ck : (c .before .before .before .before .before .before .before .before .before .before .before .before .mate) .result < (c .before .before .before .before .before .before .before .before .before .before .before .before .before .before .loop) .i - 1 = omega (arith, B .high, (c .before .before .before .before .before .before .before .before .before .before .before .if1) .left) in omega (arith, ((c .before .before .before .before .before .before .before .before .before .before .before .before .before .before .before .before .before .before .before .before .before .pre) .1 .0) .window .ends, ((c .before .before .before .before .before .before .before .before .before .before .before .before .before .before .loop) .inv .4), back-length (length ((c .before .before .before .before .before .before .before .before .before .before .before .before .before .before .before .before .before .before .before .before .before .args) .p .now) + 1) ((c .before .before .before .before .before .before .before .before .before .before .before .before .before .before .loop) .work) (omega (arith, light-one ((c .before .before .before .before .before .before .before .before .before .before .before .before .before .before .before .before .before .before .before .before .before .pre) .1 .1 .1 .1 .0), ((c .before .before .before .before .before .before .before .before .before .before .before .before .before .before .loop) .inv .4))) ((c .before .before .before .close-arc) .last .0) ((c .before .before .before .close-arc) .kept .0 ∙ (c .before .before .before .before .before .before .before .before .inner-row) .kept .1 .1 .1 .1 .1 .1 .1 .1 .0), room-one (room-child ((c .before .before .before .before .before .before .before .before .before .before .before .before .before .before .before .before .before .before .before .before .before .pre) .1 .1 .1 .1 .0) ((c .before .before .before .before .before .before .before .before .before .before .before .before .mate) .result) (B .low) (omega (arith, ck, (c .before .before .before .before .before .before .before .before .before .before .before .before .before .before .loop) .inv .1)) (omega (arith, ck, B .back))))))), range-over (length ((c .before .before .before .before .before .before .before .before .before .before .before .before .before .before .before .before .before .before .before .before .before .args) .p .now) + 1) ((c .before .before .before .before .before .before .before .before .before .before .before .before .before .before .loop) .work) ((c .before .before .before .close-arc) .last .0) (omega (arith, light-one ((c .before .before .before .before .before .before .before .before .before .before .before .before .before .before .before .before .before .before .before .before .before .pre) .1 .1 .1 .1 .0), ((c .before .before .before .before .before .before .before .before .before .before .before .before .before .before .loop) .inv .4))) (arc-front _ _ ((c .before .before .before .before .before .before .before .before .before .before .before .before .before .before .loop) .i) (omega (arith, (c .before .before .before .before .before .before .before .before .before .before .before .before .before .loop-test) .taken)) ((c .before .before .before .before .before .before .before .before .before .before .before .before .before .before .before .before .before .before .before .before .before .pre) .1 .0) (omega (arith, (back-of (((c .before .before .before .before .before .before .before .before .before .before .before .before .before .before .before .before .before .before .before .before .before .pre) .1 .0) .molecule) ((c .before .before .before .before .before .before .before .before .before .before .before .before .before .before .loop) .inv .2) (omega (arith, (c .before .before .before .before .before .before .before .before .before .before .before .before .before .before .loop) .inv .1, (c .before .before .before .before .before .before .before .before .before .before .before .before .before .before .before .before .before .before .before .before .before .pre) .1 .1 .0)) ((c .before .before .before .before .before .before .before .before .before .before .before .before .before .loop-test) .taken) (omega (arith, (c .before .before .before .before .before .before .before .before .before .before .before .before .before .loop-test) .taken)) ((c .before .before .before .before .before .before .before .before .before .before .before .before .mate) .ensures)) .high, (c .before .before .before .before .before .before .before .before .before .before .before .if1) .left)) (omega (arith, (c .before .before .before .before .before .before .before .before .before .before .before .before .before .before .loop) .inv .1, (c .before .before .before .before .before .before .before .before .before .before .before .before .before .before .before .before .before .before .before .before .before .pre) .1 .1 .0, (c .before .before .before .before .before .before .before .before .before .before .before .before .before .loop-test) .taken)) ((back-of (((c .before .before .before .before .before .before .before .before .before .before .before .before .before .before .before .before .before .before .before .before .before .pre) .1 .0) .molecule) ((c .before .before .before .before .before .before .before .before .before .before .before .before .before .before .loop) .inv .2) (omega (arith, (c .before .before .before .before .before .before .before .before .before .before .before .before .before .before .loop) .inv .1, (c .before .before .before .before .before .before .before .before .before .before .before .before .before .before .before .before .before .before .before .before .before .pre) .1 .1 .0)) ((c .before .before .before .before .before .before .before .before .before .before .before .before .before .loop-test) .taken) (omega (arith, (c .before .before .before .before .before .before .before .before .before .before .before .before .before .loop-test) .taken)) ((c .before .before .before .before .before .before .before .before .before .before .before .before .mate) .ensures)) .back) ((c .before .before .before .before .before .before .before .before .inner-row) .ensures) ((c .before .before .before .close-arc) .ensures)))
+prepend-combine-requires t c κs = ((((c .before .before .before .before .before .before .before .before .before .before .before .before .before .before .before .before .before .before .before .before .before .pre) .1 .0) .window .order, (omega (arith, ((c .before .before .before .before .before .before .before .before .before .before .before .before .before .before .before .before .before .before .before .before .before .pre) .1 .0) .window .ends, ((c .before .before .before .before .before .before .before .before .before .before .before .before .before .before .before .before .before .before .before .before .before .pre) .1 .0) .window .small), (omega (arith, ((c .before .before .before .before .before .before .before .before .before .before .before .before .before .before .before .before .before .before .before .before .before .pre) .1 .0) .window .ends), let B = (back-of (((c .before .before .before .before .before .before .before .before .before .before .before .before .before .before .before .before .before .before .before .before .before .pre) .1 .0) .molecule) ((c .before .before .before .before .before .before .before .before .before .before .before .before .before .before .loop) .inv .2) (omega (arith, (c .before .before .before .before .before .before .before .before .before .before .before .before .before .before .loop) .inv .1, (c .before .before .before .before .before .before .before .before .before .before .before .before .before .before .before .before .before .before .before .before .before .pre) .1 .1 .0)) ((c .before .before .before .before .before .before .before .before .before .before .before .before .before .loop-test) .taken) (omega (arith, (c .before .before .before .before .before .before .before .before .before .before .before .before .before .loop-test) .taken)) ((c .before .before .before .before .before .before .before .before .before .before .before .before .mate) .ensures)) in let ck : (c .before .before .before .before .before .before .before .before .before .before .before .before .mate) .result < (c .before .before .before .before .before .before .before .before .before .before .before .before .before .before .loop) .i - 1 = omega (arith, B .high, (c .before .before .before .before .before .before .before .before .before .before .before .if1) .left) in omega (arith, ((c .before .before .before .before .before .before .before .before .before .before .before .before .before .before .before .before .before .before .before .before .before .pre) .1 .0) .window .ends, ((c .before .before .before .before .before .before .before .before .before .before .before .before .before .before .loop) .inv .4), back-length (length ((c .before .before .before .before .before .before .before .before .before .before .before .before .before .before .before .before .before .before .before .before .before .args) .p .now) + 1) ((c .before .before .before .before .before .before .before .before .before .before .before .before .before .before .loop) .work) (omega (arith, light-one ((c .before .before .before .before .before .before .before .before .before .before .before .before .before .before .before .before .before .before .before .before .before .pre) .1 .1 .1 .1 .0), ((c .before .before .before .before .before .before .before .before .before .before .before .before .before .before .loop) .inv .4))) ((c .before .before .before .close-arc) .last .0) ((c .before .before .before .close-arc) .kept .0 ∙ (c .before .before .before .before .before .before .before .before .inner-row) .kept .1 .1 .1 .1 .1 .1 .1 .1 .1 .0), room-one (room-child ((c .before .before .before .before .before .before .before .before .before .before .before .before .before .before .before .before .before .before .before .before .before .pre) .1 .1 .1 .1 .0) ((c .before .before .before .before .before .before .before .before .before .before .before .before .mate) .result) (B .low) (omega (arith, ck, (c .before .before .before .before .before .before .before .before .before .before .before .before .before .before .loop) .inv .1)) (omega (arith, ck, B .back))))))), range-over (length ((c .before .before .before .before .before .before .before .before .before .before .before .before .before .before .before .before .before .before .before .before .before .args) .p .now) + 1) ((c .before .before .before .before .before .before .before .before .before .before .before .before .before .before .loop) .work) ((c .before .before .before .close-arc) .last .0) (omega (arith, light-one ((c .before .before .before .before .before .before .before .before .before .before .before .before .before .before .before .before .before .before .before .before .before .pre) .1 .1 .1 .1 .0), ((c .before .before .before .before .before .before .before .before .before .before .before .before .before .before .loop) .inv .4))) (arc-front _ _ ((c .before .before .before .before .before .before .before .before .before .before .before .before .before .before .loop) .i) (omega (arith, (c .before .before .before .before .before .before .before .before .before .before .before .before .before .loop-test) .taken)) ((c .before .before .before .before .before .before .before .before .before .before .before .before .before .before .before .before .before .before .before .before .before .pre) .1 .0) (omega (arith, (back-of (((c .before .before .before .before .before .before .before .before .before .before .before .before .before .before .before .before .before .before .before .before .before .pre) .1 .0) .molecule) ((c .before .before .before .before .before .before .before .before .before .before .before .before .before .before .loop) .inv .2) (omega (arith, (c .before .before .before .before .before .before .before .before .before .before .before .before .before .before .loop) .inv .1, (c .before .before .before .before .before .before .before .before .before .before .before .before .before .before .before .before .before .before .before .before .before .pre) .1 .1 .0)) ((c .before .before .before .before .before .before .before .before .before .before .before .before .before .loop-test) .taken) (omega (arith, (c .before .before .before .before .before .before .before .before .before .before .before .before .before .loop-test) .taken)) ((c .before .before .before .before .before .before .before .before .before .before .before .before .mate) .ensures)) .high, (c .before .before .before .before .before .before .before .before .before .before .before .if1) .left)) (omega (arith, (c .before .before .before .before .before .before .before .before .before .before .before .before .before .before .loop) .inv .1, (c .before .before .before .before .before .before .before .before .before .before .before .before .before .before .before .before .before .before .before .before .before .pre) .1 .1 .0, (c .before .before .before .before .before .before .before .before .before .before .before .before .before .loop-test) .taken)) ((back-of (((c .before .before .before .before .before .before .before .before .before .before .before .before .before .before .before .before .before .before .before .before .before .pre) .1 .0) .molecule) ((c .before .before .before .before .before .before .before .before .before .before .before .before .before .before .loop) .inv .2) (omega (arith, (c .before .before .before .before .before .before .before .before .before .before .before .before .before .before .loop) .inv .1, (c .before .before .before .before .before .before .before .before .before .before .before .before .before .before .before .before .before .before .before .before .before .pre) .1 .1 .0)) ((c .before .before .before .before .before .before .before .before .before .before .before .before .before .loop-test) .taken) (omega (arith, (c .before .before .before .before .before .before .before .before .before .before .before .before .before .loop-test) .taken)) ((c .before .before .before .before .before .before .before .before .before .before .before .before .mate) .ensures)) .back) ((c .before .before .before .before .before .before .before .before .inner-row) .ensures) ((c .before .before .before .close-arc) .ensures)))
 
 prepend-loop-less : (t : ℕ) → prepend-lts.Need-loop-less (
   mate-reads.Asked,
@@ -857,7 +875,7 @@ prepend-loop-again-2 : (t : ℕ) → prepend-lts.Need-loop-again-2 (
   combine-reads.Asked,
   combine-reads.Learnt,
 ) (prepend-at t) prepend.Post prepend-Inv-loop prepend-μ-loop
-prepend-loop-again-2 t c = let B = (back-of (((c .before .before .before .before .before .before .before .before .before .before .before .before .before .before .before .before .before .before .before .before .before .before .before .before .pre) .1 .0) .molecule) ((c .before .before .before .before .before .before .before .before .before .before .before .before .before .before .before .before .before .loop) .inv .2) (omega (arith, (c .before .before .before .before .before .before .before .before .before .before .before .before .before .before .before .before .before .loop) .inv .1, (c .before .before .before .before .before .before .before .before .before .before .before .before .before .before .before .before .before .before .before .before .before .before .before .before .pre) .1 .1 .0)) ((c .before .before .before .before .before .before .before .before .before .before .before .before .before .before .before .before .loop-test) .taken) (omega (arith, (c .before .before .before .before .before .before .before .before .before .before .before .before .before .before .before .before .loop-test) .taken)) ((c .before .before .before .before .before .before .before .before .before .before .before .before .before .before .before .mate) .ensures)) in let F = (arc-front _ _ ((c .before .before .before .before .before .before .before .before .before .before .before .before .before .before .before .before .before .loop) .i) (omega (arith, (c .before .before .before .before .before .before .before .before .before .before .before .before .before .before .before .before .loop-test) .taken)) ((c .before .before .before .before .before .before .before .before .before .before .before .before .before .before .before .before .before .before .before .before .before .before .before .before .pre) .1 .0) (omega (arith, (back-of (((c .before .before .before .before .before .before .before .before .before .before .before .before .before .before .before .before .before .before .before .before .before .before .before .before .pre) .1 .0) .molecule) ((c .before .before .before .before .before .before .before .before .before .before .before .before .before .before .before .before .before .loop) .inv .2) (omega (arith, (c .before .before .before .before .before .before .before .before .before .before .before .before .before .before .before .before .before .loop) .inv .1, (c .before .before .before .before .before .before .before .before .before .before .before .before .before .before .before .before .before .before .before .before .before .before .before .before .pre) .1 .1 .0)) ((c .before .before .before .before .before .before .before .before .before .before .before .before .before .before .before .before .loop-test) .taken) (omega (arith, (c .before .before .before .before .before .before .before .before .before .before .before .before .before .before .before .before .loop-test) .taken)) ((c .before .before .before .before .before .before .before .before .before .before .before .before .before .before .before .mate) .ensures)) .high, (c .before .before .before .before .before .before .before .before .before .before .before .before .before .before .if1) .left)) (omega (arith, (c .before .before .before .before .before .before .before .before .before .before .before .before .before .before .before .before .before .loop) .inv .1, (c .before .before .before .before .before .before .before .before .before .before .before .before .before .before .before .before .before .before .before .before .before .before .before .before .pre) .1 .1 .0, (c .before .before .before .before .before .before .before .before .before .before .before .before .before .before .before .before .loop-test) .taken)) ((back-of (((c .before .before .before .before .before .before .before .before .before .before .before .before .before .before .before .before .before .before .before .before .before .before .before .before .pre) .1 .0) .molecule) ((c .before .before .before .before .before .before .before .before .before .before .before .before .before .before .before .before .before .loop) .inv .2) (omega (arith, (c .before .before .before .before .before .before .before .before .before .before .before .before .before .before .before .before .before .loop) .inv .1, (c .before .before .before .before .before .before .before .before .before .before .before .before .before .before .before .before .before .before .before .before .before .before .before .before .pre) .1 .1 .0)) ((c .before .before .before .before .before .before .before .before .before .before .before .before .before .before .before .before .loop-test) .taken) (omega (arith, (c .before .before .before .before .before .before .before .before .before .before .before .before .before .before .before .before .loop-test) .taken)) ((c .before .before .before .before .before .before .before .before .before .before .before .before .before .before .before .mate) .ensures)) .back) ((c .before .before .before .before .before .before .before .before .before .before .before .inner-row) .ensures) ((c .before .before .before .before .before .before .close-arc) .ensures)) in (B .low, omega (arith, B .high, (c .before .before .before .before .before .before .before .before .before .before .before .before .before .before .before .before .before .loop) .inv .1), B .seal, prepend-step (omega (arith, B .high)) ((c .before .before .before .before .before .before .before .before .before .before .before .before .before .before .before .before .before .loop) .inv .1) (B .split _) F ((c .before .before .before .before .before .before .before .before .before .before .before .before .before .before .before .before .before .loop) .inv .3) (looked ((c .before .before .before .before .before .before .before .before .before .before .before .before .before .before .before .before .before .before .before .before .before .before .before .before .args) .from) ((c .before .before .before .before .before .before .before .before .before .before .before .before .before .before .before .before .before .before .before .before .before .before .before .before .args) .to) (length ((c .before .before .before .before .before .before .before .before .before .before .before .before .before .before .before .before .before .before .before .before .before .before .before .before .args) .p .now) + 1) ((c .before .before .before .before .before .before .before .before .before .before .before .before .before .before .before .before .before .loop) .work) ((c .before .before .before .before .before .before .close-arc) .last .0) ((c .before .before .combine) .last .0) (omega (arith, light-one ((c .before .before .before .before .before .before .before .before .before .before .before .before .before .before .before .before .before .before .before .before .before .before .before .before .pre) .1 .1 .1 .1 .0), ((c .before .before .before .before .before .before .before .before .before .before .before .before .before .before .before .before .before .loop) .inv .4))) (omega (arith, ((c .before .before .before .before .before .before .before .before .before .before .before .before .before .before .before .before .before .before .before .before .before .before .before .before .pre) .1 .0) .window .ends)) (row-from F) ((c .before .before .combine) .ensures)), (c .before .before .combine) .kept .0 ∙ back-length (length ((c .before .before .before .before .before .before .before .before .before .before .before .before .before .before .before .before .before .before .before .before .before .before .before .before .args) .p .now) + 1) ((c .before .before .before .before .before .before .before .before .before .before .before .before .before .before .before .before .before .loop) .work) (omega (arith, light-one ((c .before .before .before .before .before .before .before .before .before .before .before .before .before .before .before .before .before .before .before .before .before .before .before .before .pre) .1 .1 .1 .1 .0), ((c .before .before .before .before .before .before .before .before .before .before .before .before .before .before .before .before .before .loop) .inv .4))) ((c .before .before .before .before .before .before .close-arc) .last .0) ((c .before .before .before .before .before .before .close-arc) .kept .0 ∙ (c .before .before .before .before .before .before .before .before .before .before .before .inner-row) .kept .1 .1 .1 .1 .1 .1 .1 .1 .0) ∙ ((c .before .before .before .before .before .before .before .before .before .before .before .before .before .before .before .before .before .loop) .inv .4))
+prepend-loop-again-2 t c = let B = (back-of (((c .before .before .before .before .before .before .before .before .before .before .before .before .before .before .before .before .before .before .before .before .before .before .before .before .pre) .1 .0) .molecule) ((c .before .before .before .before .before .before .before .before .before .before .before .before .before .before .before .before .before .loop) .inv .2) (omega (arith, (c .before .before .before .before .before .before .before .before .before .before .before .before .before .before .before .before .before .loop) .inv .1, (c .before .before .before .before .before .before .before .before .before .before .before .before .before .before .before .before .before .before .before .before .before .before .before .before .pre) .1 .1 .0)) ((c .before .before .before .before .before .before .before .before .before .before .before .before .before .before .before .before .loop-test) .taken) (omega (arith, (c .before .before .before .before .before .before .before .before .before .before .before .before .before .before .before .before .loop-test) .taken)) ((c .before .before .before .before .before .before .before .before .before .before .before .before .before .before .before .mate) .ensures)) in let F = (arc-front _ _ ((c .before .before .before .before .before .before .before .before .before .before .before .before .before .before .before .before .before .loop) .i) (omega (arith, (c .before .before .before .before .before .before .before .before .before .before .before .before .before .before .before .before .loop-test) .taken)) ((c .before .before .before .before .before .before .before .before .before .before .before .before .before .before .before .before .before .before .before .before .before .before .before .before .pre) .1 .0) (omega (arith, (back-of (((c .before .before .before .before .before .before .before .before .before .before .before .before .before .before .before .before .before .before .before .before .before .before .before .before .pre) .1 .0) .molecule) ((c .before .before .before .before .before .before .before .before .before .before .before .before .before .before .before .before .before .loop) .inv .2) (omega (arith, (c .before .before .before .before .before .before .before .before .before .before .before .before .before .before .before .before .before .loop) .inv .1, (c .before .before .before .before .before .before .before .before .before .before .before .before .before .before .before .before .before .before .before .before .before .before .before .before .pre) .1 .1 .0)) ((c .before .before .before .before .before .before .before .before .before .before .before .before .before .before .before .before .loop-test) .taken) (omega (arith, (c .before .before .before .before .before .before .before .before .before .before .before .before .before .before .before .before .loop-test) .taken)) ((c .before .before .before .before .before .before .before .before .before .before .before .before .before .before .before .mate) .ensures)) .high, (c .before .before .before .before .before .before .before .before .before .before .before .before .before .before .if1) .left)) (omega (arith, (c .before .before .before .before .before .before .before .before .before .before .before .before .before .before .before .before .before .loop) .inv .1, (c .before .before .before .before .before .before .before .before .before .before .before .before .before .before .before .before .before .before .before .before .before .before .before .before .pre) .1 .1 .0, (c .before .before .before .before .before .before .before .before .before .before .before .before .before .before .before .before .loop-test) .taken)) ((back-of (((c .before .before .before .before .before .before .before .before .before .before .before .before .before .before .before .before .before .before .before .before .before .before .before .before .pre) .1 .0) .molecule) ((c .before .before .before .before .before .before .before .before .before .before .before .before .before .before .before .before .before .loop) .inv .2) (omega (arith, (c .before .before .before .before .before .before .before .before .before .before .before .before .before .before .before .before .before .loop) .inv .1, (c .before .before .before .before .before .before .before .before .before .before .before .before .before .before .before .before .before .before .before .before .before .before .before .before .pre) .1 .1 .0)) ((c .before .before .before .before .before .before .before .before .before .before .before .before .before .before .before .before .loop-test) .taken) (omega (arith, (c .before .before .before .before .before .before .before .before .before .before .before .before .before .before .before .before .loop-test) .taken)) ((c .before .before .before .before .before .before .before .before .before .before .before .before .before .before .before .mate) .ensures)) .back) ((c .before .before .before .before .before .before .before .before .before .before .before .inner-row) .ensures) ((c .before .before .before .before .before .before .close-arc) .ensures)) in (B .low, omega (arith, B .high, (c .before .before .before .before .before .before .before .before .before .before .before .before .before .before .before .before .before .loop) .inv .1), B .seal, prepend-step (omega (arith, B .high)) ((c .before .before .before .before .before .before .before .before .before .before .before .before .before .before .before .before .before .loop) .inv .1) (B .split _) F ((c .before .before .before .before .before .before .before .before .before .before .before .before .before .before .before .before .before .loop) .inv .3) (looked ((c .before .before .before .before .before .before .before .before .before .before .before .before .before .before .before .before .before .before .before .before .before .before .before .before .args) .from) ((c .before .before .before .before .before .before .before .before .before .before .before .before .before .before .before .before .before .before .before .before .before .before .before .before .args) .to) (length ((c .before .before .before .before .before .before .before .before .before .before .before .before .before .before .before .before .before .before .before .before .before .before .before .before .args) .p .now) + 1) ((c .before .before .before .before .before .before .before .before .before .before .before .before .before .before .before .before .before .loop) .work) ((c .before .before .before .before .before .before .close-arc) .last .0) ((c .before .before .combine) .last .0) (omega (arith, light-one ((c .before .before .before .before .before .before .before .before .before .before .before .before .before .before .before .before .before .before .before .before .before .before .before .before .pre) .1 .1 .1 .1 .0), ((c .before .before .before .before .before .before .before .before .before .before .before .before .before .before .before .before .before .loop) .inv .4))) (omega (arith, ((c .before .before .before .before .before .before .before .before .before .before .before .before .before .before .before .before .before .before .before .before .before .before .before .before .pre) .1 .0) .window .ends)) (row-from F) ((c .before .before .combine) .ensures)), (c .before .before .combine) .kept .0 ∙ back-length (length ((c .before .before .before .before .before .before .before .before .before .before .before .before .before .before .before .before .before .before .before .before .before .before .before .before .args) .p .now) + 1) ((c .before .before .before .before .before .before .before .before .before .before .before .before .before .before .before .before .before .loop) .work) (omega (arith, light-one ((c .before .before .before .before .before .before .before .before .before .before .before .before .before .before .before .before .before .before .before .before .before .before .before .before .pre) .1 .1 .1 .1 .0), ((c .before .before .before .before .before .before .before .before .before .before .before .before .before .before .before .before .before .loop) .inv .4))) ((c .before .before .before .before .before .before .close-arc) .last .0) ((c .before .before .before .before .before .before .close-arc) .kept .0 ∙ (c .before .before .before .before .before .before .before .before .before .before .before .inner-row) .kept .1 .1 .1 .1 .1 .1 .1 .1 .1 .0) ∙ ((c .before .before .before .before .before .before .before .before .before .before .before .before .before .before .before .before .before .loop) .inv .4))
 
 prepend-same-length : (t : ℕ) → prepend-lts.Need-same-length (
   mate-reads.Asked,
@@ -906,6 +924,7 @@ pub +inner-row+prepend-spec : {M : Type 1} → statement M
 )
     (inner-row-at t)
     inner-row.Post
+    (inner-row-returns t)
     (inner-row-add-w t)
     (inner-row-add-heaviest t)
     (inner-row-heaviest-requires t)
@@ -913,17 +932,17 @@ pub +inner-row+prepend-spec : {M : Type 1} → statement M
     (inner-row-add-prepend t)
     (inner-row-prepend-requires t)
     (inner-row-same-length t)
-    (inner-row-returns t)
+    (inner-row-returns-2 t)
     (inner-row-mate-requires t)
     (inner-row-inner-row-requires t)
     (inner-row-shared-slice-read-close-arc t)
     (inner-row-shared-slice-read-close-arc-2 t)
     (inner-row-close-arc-requires t)
-    (inner-row-add-if2 t)
+    (inner-row-add-if3 t)
     (inner-row-add-prepend-2 t)
     (inner-row-prepend-requires-2 t)
     (inner-row-same-length-2 t)
-    (inner-row-returns-2 t)
+    (inner-row-returns-3 t)
     (inner-row-mul-part t)
     (inner-row-sub-part t)
     (inner-row-part-part-start t)
@@ -935,7 +954,7 @@ pub +inner-row+prepend-spec : {M : Type 1} → statement M
     (inner-row-add-prepend-4 t)
     (inner-row-prepend-requires-4 t)
     (inner-row-same-length-3 t)
-    (inner-row-returns-3 t))
+    (inner-row-returns-4 t))
     λ t. prepend-lts.spec (
       mate-reads.Asked,
       mate-reads.Learnt,
