@@ -112,7 +112,7 @@ fn print_head(words: &str) {
 
 fn lengths() {
     println!(
-        "\n## Length\n\nMicroseconds; the work slice is not cleared before a call, by any version. The library and C of the same algorithm check both strands first"
+        "\n### Length\n\nMicroseconds; the work slice is not cleared before a call, by any version. The library and C of the same algorithm check both strands first"
     );
     println!("(the column checks is the library's part for it), the versions of 003's rows do not.");
     print_head("shape | n | m | motif | L | checks | library | C, 003's rows | C, same algorithm | Rust, 003's rows | / C rows | / C same | / Rust");
@@ -143,7 +143,7 @@ fn lent<'a>(s: Strand<'a>) -> lakhido::Strand<'a> {
 
 fn shows() {
     println!(
-        "\n## Show\n\nMicroseconds; no buffer is cleared before a call. The library works in its work slice of 64 (m + 1) + 8 n numbers; the C and Rust versions keep a table of"
+        "\n### Show\n\nMicroseconds; no buffer is cleared before a call. The library works in its work slice of 64 (m + 1) + 8 n numbers; the C and Rust versions keep a table of"
     );
     println!("all rows, (n + 1) (m + 1) numbers, which C is lent and Rust allocates. C's length is document 003's, without places.");
     print_head("shape | n | m | motif | L | library | C, table | Rust, table | C, length | / C table | / Rust table | / C length");
@@ -171,7 +171,7 @@ fn catalog(r: &mut Random, shape: &str) -> Vec<u8> {
 
 fn soundness() {
     println!(
-        "\n## Soundness pass\n\nMicroseconds for {BLOCKS_MOST} molecule blocks of {MOLECULE_MOST} bases (a remove of number {BLOCKS_MOST}, which is refused after the pass), and for {SLOTS_MOST} entries of {MOTIF_MOST} bases (a query in"
+        "\n### Soundness pass\n\nMicroseconds for {BLOCKS_MOST} molecule blocks of {MOLECULE_MOST} bases (a remove of number {BLOCKS_MOST}, which is refused after the pass), and for {SLOTS_MOST} entries of {MOTIF_MOST} bases (a query in"
     );
     println!("a catalog of one empty block, with the writing of one entry, which the C version does not do). Nothing is cleared before a call.");
     print_head("shape | blocks | library | C | Rust | / C | / Rust");
@@ -252,7 +252,7 @@ fn query_versions<'a>(catalog: &'a [u8], p: Strand<'a>, cold: bool) -> Vec<Versi
 
 fn queries() {
     println!(
-        "\n## Query\n\nMicroseconds for {BLOCKS_MOST} molecules of {MOLECULE_MOST} bases and a cache of {SLOTS_MOST} blocks. Cold: the cache is cleared before each call, by all versions, within the time; every molecule is"
+        "\n### Query\n\nMicroseconds for {BLOCKS_MOST} molecules of {MOLECULE_MOST} bases and a cache of {SLOTS_MOST} blocks. Cold: the cache is cleared before each call, by all versions, within the time; every molecule is"
     );
     println!("searched. Warm: the same query again, with nothing to search. Work and hits are not cleared.");
     print_head("shape | m | motif | cache | library | C, 003's rows | C, same algorithm | Rust, 003's rows | / C rows | / C same | / Rust");
