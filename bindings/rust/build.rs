@@ -25,17 +25,18 @@ fn main() {
     }
 }
 
-/// The plain C versions at -O3, as one archive.
+/// The plain C versions at -O3, as one archive. CC names the compiler; else it is clang, which like the library's compiler stands on LLVM, or cc.
 fn compile_peers(sources: &Path) {
     let out = PathBuf::from(env::var_os("OUT_DIR").expect("cargo sets OUT_DIR"));
-    let compiler = env::var("CC").unwrap_or_else(|_| "cc".to_string());
+    let has_clang = || Command::new("clang").arg("--version").output().is_ok();
+    let compiler = env::var("CC").unwrap_or_else(|_| if has_clang() { "clang" } else { "cc" }.to_string());
     println!("cargo::rerun-if-env-changed=CC");
     println!("cargo::rerun-if-changed={}", sources.join("peer.h").display());
     let mut objects = Vec::new();
     for name in ["rows", "windows", "show", "sound", "query"] {
         let (source, object) = (sources.join(name).with_extension("c"), out.join(name).with_extension("o"));
         println!("cargo::rerun-if-changed={}", source.display());
-        run(Command::new(&compiler).args(["-O3", "-c", "-o"]).arg(&object).arg(&source));
+        run(Command::new(&compiler).args(["-std=gnu99", "-O3", "-march=x86-64", "-c", "-o"]).arg(&object).arg(&source));
         objects.push(object);
     }
     run(Command::new("ar").arg("crs").arg(out.join("libpeers.a")).args(&objects));

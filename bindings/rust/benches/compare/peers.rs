@@ -9,6 +9,7 @@ mod c {
         fn rows_length(p: *const u8, pm: *const u16, m: usize, q: *const u8, qm: *const u16, n: usize, work: *mut u16) -> usize;
         fn windows_length(p: *const u8, pm: *const u16, m: usize, q: *const u8, qm: *const u16, n: usize, work: *mut u16) -> usize;
         pub fn table_show(p: *const u8, pm: *const u16, m: usize, q: *const u8, qm: *const u16, n: usize, rows: *mut u16, places: *mut u16) -> usize;
+        pub fn peer_strand_ok(bases: *const u8, mates: *const u16, n: usize) -> std::ffi::c_int;
         pub fn peer_unsound_molecule(catalog: *const u8, blocks: usize) -> usize;
         pub fn peer_unsound_entry(cache: *const u8, blocks: usize) -> usize;
         fn peer_query_rows(
@@ -79,6 +80,12 @@ pub fn show(p: Strand, q: Strand, rows: &mut [u16], places: &mut [u16]) -> usize
             places.as_mut_ptr(),
         )
     }
+}
+
+pub fn strand_ok(s: Strand) -> bool {
+    assert_eq!(s.bases.len(), s.mates.len());
+    // SAFETY: reads n bases and n mates of any content.
+    unsafe { c::peer_strand_ok(s.bases.as_ptr(), s.mates.as_ptr(), s.len()) != 0 }
 }
 
 pub fn unsound_molecule(catalog: &[u8]) -> usize {
