@@ -1,0 +1,188 @@
+-- `matcher_test::strands::fold` meets its contract.
+use native.Mathlib.Omega.{arith}
+use Prim.Native.Nat.{ℕ, _-_, _<_}
+use mathlib.Core.Path.{_∙_}
+use borrow.Fn.Kinds.{In}
+use borrow.Fn.PlainCycle.{Measures, is, falls, and}
+use Rattle.matcher_test.proofs.strands.fold.Reads as fold
+use Rattle.matcher_test.proofs.strands.fold.Kinds as fold-kinds
+use Rattle.matcher_test.proofs.strands.+fold.Lts-fold as fold-lts
+use Rattle.matcher_test.proofs.strands.put.Reads as put-reads
+use Rattle.matcher_test.proofs.strands.reach.Reads as reach-reads
+use Rattle.matcher_test.proofs.strands.+fold.{statement}
+use Rattle.matcher_test.proofs.strands.+fold.Tie.{close}
+
+abbrev μ-fold : Measures 1 fold-kinds.ps ℕ
+μ-fold κs a = a .1 .1 .1 .0 - a .1 .1 .0
+
+abbrev fold-at : ℕ → In 1 fold-kinds.ps
+fold-at t = and 1 fold-kinds.ps (is 1 fold-kinds.ps μ-fold t) fold.Pre
+
+abbrev fold-below : ℕ → In 1 fold-kinds.ps
+fold-below t = and 1 fold-kinds.ps (falls 1 fold-kinds.ps _<_ μ-fold t) fold.Pre
+
+fold-returns : (t : ℕ) → fold-lts.Need-returns (
+  reach-reads.Asked,
+  reach-reads.Learnt,
+  put-reads.Asked,
+  put-reads.Learnt,
+  fold-below t,
+  fold.Post,
+) (fold-at t) fold.Post
+fold-returns t c = tt
+
+fold-sub-reach : (t : ℕ) → fold-lts.Need-sub-reach (
+  reach-reads.Asked,
+  reach-reads.Learnt,
+  put-reads.Asked,
+  put-reads.Learnt,
+  fold-below t,
+  fold.Post,
+) (fold-at t) fold.Post
+fold-sub-reach t c = omega arith
+
+fold-reach-requires : (t : ℕ) → fold-lts.Need-reach-requires (
+  reach-reads.Asked,
+  reach-reads.Learnt,
+  put-reads.Asked,
+  put-reads.Learnt,
+  fold-below t,
+  fold.Post,
+) (fold-at t) fold.Post
+fold-reach-requires t c κs = tt
+
+fold-sub-if2 : (t : ℕ) → fold-lts.Need-sub-if2 (
+  reach-reads.Asked,
+  reach-reads.Learnt,
+  put-reads.Asked,
+  put-reads.Learnt,
+  fold-below t,
+  fold.Post,
+) (fold-at t) fold.Post
+fold-sub-if2 t c = omega arith
+
+fold-returns-2 : (t : ℕ) → fold-lts.Need-returns-2 (
+  reach-reads.Asked,
+  reach-reads.Learnt,
+  put-reads.Asked,
+  put-reads.Learnt,
+  fold-below t,
+  fold.Post,
+) (fold-at t) fold.Post
+fold-returns-2 t c = tt
+
+fold-add-e : (t : ℕ) → fold-lts.Need-add-e (
+  reach-reads.Asked,
+  reach-reads.Learnt,
+  put-reads.Asked,
+  put-reads.Learnt,
+  fold-below t,
+  fold.Post,
+) (fold-at t) fold.Post
+fold-add-e t c = omega arith
+
+fold-put-requires : (t : ℕ) → fold-lts.Need-put-requires (
+  reach-reads.Asked,
+  reach-reads.Learnt,
+  put-reads.Asked,
+  put-reads.Learnt,
+  fold-below t,
+  fold.Post,
+) (fold-at t) fold.Post
+fold-put-requires t c κs = tt
+
+fold-put-requires-2 : (t : ℕ) → fold-lts.Need-put-requires-2 (
+  reach-reads.Asked,
+  reach-reads.Learnt,
+  put-reads.Asked,
+  put-reads.Learnt,
+  fold-below t,
+  fold.Post,
+) (fold-at t) fold.Post
+fold-put-requires-2 t c κs = tt
+
+fold-add-fold : (t : ℕ) → fold-lts.Need-add-fold (
+  reach-reads.Asked,
+  reach-reads.Learnt,
+  put-reads.Asked,
+  put-reads.Learnt,
+  fold-below t,
+  fold.Post,
+) (fold-at t) fold.Post
+fold-add-fold t c = omega arith
+
+fold-fold-requires : (t : ℕ) → fold-lts.Need-fold-requires (
+  reach-reads.Asked,
+  reach-reads.Learnt,
+  put-reads.Asked,
+  put-reads.Learnt,
+  fold-below t,
+  fold.Post,
+) (fold-at t) fold.Post
+fold-fold-requires t c κs = (omega (arith, c .before .before .before .before .before .before .before .before .before .before .before .before .before .pre .0), tt)
+
+fold-add-fold-2 : (t : ℕ) → fold-lts.Need-add-fold-2 (
+  reach-reads.Asked,
+  reach-reads.Learnt,
+  put-reads.Asked,
+  put-reads.Learnt,
+  fold-below t,
+  fold.Post,
+) (fold-at t) fold.Post
+fold-add-fold-2 t c = omega arith
+
+fold-fold-requires-2 : (t : ℕ) → fold-lts.Need-fold-requires-2 (
+  reach-reads.Asked,
+  reach-reads.Learnt,
+  put-reads.Asked,
+  put-reads.Learnt,
+  fold-below t,
+  fold.Post,
+) (fold-at t) fold.Post
+fold-fold-requires-2 t c κs = (omega (arith, c .before .before .before .before .before .before .before .before .before .before .before .before .before .before .before .before .before .pre .0), tt)
+
+fold-same-length : (t : ℕ) → fold-lts.Need-same-length (
+  reach-reads.Asked,
+  reach-reads.Learnt,
+  put-reads.Asked,
+  put-reads.Learnt,
+  fold-below t,
+  fold.Post,
+) (fold-at t) fold.Post
+fold-same-length t c = c .before .before .fold2 .kept .1 .1 .1 .1 .0 ∙ c .before .before .before .before .before .before .fold .kept .1 .1 .1 .1 .0 ∙ c .before .before .before .before .before .before .before .before .before .before .put2 .kept .0 ∙ c .before .before .before .before .before .before .before .before .before .before .before .before .before .before .put .kept .0
+
+fold-returns-3 : (t : ℕ) → fold-lts.Need-returns-3 (
+  reach-reads.Asked,
+  reach-reads.Learnt,
+  put-reads.Asked,
+  put-reads.Learnt,
+  fold-below t,
+  fold.Post,
+) (fold-at t) fold.Post
+fold-returns-3 t c = tt
+
+pub +fold-spec : {M : Type 1} → statement M
++fold-spec = close μ-fold λ t. fold-lts.spec (
+  reach-reads.Asked,
+  reach-reads.Learnt,
+  put-reads.Asked,
+  put-reads.Learnt,
+  fold-below t,
+  fold.Post,
+)
+    (fold-at t)
+    fold.Post
+    (fold-returns t)
+    (fold-sub-reach t)
+    (fold-reach-requires t)
+    (fold-sub-if2 t)
+    (fold-returns-2 t)
+    (fold-add-e t)
+    (fold-put-requires t)
+    (fold-put-requires-2 t)
+    (fold-add-fold t)
+    (fold-fold-requires t)
+    (fold-add-fold-2 t)
+    (fold-fold-requires-2 t)
+    (fold-same-length t)
+    (fold-returns-3 t)

@@ -1,0 +1,76 @@
+-- `matcher_test::strands::copy` meets its contract.
+use native.Mathlib.Omega.{arith}
+use Prim.Native.Nat.{_-_, _≤_}
+use mathlib.Core.Path.{_≡_, refl, _∙_}
+use lib.ListN.{length}
+use Rattle.matcher_test.proofs.strands.copy.Statement.{statement}
+use Rattle.matcher_test.proofs.strands.copy.Tie as tie
+
+abbrev Inv-loop : tie.InvT-loop
+Inv-loop line at bases₀ mates₀ k₀ bases mates k = (k ≤ 10) × ((length bases ≡ length bases₀) × (length mates ≡ length mates₀))
+
+abbrev μ-loop : tie.MeasureT-loop
+μ-loop line at bases₀ mates₀ k₀ bases mates k = 10 - k
+
+loop-holds : tie.Need-loop-holds Inv-loop μ-loop
+loop-holds c = (omega arith, (refl, refl))
+
+add-byte-at : tie.Need-add-byte-at Inv-loop μ-loop
+add-byte-at c = omega arith
+
+byte-at-requires : tie.Need-byte-at-requires Inv-loop μ-loop
+byte-at-requires c κs = tt
+
+put-base-requires : tie.Need-put-base-requires Inv-loop μ-loop
+put-base-requires c κs = tt
+
+add-digit-at : tie.Need-add-digit-at Inv-loop μ-loop
+add-digit-at c = omega arith
+
+add-digit-at-2 : tie.Need-add-digit-at-2 Inv-loop μ-loop
+add-digit-at-2 c = omega arith
+
+digit-at-requires : tie.Need-digit-at-requires Inv-loop μ-loop
+digit-at-requires c κs = tt
+
+put-requires : tie.Need-put-requires Inv-loop μ-loop
+put-requires c κs = tt
+
+add-k : tie.Need-add-k Inv-loop μ-loop
+add-k c = omega arith
+
+loop-less : tie.Need-loop-less Inv-loop μ-loop
+loop-less c = omega arith
+
+loop-again : tie.Need-loop-again Inv-loop μ-loop
+loop-again c = (omega arith, (c .before .before .before .before .before .before .before .put-base .kept .0 ∙ c .before .before .before .before .before .before .before .before .before .before .before .loop .inv .1 .0, c .before .before .put .kept .0 ∙ c .before .before .before .before .before .before .before .before .before .before .before .loop .inv .1 .1))
+
+same-length : tie.Need-same-length Inv-loop μ-loop
+same-length c = c .before .loop .inv .1 .0
+
+same-length-2 : tie.Need-same-length-2 Inv-loop μ-loop
+same-length-2 c = c .before .loop .inv .1 .1
+
+returns : tie.Need-returns Inv-loop μ-loop
+returns c = tt
+
+pub copy-spec : {M : Type 1} → statement M
+copy-spec =
+    tie.close
+    (tie.spec
+    Inv-loop
+    μ-loop
+    loop-holds
+    add-byte-at
+    byte-at-requires
+    put-base-requires
+    add-digit-at
+    add-digit-at-2
+    digit-at-requires
+    put-requires
+    add-k
+    loop-less
+    loop-again
+    same-length
+    same-length-2
+    returns)

@@ -1,0 +1,169 @@
+// The strand of a field: ten columns of bases, a blank and ten of mates (a letter there means 65535), or a rule: a shape, how many bases,
+// how many mates, a seed, how many letters (of ACGUX).
+use super::text;
+ghost use Prim.Native.Nat.{_<_};
+
+// A number below 2 ^ 32 for a seed and a position: two products with a shift after each.
+fn random(seed: usize, i: usize) -> usize {
+    let x = (seed % 65536 * 65536 + i % 65536 + 1) * 2654435761 % 4294967296;
+    let y = (x ^ (x / 65536)) % 4294967296 * 2246822519 % 4294967296;
+    (y ^ (y / 8192)) % 4294967296
+}
+
+fn base(seed: usize, letters: usize, i: usize) -> u8 {
+    if letters == 0 {
+        return b'A';
+    }
+    match random(seed, i) % letters {
+        0 => b'A',
+        1 => b'C',
+        2 => b'G',
+        3 => b'U',
+        _ => b'X',
+    }
+}
+
+// Stores that leave a slice alone where the index lies outside.
+fn put_base(bases: &mut [u8], i: usize, b: u8) {
+    if i < bases.len() {
+        bases[i] = b;
+    }
+}
+
+pub fn put(s: &mut [u16], i: usize, x: usize) {
+    if i < s.len() {
+        s[i] = (x % 65536) as u16;
+    }
+}
+
+// How far the arc that begins a stretch goes, 0 for no arc. Shapes: no arcs (0), stem (1), comb (2), balanced (3), random fold (4), random
+// fold of stems (5).
+fn reach(shape: usize, seed: usize, from: usize, size: usize) -> usize {
+    if shape == 0 {
+        return 0;
+    }
+    if size < 2 {
+        return 0;
+    }
+    if shape == 1 {
+        return size - 1;
+    }
+    if shape == 2 {
+        if from == 0 {
+            return size - 1;
+        }
+        if size < 3 {
+            return 0;
+        }
+        return 2;
+    }
+    if shape == 3 {
+        return size / 2;
+    }
+    let x = random(seed, from % 65536 + random(size, shape) % 65536);
+    if x % 3 == 0 {
+        return 0;
+    }
+    if shape == 5 {
+        if x / 3 % 4 != 0 {
+            return size - 1;
+        }
+    }
+    x / 12 % size
+}
+
+// Folds the positions from `from` to `to`: the arc that begins there, what lies in it, and what comes after it.
+fn fold(shape: usize, seed: usize, from: usize, to: usize, mates: &mut [u16]) {
+    if to <= from {
+        return;
+    }
+    let d = reach(shape, seed, from, to - from);
+    if to - from <= d {
+        return;
+    }
+    let e = from + d;
+    put(mates, from, e);
+    put(mates, e, from);
+    fold(shape, seed, from + 1, e, mates);
+    fold(shape, seed, e + 1, to, mates);
+}
+
+fn spell(seed: usize, letters: usize, n: usize, bases: &mut [u8]) {
+    let mut i = 0;
+    while i < n {
+        put_base(bases, i, base(seed, letters, i));
+        i += 1;
+    }
+}
+
+fn copy(line: &[u8], at: usize, bases: &mut [u8], mates: &mut [u16])
+    requires { ⌜ at < 64 ⌝ }
+{
+    let mut k = 0;
+    while k < 10 {
+        put_base(bases, k, text::byte_at(line, at + k));
+        put(mates, k, text::digit_at(line, at + 11 + k));
+        k += 1;
+    }
+}
+
+fn is_rule(line: &[u8], at: usize) -> bool {
+    let b = text::byte_at(line, at);
+    if b < 48 {
+        return false;
+    }
+    b < 58
+}
+
+// How many bases the field at `at` has, and how many mates.
+pub fn bases_of(line: &[u8], at: usize) -> usize
+    requires { ⌜ at < 64 ⌝ }
+{
+    if is_rule(line, at) {
+        return text::number(line, at + 2);
+    }
+    text::filled(line, at)
+}
+
+pub fn mates_of(line: &[u8], at: usize) -> usize
+    requires { ⌜ at < 64 ⌝ }
+{
+    if is_rule(line, at) {
+        return text::number(line, at + 9);
+    }
+    text::filled(line, at + 11)
+}
+
+fn by_rule(line: &[u8], at: usize, seed: usize, bases: &mut [u8], mates: &mut [u16])
+    requires { ⌜ at < 64 ⌝ }
+{
+    spell(
+        seed,
+        text::digit_at(line, at + 23),
+        text::number(line, at + 2),
+        bases,
+    );
+    fold(
+        text::digit_at(line, at),
+        seed,
+        0,
+        text::number(line, at + 9),
+        mates,
+    );
+}
+
+// Writes the strand of the field at `at`, of a rule the strand of its seed plus i.
+pub fn make(line: &[u8], at: usize, i: usize, bases: &mut [u8], mates: &mut [u16])
+    requires { ⌜ at < 64 ⌝ }
+{
+    if is_rule(line, at) {
+        return by_rule(
+            line,
+            at,
+            text::number(line, at + 16) % 65536 + i % 65536,
+            bases,
+            mates,
+        );
+    }
+    copy(line, at, bases, mates);
+}
