@@ -147,7 +147,7 @@ def molecule(lines, header, name):
     """Bases and mates from the two lines of a molecule."""
     if len(lines) != 2:
         number = lines[2][0] if len(lines) > 2 else header
-        raise Bad('%s:%d:1: a molecule has one line of bases and one of structure, and this one has %d lines' % (name, number, len(lines)))
+        raise Bad('%s:%d:1: a molecule has one line of bases and one of structure, and this one has %d' % (name, number, len(lines)))
     (first, bases), (second, structure) = lines
     begin, bases = len(bases) - len(bases.lstrip()), bases.strip().upper()
     for i, base in enumerate(bases):
@@ -198,13 +198,20 @@ def text_of(data, name, screen=False):
     return ''.join(out)
 
 
+def some_blocks(text, name, most, what):
+    """The blocks of a text that has 1 to `most` molecules; else the error names the first line too many."""
+    blocks, heads = blocks_of(text, name), [header for header, _, _ in records(text, name)]
+    if not 1 <= len(blocks) <= most:
+        raise Bad('%s:%d:1: %d molecules, and %s' % (name, heads[most] if len(heads) > most else 1, len(blocks), what))
+    return blocks
+
+
 def motif_and_catalog(motif, motif_name, catalog, catalog_name):
     """An input of the screen program: the block of the motif, then 1 to 64 blocks of the catalog."""
-    first, rest = blocks_of(motif, motif_name), blocks_of(catalog, catalog_name)
-    if len(first) != 1 or not any(first[0]):
-        raise Bad('%s:1:1: one motif is taken, and this file has %d' % (motif_name, len(first)))
-    if not 1 <= len(rest) <= MOST_SCREENED:
-        raise Bad('%s:1:1: %d molecules, and 1 to %d are screened' % (catalog_name, len(rest), MOST_SCREENED))
+    first = some_blocks(motif, motif_name, 1, 'one motif is taken')
+    rest = some_blocks(catalog, catalog_name, MOST_SCREENED, '1 to %d are screened' % MOST_SCREENED)
+    if not any(first[0]):
+        raise Bad('%s:%d:1: the motif has no bases' % (motif_name, records(motif, motif_name)[0][0]))
     if first[0][1] > LONGEST_MOTIF:
         print('note: a motif of %d bases is refused by a query (1 to %d)' % (first[0][1], LONGEST_MOTIF), file=sys.stderr)
     return b''.join(first + rest)
@@ -267,12 +274,16 @@ def self_test():
     expect_error('>x\n%s\n%s\n' % ('A' * 161, '.' * 161), 'T:2:161: 161 bases')
     data = motif_and_catalog('>m\nA\n.\n', 'M', '>a\nA\n.\n>(empty)\n', 'C')
     assert len(data) == 3 * BLOCK and data[:BLOCK] == data[BLOCK:2 * BLOCK] == one and not any(data[2 * BLOCK:])
-    for motif, catalog in [('>a\nA\n.\n>b\nA\n.\n', '>a\nA\n.\n'), ('>(empty)\n', '>a\nA\n.\n'), ('>m\nA\n.\n', ''), ('>m\nA\n.\n', '>a\nA\n.\n' * 65)]:
+    one_text = '>a\nA\n.\n'
+    for motif, catalog, start in [(one_text + '\n>b\nA\n.\n', one_text, 'M:5:1: 2 molecules, and one motif'), ('', one_text, 'M:1:1: 0 molecules'),
+                                  ('\n>(empty)\n', one_text, 'M:2:1: the motif has no bases'), (one_text, '', 'C:1:1: 0 molecules'),
+                                  (one_text, one_text * 65, 'C:193:1: 65 molecules, and 1 to 64')]:
         try:
             motif_and_catalog(motif, 'M', catalog, 'C')
-        except Bad:
-            continue
-        raise AssertionError((motif, catalog))
+        except Bad as error:
+            assert str(error).startswith(start), (str(error), start)
+        else:
+            raise AssertionError((motif, catalog))
     print('self-test: ok')
 
 
@@ -316,9 +327,7 @@ def run(words):
         command.add_argument('-o', '--output', default='-', help='where to write (else standard output)')
     args = parser.parse_args(words)
     if args.command == 'encode':
-        blocks = blocks_of(read_text(args.text), args.text)
-        if not 1 <= len(blocks) <= MOST_BLOCKS:
-            raise Bad('%s:1:1: %d molecules, and a catalog has 1 to %d' % (args.text, len(blocks), MOST_BLOCKS))
+        blocks = some_blocks(read_text(args.text), args.text, MOST_BLOCKS, 'a catalog has 1 to %d' % MOST_BLOCKS)
         write(args.output, b''.join(blocks))
     elif args.command == 'decode':
         with open(args.blocks, 'rb') as file:

@@ -139,7 +139,7 @@ asked-found =
     ap₂ (λ (u v : List ℕ). queryResult (queryOutcome embeds u v a screenWork hits .answer) (queryOutcome embeds u v a screenWork hits .hits)) (sym left-catalog) (sym left-cache)
     ∙ (unfold second resultsOf bytesLog bytesResult adding asking tale in (ap second (told tale tale-ok)))
 
-same-query : screenQuery embeds input ≡ asked
+same-query : screenQuery embeds input screenWork (replicate mostScreened 0) ≡ asked
 unfolding screenQuery asked hits
 same-query = ap₂ (λ (u : List ℕ) (p : Strand). queryOutcome embeds u emptyBlock p screenWork (replicate mostScreened 0)) catalog-bytes motif-is
 

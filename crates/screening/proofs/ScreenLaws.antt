@@ -27,7 +27,7 @@ use Rattle.strand.specs.declared.Verdict.the-variants.{Accepted, Refused}
 use Rattle.catalog.specs.declared.Queried.{Queried}
 use Rattle.catalog.specs.declared.Queried.the-variants.{Hits, Refused as NotQueried}
 use Rattle.screening.specs.Text.{line, spaced, hitsText, refusedText, badLengthText, badMotifText, mostOutput, Put}
-use Rattle.screening.specs.Screen.{mostScreened, isInput, isMotif, firstBlock, catalogIn, screenWork, answerText, AnswerFits, effectText, screenQuery, screenOutput, hasRoom, screened, screenOutcome}
+use Rattle.screening.specs.Screen.{mostScreened, isInput, isMotif, firstBlock, catalogIn, screenWork, answerText, AnswerFits, effectText, screenQuery, screenOutput, hasRoom, screened, isAsked, cacheLeft, hitsLeft, screenOutcome, workLeft}
 use Rattle.screening.specs.declared.Screened.the-variants.{Written, NoRoom}
 use Rattle.screening.proofs.TextLaws.{most-hits, put-first}
 
@@ -150,7 +150,7 @@ module _ (embeds : Strand → Strand → Bool) (input : List ℕ) where
   unfolding screenOutput choose
   output-bad-motif e m = rw (e, m)
 
-  pub output-answer : isInput input ≡ true → isMotif (firstBlock input) ≡ true → screenOutput embeds input ≡ effectText (screenQuery embeds input)
+  pub output-answer : isInput input ≡ true → isMotif (firstBlock input) ≡ true → screenOutput embeds input ≡ effectText (screenQuery embeds input screenWork (replicate mostScreened 0))
   unfolding screenOutput choose
   output-answer e m = rw (e, m)
 
@@ -221,15 +221,45 @@ pub strand-read : (q : Strand) (x y : List ℕ) (n : ℕ) → n ≡ length (q .b
     → strandOf (take n (q .bases ++ x)) (take n (q .mates ++ y)) ≡ q
 strand-read q x y n e l = λ i. record { bases = take-at (q .bases) x n (sym e) i; mates = take-at (q .mates) y n (l ∙ sym e) i }
 
-module _ (embeds : Strand → Strand → Bool) (input out : List ℕ) (cache work hits : ℕ) where
-  pub outcome-none : hasRoom (length out) cache work hits ≡ false → screened NoRoom out ≡ screenOutcome embeds input out cache work hits
+module _ (embeds : Strand → Strand → Bool) (input out cache : List ℕ) (work : ℕ) (hits : List ℕ) where
+  pub outcome-none : hasRoom (length out) (length cache) work (length hits) ≡ false
+      → screened NoRoom out cache hits ≡ screenOutcome embeds input out cache work hits
   unfolding screenOutcome choose
   outcome-none e = rw e
 
-  pub outcome-written : {new : List ℕ} {n : ℕ} → hasRoom (length out) cache work hits ≡ true → Put (screenOutput embeds input) out new 0 n
-      → screened (Written n) new ≡ screenOutcome embeds input out cache work hits
+  pub outcome-written : {new kept left : List ℕ} {n : ℕ} → hasRoom (length out) (length cache) work (length hits) ≡ true
+      → Put (screenOutput embeds input) out new 0 n
+      → kept ≡ cacheLeft embeds input cache work hits → left ≡ hitsLeft embeds input work hits
+      → screened (Written n) new kept left ≡ screenOutcome embeds input out cache work hits
   unfolding screenOutcome choose
-  outcome-written e p = rw (e, put-first p .0, put-first p .1)
+  outcome-written e p k l = rw (e, put-first p .0, put-first p .1, k, l)
+
+  -- The cache and the hits, for each kind of output.
+  pub left-unasked : isAsked input ≡ false → (cache ≡ cacheLeft embeds input cache work hits) × (hits ≡ hitsLeft embeds input work hits)
+  unfolding cacheLeft hitsLeft choose
+  left-unasked e = (rw e, rw e)
+
+  pub left-asked : {answer : Queried} {kept left : List ℕ} → isAsked input ≡ true
+      → queried answer kept left ≡ queryOutcome embeds (catalogIn input) emptyBlock (moleculeIn (firstBlock input)) work hits
+      → (kept ≡ cacheLeft embeds input cache work hits) × (left ≡ hitsLeft embeds input work hits)
+  unfolding cacheLeft hitsLeft screenQuery choose
+  left-asked e h = (rw e (ap (λ (q : QueryEffect). q .cache) h), rw e (ap (λ (q : QueryEffect). q .hits) h))
+
+pub asked-1 : (input : List ℕ) → isInput input ≡ false → isAsked input ≡ false
+unfolding isAsked
+asked-1 input e = rw e
+
+pub asked-2 : (input : List ℕ) (b : Bool) → isInput input ≡ true → isMotif (firstBlock input) ≡ b → isAsked input ≡ b
+unfolding isAsked
+asked-2 input b e m = rw (e, m)
+
+pub work-none : (w : List ℕ) → workLeft NoRoom w w
+unfolding workLeft
+work-none w = refl
+
+pub work-written : (n : ℕ) (before after : List ℕ) → length after ≡ length before → workLeft (Written n) before after
+unfolding workLeft
+work-written n before after e = e
 
 pub written-room : (n : ℕ) → Written n ≡ NoRoom → ⊥
 written-room n e = let z : _≡_ {A = ℕ} 0 1 = cc in omega arith

@@ -1,5 +1,6 @@
 -- What the screen program prints for the bytes of its input. Assumes nothing.
 use Prim.Native.Nat.{ℕ, _+_, _*_, _/_, _%_, _≤_}
+use mathlib.Core.Path.{_≡_}
 use mathlib.Core.List.{List, _++_}
 use mathlib.Core.Bool.{Bool, not, _&&_}
 use lib.Dec.{eqb, leb}
@@ -56,30 +57,49 @@ effectText e = answerText (e .answer) (e .hits)
 unfoldable pub hasRoom : ℕ → ℕ → ℕ → ℕ → Bool
 hasRoom out cache work hits = leb mostOutput out && eqb cache blockSize && leb screenWork work && leb mostScreened hits
 
+-- The effect of `screen`: its answer, and the output buffer, the cache and the slice of the hits afterwards.
 pub record ScreenEffect : Type 0 where
   pub answer : Screened
   pub out : List ℕ
+  pub cache : List ℕ
+  pub hits : List ℕ
 
-abbrev pub screened : Screened → List ℕ → ScreenEffect
-screened answer out = record { answer = answer; out = out }
+abbrev pub screened : Screened → List ℕ → List ℕ → List ℕ → ScreenEffect
+screened answer out cache hits = record { answer = answer; out = out; cache = cache; hits = hits }
+
+-- The input comes to a query.
+unfoldable pub isAsked : List ℕ → Bool
+isAsked input = isInput input && isMotif (firstBlock input)
 
 module _ (embeds : Strand → Strand → Bool) where
-  -- It queries with a zeroed cache of one block.
-  unfoldable pub screenQuery : List ℕ → QueryEffect
-  screenQuery input =
-      queryOutcome embeds (catalogIn input) emptyBlock (moleculeIn (firstBlock input)) screenWork (replicate mostScreened 0)
+  -- It queries with a zeroed cache of one block, a work slice of `work` entries and a slice for the hits.
+  unfoldable pub screenQuery : List ℕ → ℕ → List ℕ → QueryEffect
+  screenQuery input work hits = queryOutcome embeds (catalogIn input) emptyBlock (moleculeIn (firstBlock input)) work hits
 
   -- An input of other length prints `bad length`, else an unsound or empty first block `bad motif`, else the answer of the query.
   unfoldable pub screenOutput : List ℕ → List ℕ
   screenOutput input =
       choose (not (isInput input)) badLengthText
       (choose (not (isMotif (firstBlock input))) badMotifText
-      (effectText (screenQuery input)))
+      (effectText (screenQuery input screenWork (replicate mostScreened 0))))
 
-  -- What `screen` answers and leaves in its output buffer: the output, then what stood past it; nothing where a buffer is
-  -- too short or the cache is not one block.
-  unfoldable pub screenOutcome : List ℕ → List ℕ → ℕ → ℕ → ℕ → ScreenEffect
+  -- The cache and the hits afterwards: as the query leaves them, or as they were.
+  unfoldable pub cacheLeft : List ℕ → List ℕ → ℕ → List ℕ → List ℕ
+  cacheLeft input cache work hits = choose (isAsked input) (screenQuery input work hits .cache) cache
+
+  unfoldable pub hitsLeft : List ℕ → ℕ → List ℕ → List ℕ
+  hitsLeft input work hits = choose (isAsked input) (screenQuery input work hits .hits) hits
+
+  -- What `screen` answers and leaves: the output, then what stood past it in the output buffer; nothing is written where a buffer is too
+  -- short or the cache is not one block.
+  unfoldable pub screenOutcome : List ℕ → List ℕ → List ℕ → ℕ → List ℕ → ScreenEffect
   screenOutcome input out cache work hits =
-      choose (hasRoom (length out) cache work hits)
-      (screened (Written (length (screenOutput input))) (screenOutput input ++ drop (length (screenOutput input)) out))
-      (screened NoRoom out)
+      choose (hasRoom (length out) (length cache) work (length hits))
+      (screened (Written (length (screenOutput input))) (screenOutput input ++ drop (length (screenOutput input)) out)
+      (cacheLeft input cache work hits) (hitsLeft input work hits))
+      (screened NoRoom out cache hits)
+
+-- The work slice keeps its length; where nothing was written it keeps every entry.
+unfoldable pub workLeft : Screened → List ℕ → List ℕ → Type 0
+workLeft (Written n) before after = length after ≡ length before
+workLeft NoRoom before after = after ≡ before

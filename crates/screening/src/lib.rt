@@ -9,7 +9,7 @@ ghost use lib.ListN.{length};
 ghost use Rattle.block.specs.Content.{emptyBlock, moleculeIn};
 ghost use Rattle.catalog.specs.Calls.{queried, queryOutcome};
 ghost use Rattle.screening.specs.Text.{refusedText, mostOutput, Put};
-ghost use Rattle.screening.specs.Screen.{isInput, isMotif, firstBlock, catalogIn, answerText, AnswerFits, screenOutput, hasRoom, screened, screenOutcome};
+ghost use Rattle.screening.specs.Screen.{isInput, isMotif, firstBlock, catalogIn, answerText, AnswerFits, screenOutput, hasRoom, screened, cacheLeft, hitsLeft, screenOutcome, workLeft};
 ghost use Rattle.catalog.specs.Motifs.{embeds};
 
 // What screen answers: how many bytes of output it wrote, or that a borrowed buffer is too short or the cache not one block.
@@ -119,6 +119,7 @@ fn write_output(
 ) -> usize
     requires { ⌜ hasRoom (length (now out)) (length (now cache)) (length (now work)) (length (now hits)) ≡ true ⌝ }
     ensures { λ r. ⌜ Put (screenOutput embeds (now (input .entry))) (now (out .entry)) (now (out .exit)) 0 r × (r ≤ mostOutput) ⌝ }
+    ensures { λ r. ⌜ (now (cache .exit) ≡ cacheLeft embeds (now (input .entry)) (now (cache .entry)) (length (now (work .entry))) (now (hits .entry))) × (now (hits .exit) ≡ hitsLeft embeds (now (input .entry)) (length (now (work .entry))) (now (hits .entry))) ⌝ }
 {
     if !is_input(input) {
         return text::put_word(out, 0, b"bad length\n");
@@ -130,8 +131,8 @@ fn write_output(
     put_answer(out, answer, hits)
 }
 
-// From the whole input to the whole output. The cache, the work slice and the hits are scratch: their contents matter nothing, and what
-// they hold afterwards is free. Where a buffer is too short, or the cache is not one block, nothing is written in any. No output is longer than mostOutput.
+// From the whole input to the whole output. The cache, the work slice and the hits are scratch: their contents show neither in the answer nor
+// in the output. Where a buffer is too short, or the cache is not one block, nothing is written in any. No output is longer than mostOutput.
 pub fn screen(
     input: &[u8],
     out: &mut [u8],
@@ -139,8 +140,8 @@ pub fn screen(
     work: &mut [u16],
     hits: &mut [u16],
 ) -> Screened
-    ensures { λ r. ⌜ screened r (now (out .exit)) ≡ screenOutcome embeds (now (input .entry)) (now (out .entry)) (length (now (cache .entry))) (length (now (work .entry))) (length (now (hits .entry))) ⌝ }
-    ensures { λ r. ⌜ (r ≡ Screened.NoRoom → (now (cache .exit) ≡ now (cache .entry)) × (now (work .exit) ≡ now (work .entry)) × (now (hits .exit) ≡ now (hits .entry))) ⌝ }
+    ensures { λ r. ⌜ screened r (now (out .exit)) (now (cache .exit)) (now (hits .exit)) ≡ screenOutcome embeds (now (input .entry)) (now (out .entry)) (now (cache .entry)) (length (now (work .entry))) (now (hits .entry)) ⌝ }
+    ensures { λ r. ⌜ workLeft r (now (work .entry)) (now (work .exit)) ⌝ }
     ensures { λ r. ⌜ ((n : ℕ) → r ≡ Screened.Written n → n ≤ mostOutput) ⌝ }
 {
     if !has_room(out.len(), cache.len(), work.len(), hits.len()) {

@@ -1,5 +1,6 @@
 // Tests of the crate screening. The input has lines of 14 bytes: a letter, two numbers of five digits. `B d n` writes n times A without bonds into
-// block d, `Z d` empties it, `S i v` sets byte i to v, and `R n` screens the first n bytes; its line is written, then what the call answers.
+// block d, `Z d` empties it, `S i v` sets byte i to v, and `R n k` screens the first n bytes with buffer k too short; its line is
+// written, then what the call answers. tools/screening_cases.py makes the lines and what they must give.
 use screening::Screened;
 
 fn image_buffer() -> [u8; 33281] {
@@ -8,6 +9,10 @@ fn image_buffer() -> [u8; 33281] {
 
 fn work_buffer() -> [u16; 9024] {
     [0u16; 9024]
+}
+
+fn short_buffer() -> [u16; 9023] {
+    [0u16; 9023]
 }
 
 fn byte_at(s: &[u8], i: usize) -> u8 {
@@ -112,23 +117,49 @@ fn tell(input: &[u8], out: &mut [u8], cache: &mut [u8], work: &mut [u16], hits: 
     say(b"no room\n");
 }
 
-// The buffers, with other bytes than zero in them; `room` 1 has one byte of output too few.
-fn screen(input: &[u8], room: usize) {
+// The buffers, with other bytes than zero in them. One has an entry too few: 1 the output, 2 the cache, 3 the work, 4 the hits.
+fn lend_out(input: &[u8], wrong: usize, cache: &mut [u8], work: &mut [u16], hits: &mut [u16]) {
     let mut out = [7u8; 202];
-    let mut cache = [7u8; 512];
-    let mut work = work_buffer();
-    let mut hits = [7u16; 64];
-    if room == 1 {
-        return tell(input, &mut out[..201], &mut cache, &mut work, &mut hits);
+    if wrong == 1 {
+        return tell(input, &mut out[..201], cache, work, hits);
     }
-    tell(input, &mut out, &mut cache, &mut work, &mut hits);
+    tell(input, &mut out, cache, work, hits);
 }
 
-fn run(line: &[u8], image: &[u8], n: usize, room: usize) {
+fn lend_cache(input: &[u8], wrong: usize, work: &mut [u16], hits: &mut [u16]) {
+    let mut cache = [7u8; 512];
+    if wrong == 2 {
+        return lend_out(input, wrong, &mut cache[..511], work, hits);
+    }
+    lend_out(input, wrong, &mut cache, work, hits);
+}
+
+fn short_work(input: &[u8], hits: &mut [u16]) {
+    let mut work = short_buffer();
+    lend_cache(input, 0, &mut work, hits);
+}
+
+fn lend_work(input: &[u8], wrong: usize, hits: &mut [u16]) {
+    if wrong == 3 {
+        return short_work(input, hits);
+    }
+    let mut work = work_buffer();
+    lend_cache(input, wrong, &mut work, hits);
+}
+
+fn screen(input: &[u8], wrong: usize) {
+    let mut hits = [7u16; 64];
+    if wrong == 4 {
+        return lend_work(input, wrong, &mut hits[..63]);
+    }
+    lend_work(input, wrong, &mut hits);
+}
+
+fn run(line: &[u8], image: &[u8], n: usize, wrong: usize) {
     let a = 0;
     say(line);
     if n <= image.len() {
-        screen(&image[a..n], room);
+        screen(&image[a..n], wrong);
     }
 }
 
@@ -164,7 +195,7 @@ fn over(text: &[u8]) {
 }
 
 fn main() {
-    let mut text = io::buffer();
+    let mut text = io::large_buffer();
     let n = io::read_full(0, &mut text);
     over(&text[..n]);
 }

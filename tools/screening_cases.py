@@ -1,0 +1,164 @@
+#!/usr/bin/env python3
+"""For tests alone: writes the lines that screening_test reads, and what it must write, by screen_reference.py.
+
+    screening_cases.py          writes crates/screening_test/stdin and stdout
+    screening_cases.py --check  says whether they are as it would write them
+"""
+import os
+import random
+import sys
+
+sys.path.insert(0, os.path.dirname(os.path.abspath(__file__)))
+from dotbracket import BLOCK, encode, random_molecule
+from screen_reference import output
+
+ROOT = os.path.join(os.path.dirname(os.path.abspath(__file__)), '..')
+MOST = 65 * BLOCK
+
+
+class Cases:
+    """The lines so far, what they must give, and the bytes that they make."""
+
+    def __init__(self):
+        self.lines, self.told, self.image = [], [], bytearray(MOST + 1)
+
+    def line(self, letter, a, b=0):
+        self.lines.append('%s %05d %05d\n' % (letter, a, b))
+
+    def same_bases(self, d, n):
+        """n times A without bonds in block d."""
+        self.line('B', d, n)
+        self.image[BLOCK * d:BLOCK * (d + 1)] = encode('A' * n, list(range(n)))
+
+    def empty(self, d):
+        self.line('Z', d)
+        self.image[BLOCK * d:BLOCK * (d + 1)] = bytes(BLOCK)
+
+    def byte(self, i, value):
+        self.line('S', i, value)
+        self.image[i] = value
+
+    def block(self, d, block):
+        """Block d byte by byte."""
+        if any(self.image[BLOCK * d:BLOCK * (d + 1)]):
+            self.empty(d)
+        for i in range(BLOCK):
+            if block[i]:
+                self.byte(BLOCK * d + i, block[i])
+
+    def screen(self, n, wrong=0):
+        self.line('R', n, wrong)
+        self.told.append(self.lines[-1] + ('no room\n' if wrong else output(bytes(self.image[:n]))))
+
+    def each_wrong(self, n):
+        for wrong in range(1, 5):
+            self.screen(n, wrong)
+
+
+def lengths(cases):
+    """No input, one block, one byte less and more, the longest input; an empty and an unsound first block."""
+    cases.screen(0)
+    cases.same_bases(0, 1)
+    for n in (1, 511, 512, 513, 1023, 1024, 1025, 1536):
+        cases.screen(n)
+    cases.same_bases(1, 1)
+    cases.screen(1024)
+    cases.screen(1536)
+    cases.each_wrong(1024)
+    cases.each_wrong(512)
+    cases.byte(0, 9)
+    cases.screen(512)
+    cases.screen(1024)
+    cases.each_wrong(1024)
+    cases.empty(0)
+    cases.screen(1024)
+
+
+def long_motifs(cases):
+    """Motifs of 119 to 160 bases against molecules of 119, 120 and 160."""
+    for d, n in ((1, 119), (2, 120), (3, 160)):
+        cases.same_bases(d, n)
+    for n in range(119, 161):
+        cases.same_bases(0, n)
+        cases.screen(4 * BLOCK)
+    cases.byte(BLOCK, 9)
+    cases.screen(4 * BLOCK)
+
+
+def example(cases, name):
+    """A folder of examples/, byte by byte."""
+    with open(os.path.join(ROOT, 'examples', name, 'input.bin'), 'rb') as file:
+        data = file.read()
+    for d in range(len(data) // BLOCK):
+        cases.block(d, data[BLOCK * d:BLOCK * (d + 1)])
+    cases.screen(len(data))
+    with open(os.path.join(ROOT, 'examples', name, 'output.txt')) as file:
+        assert cases.told[-1] == cases.lines[-1] + file.read(), name
+
+
+def bonds(cases, rng):
+    """Random motifs with bonds in random molecules."""
+    for _ in range(12):
+        cases.block(0, encode(*few_letters(random_molecule(rng, 5))))
+        for d in range(1, 4):
+            cases.block(d, encode(*few_letters(random_molecule(rng, 14))))
+        cases.screen(4 * BLOCK)
+
+
+def few_letters(strand):
+    return strand[0].replace('G', 'A').replace('U', 'C'), strand[1]
+
+
+def unsound_places(cases, rng):
+    """64 molecules; each in turn unsound, by a byte of its own; then two, of which the lower counts."""
+    cases.same_bases(0, 2)
+    for d in range(64):
+        cases.same_bases(1 + d, 1 + d % 3)
+    cases.screen(MOST)
+    for n in (MOST - 1, MOST + 1):
+        cases.screen(n)
+    cases.each_wrong(MOST)
+    for d in range(64):
+        i = BLOCK * (1 + d) + rng.randrange(BLOCK)
+        old, new = cases.image[i], (cases.image[i] + rng.randint(1, 255)) % 256
+        cases.byte(i, new)
+        cases.screen(MOST)
+        cases.byte(i, old)
+    for d in (63, 40, 7, 0):
+        cases.byte(BLOCK * (1 + d), 2)
+        cases.screen(MOST)
+    for d in (0, 7, 40, 63):
+        cases.byte(BLOCK * (1 + d), 1)
+    cases.same_bases(0, 1)
+    cases.screen(MOST)
+    cases.empty(64)
+    cases.screen(MOST)
+
+
+def main(words):
+    rng, cases = random.Random(3), Cases()
+    lengths(cases)
+    long_motifs(cases)
+    example(cases, 'small')
+    example(cases, 'trna')
+    bonds(cases, rng)
+    unsound_places(cases, rng)
+    text, told = ''.join(cases.lines), ''.join(cases.told)
+    assert len(text) <= 65536, len(text)
+    same = True
+    for name, data in (('stdin', text), ('stdout', told)):
+        path = os.path.join(ROOT, 'crates', 'screening_test', name)
+        if words == ['--check']:
+            with open(path) as file:
+                same = same and file.read() == data
+        else:
+            with open(path, 'w') as file:
+                file.write(data)
+    if not same:
+        sys.exit('crates/screening_test: stdin or stdout differs from what tools/screening_cases.py makes')
+
+
+if __name__ == '__main__':
+    if sys.argv[1:] not in ([], ['--check']):
+        sys.exit(__doc__)
+    main(sys.argv[1:])
