@@ -1,100 +1,88 @@
-// A few strands by number, added and asked for, and which of them embed: 01's table of settled examples.
+// The table's rows 1 to 7, written out word by word, and the number of a refusal.
+use super::bytes::entry;
 
-// Molecules: 0 is GAC, 2 1 0; 1 is GGC, 2 1 0; 2 is A, 0; 3 is AGAC, 0 3 2 1.
-fn add_hairpin(cat: &mut [u8], cache: &mut [u8], d: usize, middle: u8) -> catalog::Updated {
-    let bases = [71u8, middle, 67];
-    let mates = [2u16, 1, 0];
-    catalog::add(cat, cache, d, &bases, &mates)
+// Row, side and place in one number.
+pub fn code(row: usize, side: usize, place: usize) -> usize {
+    row % 100 * 10000 + side % 10 * 1000 + place % 1000
 }
 
-fn add_one(cat: &mut [u8], cache: &mut [u8], d: usize) -> catalog::Updated {
-    let bases = [65u8];
-    let mates = [0u16];
-    catalog::add(cat, cache, d, &bases, &mates)
+fn letter(b: u8) -> bool {
+    match b {
+        b'A' | b'C' | b'G' | b'U' => true,
+        _ => false,
+    }
 }
 
-fn add_four(cat: &mut [u8], cache: &mut [u8], d: usize) -> catalog::Updated {
-    let bases = [65u8, 71, 65, 67];
-    let mates = [0u16, 3, 2, 1];
-    catalog::add(cat, cache, d, &bases, &mates)
+// Two arcs cross when a < i < b < j for arcs (a, b) and (i, j).
+fn cross(a: usize, b: usize, i: usize, j: usize) -> bool {
+    if a < i {
+        if i < b {
+            return b < j;
+        }
+    }
+    false
 }
 
-pub fn add(cat: &mut [u8], cache: &mut [u8], d: usize, k: u64) -> catalog::Updated {
-    if k == 0 {
-        return add_hairpin(cat, cache, d, 65);
+// Some arc (a, b) crosses the arc (i, j).
+fn crossed(mates: &[u16], i: usize) -> bool {
+    let j = entry(mates, i);
+    let mut a = 0;
+    while a < mates.len() {
+        if cross(a, entry(mates, a), i, j) {
+            return true;
+        }
+        a += 1;
     }
-    if k == 1 {
-        return add_hairpin(cat, cache, d, 71);
-    }
-    if k == 2 {
-        return add_one(cat, cache, d);
-    }
-    add_four(cat, cache, d)
+    false
 }
 
-// Motifs: 0 is GC, 1 0 and 1 is GC, 0 1, with one key; 2 is A, 0; 3 is AGC, 0 2 1.
-fn ask_pair(
-    cat: &[u8],
-    cache: &mut [u8],
-    work: &mut [u16],
-    hits: &mut [u16],
-    a: u16,
-    b: u16,
-) -> catalog::Queried {
-    let bases = [71u8, 67];
-    let mates = [a, b];
-    catalog::query(cat, cache, &bases, &mates, work, hits)
+// The row applies at position i.
+fn applies(row: usize, bases: &[u8], mates: &[u16], i: usize) -> bool {
+    if bases.len() <= i {
+        return false;
+    }
+    if row == 4 {
+        return !letter(bases[i]);
+    }
+    if row == 5 {
+        return bases.len() <= entry(mates, i);
+    }
+    if row == 6 {
+        return entry(mates, entry(mates, i)) != i;
+    }
+    crossed(mates, i)
 }
 
-fn ask_one(cat: &[u8], cache: &mut [u8], work: &mut [u16], hits: &mut [u16]) -> catalog::Queried {
-    let bases = [65u8];
-    let mates = [0u16];
-    catalog::query(cat, cache, &bases, &mates, work, hits)
+// The lowest position at which the row applies, or the length.
+fn lowest(row: usize, bases: &[u8], mates: &[u16]) -> usize {
+    let mut i = 0;
+    while i < bases.len() {
+        if applies(row, bases, mates, i) {
+            return i;
+        }
+        i += 1;
+    }
+    i
 }
 
-fn ask_three(cat: &[u8], cache: &mut [u8], work: &mut [u16], hits: &mut [u16]) -> catalog::Queried {
-    let bases = [65u8, 71, 67];
-    let mates = [0u16, 2, 1];
-    catalog::query(cat, cache, &bases, &mates, work, hits)
-}
-
-pub fn ask(
-    cat: &[u8],
-    cache: &mut [u8],
-    work: &mut [u16],
-    hits: &mut [u16],
-    j: u64,
-) -> catalog::Queried {
-    if j == 0 {
-        return ask_pair(cat, cache, work, hits, 1, 0);
+// 0, or the number of the first refusal of a strand of one side with so many bases at most.
+pub fn answer(bases: &[u8], mates: &[u16], side: usize, greatest: usize) -> usize {
+    if bases.len() != mates.len() {
+        return code(1, side, 0);
     }
-    if j == 1 {
-        return ask_pair(cat, cache, work, hits, 0, 1);
+    if bases.len() == 0 {
+        return code(2, side, 0);
     }
-    if j == 2 {
-        return ask_one(cat, cache, work, hits);
+    if greatest < bases.len() {
+        return code(3, side, 0);
     }
-    ask_three(cat, cache, work, hits)
-}
-
-// Whether motif j embeds in molecule k.
-pub fn embeds(j: u64, k: u64) -> bool {
-    if j == 0 {
-        return k != 2;
+    let mut row = 4;
+    while row < 8 {
+        let i = lowest(row, bases, mates);
+        if i < bases.len() {
+            return code(row, side, i);
+        }
+        row += 1;
     }
-    if j == 1 {
-        return k == 1;
-    }
-    if j == 2 {
-        return k != 1;
-    }
-    k == 3
-}
-
-// The slot of motif j among two: keys 139, 139, 65 and 206.
-pub fn slot(j: u64) -> usize {
-    if j == 3 {
-        return 0;
-    }
-    1
+    0
 }

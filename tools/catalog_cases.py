@@ -1,0 +1,340 @@
+#!/usr/bin/env python3
+"""Writes the input of the test program catalog_test: `python3 tools/catalog_cases.py > crates/catalog_test/stdin`.
+
+The columns of a line are described in crates/catalog_test/src/main.rt. The answers of the cases are written here by hand, from the table of
+refusals and its order; for random calls none is written, since the program compares each call with its own plain model.
+"""
+
+LARGEST = 9999999
+
+
+def line(kind, d=0, cat=0, cache=0, work=0, hits=0, times=1, answer=0, bases='', mates='', note=''):
+    text = kind + ''.join(' %07d' % n for n in (d, cat, cache, work, hits, times, answer)) + ' %-10s %-10s %s' % (bases, mates, note)
+    print('%-127s' % text)
+
+
+def group(name):
+    print('%-127s' % ('G %s:' % name))
+
+
+def refused(row, side, place=0):
+    return row * 10000 + side * 1000 + place
+
+
+def found(count, searched):
+    return 9000000 + count * 1000 + searched
+
+
+class World:
+    """Calls with so many catalog and cache blocks."""
+
+    def __init__(self, b, s):
+        self.b, self.cat, self.cache = b, 512 * b, 512 * s
+        line('N')
+
+    def add(self, d, bases, mates, answer=0, note='', times=1, cat=None, cache=None):
+        line('A', d, self.cat if cat is None else cat, self.cache if cache is None else cache, times=times, answer=answer, bases=bases, mates=mates, note=note)
+
+    def remove(self, d, answer=0, note='', cat=None, cache=None):
+        line('R', d, self.cat if cat is None else cat, self.cache if cache is None else cache, answer=answer, note=note)
+
+    def query(self, bases, mates, answer, note='', work=None, hits=None, cat=None, cache=None):
+        n = int(mates[1:]) if mates[:1] in ('-', '=') else len(bases)
+        line('Q', 0, self.cat if cat is None else cat, self.cache if cache is None else cache,
+             64 * (n + 1) + 1280 if work is None else work, self.b if hits is None else hits, answer=answer, bases=bases, mates=mates, note=note)
+
+    def random(self, kind, seed, times):
+        line(kind, 0, self.cat, self.cache, seed, times=times)
+
+
+def set_byte(kind, i, v, note=''):
+    line(kind, i, work=v, note=note)
+
+
+# Rows 1 to 7 of a strand of a side, and each two neighbours that can apply at once. Rows 2 and 3 cannot.
+def strands(call, side, too_long):
+    call('AC', '0', refused(1, side), 'row 1')
+    call('', '0', refused(1, side), 'rows 1 and 2')
+    call('', '', refused(2, side), 'row 2')
+    call('A', '-%03d' % too_long, refused(3, side), 'row 3')
+    call('X', '-%03d' % too_long, refused(3, side), 'rows 3 and 4')
+    call('AXC', '012', refused(4, side, 1), 'row 4')
+    call('AXC', '019', refused(4, side, 1), 'rows 4 and 5')
+    call('A', '1', refused(5, side), 'row 5')
+    call('A', 'z', refused(5, side), 'row 5, mate 65535')
+    call('AC', '19', refused(5, side, 1), 'rows 5 and 6')
+    call('AC', '11', refused(6, side), 'row 6')
+    call('ACGUA', '23010', refused(6, side, 4), 'rows 6 and 7')
+    call('ACGU', '2301', refused(7, side, 1), 'row 7')
+
+
+# Row 10 for each way in which a buffer is not 1 to 512, or 1 to 64, whole blocks.
+def buffers(call):
+    for cat, note in ((0, 'no catalog'), (511, 'catalog of 511 bytes'), (1025, 'catalog of 1025 bytes'), (262656, 'catalog of 513 blocks')):
+        call(refused(10, 2), 'row 10, ' + note, cat=cat)
+    for cache, note in ((0, 'no cache'), (511, 'cache of 511 bytes'), (513, 'cache of 513 bytes'), (33280, 'cache of 65 blocks')):
+        call(refused(10, 2), 'row 10, ' + note, cache=cache)
+
+
+def rows_of_add():
+    w = World(2, 1)
+    w.add(0, 'A', '0', note='0 is held, 1 is not')
+    w.query('A', '0', found(1, 1), 'an entry in the cache')
+    buffers(lambda answer, note, **lens: w.add(1, 'GC', '10', answer, note, **lens))
+    w.add(2, 'GC', '10', refused(12, 2), 'row 12')
+    w.add(LARGEST, 'GC', '10', refused(12, 2), 'row 12, the largest number')
+    w.add(2, 'AC', '0', refused(12, 2), 'rows 12 and 1; 12 and 13 cannot both apply')
+    w.add(0, 'GC', '10', refused(13, 2), 'row 13')
+    w.add(0, 'AC', '0', refused(13, 2), 'rows 13 and 1')
+    strands(lambda bases, mates, answer, note: w.add(1, bases, mates, answer, note), 1, 161)
+    set_byte('T', 512, 9, 'block 1 is unsound')
+    w.add(1, 'GC', '10', refused(11, 2, 1), 'row 11')
+    w.add(0, 'GC', '10', refused(11, 2, 1), 'rows 11 and 13')
+    w.add(2, 'GC', '10', refused(11, 2, 1), 'rows 11 and 12')
+    w.add(1, 'GC', '10', refused(10, 2), 'rows 10 and 11', cache=513)
+    set_byte('T', 30, 9, 'block 0 too')
+    w.add(1, 'GC', '10', refused(11, 2, 0), 'row 11, the lowest')
+    group('rows of add')
+
+
+def rows_of_remove():
+    w = World(2, 1)
+    w.remove(0, refused(14, 2), 'row 14, zeroed')
+    w.add(0, 'A', '0')
+    w.query('A', '0', found(1, 1), 'an entry in the cache')
+    buffers(lambda answer, note, **lens: w.remove(0, answer, note, **lens))
+    w.remove(1, refused(14, 2), 'row 14')
+    w.remove(2, refused(12, 2), 'rows 12 and 14')
+    w.remove(LARGEST, refused(12, 2), 'row 12, the largest number')
+    set_byte('T', 512, 9, 'block 1 is unsound')
+    w.remove(0, refused(11, 2, 1), 'row 11')
+    w.remove(1, refused(11, 2, 1), 'rows 11 and 14')
+    w.remove(2, refused(11, 2, 1), 'rows 11 and 12')
+    w.remove(0, refused(10, 2), 'rows 10 and 11', cache=513)
+    group('rows of remove')
+
+
+def rows_of_query():
+    w = World(2, 1)
+    w.add(0, 'A', '0')
+    w.query('A', '0', found(1, 1), 'an entry in the cache')
+    buffers(lambda answer, note, **lens: w.query('A', '0', answer, note, **lens))
+    strands(lambda bases, mates, answer, note: w.query(bases, mates, answer, note), 0, 121)
+    w.query('ACGU', '2301', refused(7, 0, 1), 'rows 7 and 9', hits=1)
+    w.query('GC', '10', refused(9, 2), 'row 9', hits=1)
+    w.query('GC', '10', refused(9, 2), 'rows 9 and 8', hits=1, work=1471)
+    w.query('GC', '10', refused(8, 2), 'row 8', work=1471)
+    w.query('GC', '10', refused(8, 2), 'row 8, no entries', work=0)
+    w.query('A', '0', refused(8, 2), 'row 8', work=1407)
+    w.query('A', '0', found(1, 0), 'enough work, the entry is still there', work=1408)
+    w.query('GC', '10', found(0, 1), 'enough work, and more hits than blocks', work=1472, hits=5)
+    set_byte('T', 512, 9, 'block 1 is unsound')
+    w.query('GC', '10', refused(11, 2, 1), 'row 11')
+    w.query('AC', '0', refused(11, 2, 1), 'rows 11 and 1')
+    w.query('GC', '10', refused(10, 2), 'rows 10 and 11', cache=513)
+    group('rows of query')
+
+
+# Each rule of a molecule block broken, with the right checksum; the byte goes back where the next rule follows.
+def unsound_blocks():
+    for i, v, note in ((0, 2, 'kind 2'), (1, 0, 'no bases'), (1, 161, '161 bases'), (2, 1, 'byte 2'), (27, 1, 'byte 27'), (28, 88, 'no letter'), (32, 65, 'base 4'),
+                       (187, 1, 'base 159'), (188, 9, 'a mate too large'), (188, 1, 'not mutual'), (196, 1, 'mate 4'), (507, 1, 'byte 507')):
+        w = World(2, 1)
+        w.add(1, 'ACGU', '3210')
+        set_byte('V', 512 + i, v, note)
+        w.query('A', '0', refused(11, 2, 1), note)
+        w.remove(1, refused(11, 2, 1), note)
+        w.add(0, 'A', '0', refused(11, 2, 1), note)
+    group('unsound molecule blocks')
+
+
+def story():
+    w = World(2, 1)
+    w.add(0, 'GAC', '210')
+    w.add(1, 'GGC', '210')
+    w.query('GC', '10', found(2, 2))
+    w.query('GC', '10', found(2, 0))
+    w.query('GC', '01', found(1, 2))
+    w.query('GC', '10', found(2, 2))
+    w.remove(0)
+    w.query('GC', '10', found(1, 0))
+    group('story of document 01')
+
+
+def used_again():
+    w = World(2, 1)
+    w.add(0, 'GAC', '210')
+    w.add(1, 'GGC', '210')
+    w.query('GC', '10', found(2, 2))
+    w.remove(0)
+    w.add(0, 'A', '0', note='number 0 again, no query between')
+    w.query('GC', '10', found(1, 1), '0 is searched, and no hit')
+    w.query('GC', '10', found(1, 0))
+    w.remove(0)
+    w.add(2, 'GAC', '210', refused(12, 2), 'a refused call between')
+    w.add(0, 'GAC', '210')
+    w.query('GC', '10', found(2, 1), '0 is searched, and a hit')
+    w.remove(1)
+    w.remove(0)
+    w.query('GC', '10', found(0, 0), 'nothing is held')
+    group('numbers used again')
+
+
+# A byte of each region of an entry: the entry is lost, and nothing else.
+def altered():
+    for i, v, note in ((0, 3, 'kind'), (1, 3, 'length'), (2, 1, 'zeros'), (19, 1, 'zeros'), (20, 67, 'first base'), (21, 71, 'last base'), (22, 65, 'unused base'),
+                       (139, 1, 'unused base'), (140, 0, 'first mate'), (141, 1, 'first mate'), (144, 2, 'unused mate'), (379, 1, 'unused mate'), (380, 1, 'searched'), (380, 7, 'searched'),
+                       (443, 1, 'searched'), (444, 0, 'hits'), (507, 1, 'hits'), (508, 0, 'checksum'), (511, 1, 'checksum')):
+        w = World(2, 2)
+        w.add(0, 'GAC', '210')
+        w.add(1, 'GGC', '210')
+        w.query('AGC', '021', found(0, 2), 'slot 0')
+        w.query('GC', '10', found(2, 2), 'slot 1')
+        set_byte('S', 512 + i, v, note)
+        w.query('GC', '11', refused(6, 0), 'a refused call leaves the altered block')
+        w.query('AGC', '021', found(0, 0), 'the other entry stays')
+        w.query('GC', '10', found(2, 2), 'all is searched again')
+        set_byte('S', 512 + i, v, note)
+        w.remove(0)
+        w.query('GC', '10', found(1, 1), 'remove emptied the block')
+        set_byte('S', 512 + i, v, note)
+        w.add(0, 'GAC', '210')
+        w.query('GC', '10', found(2, 2), 'add emptied the block')
+    group('one byte altered')
+
+
+# Entries that break one rule and have the right checksum.
+def unsound_entries():
+    for i, v, note in ((0, 1, 'kind 1'), (1, 0, 'no bases'), (1, 121, '121 bases'), (2, 1, 'byte 2'), (19, 1, 'byte 19'), (20, 88, 'no letter'), (22, 65, 'unused base'), (139, 65, 'unused base'),
+                       (140, 2, 'mate too large'), (140, 0, 'not mutual'), (144, 2, 'unused mate'), (379, 1, 'unused mate'), (444, 7, 'a hit that was not searched')):
+        w = World(2, 1)
+        w.add(0, 'GAC', '210')
+        w.add(1, 'GGC', '210')
+        w.query('GC', '10', found(2, 2))
+        set_byte('U', i, v, note)
+        w.query('GC', '10', found(2, 2), 'all is searched again')
+    group('unsound entries')
+
+
+# Entries that are sound and yet not what these calls wrote: held numbers are trusted, others ignored.
+def foreign():
+    w = World(2, 1)
+    w.add(0, 'GAC', '210')
+    w.add(1, 'GGC', '210')
+    w.query('GC', '10', found(2, 2))
+    set_byte('F', 444, 0, 'no hits')
+    w.query('GC', '10', found(0, 0), 'the entry is trusted')
+    set_byte('F', 444, 1, 'hit 0')
+    w.query('GC', '10', found(1, 0), 'the entry is trusted')
+    set_byte('F', 444, 0)
+    set_byte('F', 380, 2, '0 was not searched, 1 is no hit')
+    w.query('GC', '10', found(1, 1), '0 is searched')
+    set_byte('F', 380, 255, 'searched numbers 2 to 7')
+    set_byte('F', 443, 128, 'and number 511')
+    set_byte('F', 444, 254, 'hits 1 to 7')
+    w.query('GC', '10', found(1, 0), 'numbers that are not held are left out')
+    set_byte('F', 380, 255)
+    set_byte('F', 444, 255)
+    w.remove(1, note='takes 1 out, and leaves 2 to 7')
+    w.add(1, 'A', '0')
+    w.query('GC', '10', found(1, 1), '1 is searched')
+    set_byte('F', 20, 67, 'the motif CC')
+    w.query('GC', '10', found(1, 2), 'another motif')
+    set_byte('F', 380, 0, 'nothing was searched')
+    set_byte('F', 444, 0)
+    w.query('GC', '10', found(1, 2), 'all is searched')
+    group('foreign entries')
+
+
+# The same cache as one slot and as two: an entry may lie in a slot that is not its key's. Keys: AGC 206, GC 139.
+def other_slots():
+    w = World(2, 2)
+    w.add(0, 'GAC', '210')
+    w.add(1, 'AGAC', '0321')
+    w.query('AGC', '021', found(1, 2), 'slot 0 of 2')
+    w.query('GC', '10', found(2, 2), 'slot 1 of 2')
+    w.query('AGC', '021', found(1, 0), 'slot 0 of 1', cache=512)
+    w.query('GC', '10', found(2, 2), 'slot 0 of 1', cache=512)
+    w.query('GC', '10', found(2, 0), 'slot 1 of 2')
+    w.query('AGC', '021', found(1, 2), 'slot 0 of 2 has GC')
+    w.remove(0, note='only from the first block', cache=512)
+    w.query('GC', '10', found(1, 0), 'slot 1 of 2')
+    w.add(0, 'A', '0', note='before the second block learns that 0 went', cache=512)
+    w.query('GC', '10', found(1, 1), 'slot 1 of 2 has no bit 0: not held then')
+    group('entries in other slots')
+
+
+def long_strands():
+    w = World(3, 1)
+    w.add(0, 'A', '=160', note='80 arcs')
+    w.add(1, 'ACGU', '-160', note='no bonds')
+    w.add(2, 'A', '-161', refused(3, 1))
+    w.query('A', '=120', found(1, 2), '60 arcs')
+    w.query('A', '=120', found(1, 0))
+    w.query('A', '=120', refused(8, 2), work=9023)
+    w.query('A', '=119', found(1, 2), '59 arcs and a base')
+    w.query('A', '-080', found(1, 2), 'one end of each arc')
+    w.query('ACGU', '-120', found(1, 2))
+    w.query('A', '=121', refused(3, 0))
+    w.query('A', '-161', refused(3, 0))
+    w.query('UA', '-079', found(1, 2), 'every second and third base')
+    w.add(2, 'A', '-119')
+    w.query('A', '-120', refused(9, 2), hits=2)
+    w.remove(0)
+    w.remove(1)
+    w.query('A', '-120', found(0, 1), '119 are too few')
+    w.query('A', '-119', found(1, 1))
+    w.add(0, 'A', '-120')
+    w.query('A', '-120', found(1, 2))
+    group('long strands')
+
+
+def largest_buffers():
+    w = World(512, 64)
+    w.add(0, 'GAC', '210', times=512)
+    w.add(511, 'A', '0', refused(13, 2))
+    w.add(512, 'A', '0', refused(12, 2))
+    w.query('GC', '10', refused(9, 2), hits=511)
+    w.query('GC', '10', found(512, 512))
+    w.query('GC', '10', found(512, 0))
+    w.query('GC', '01', found(0, 512))
+    w.query('GC', '10', found(512, 512), 'the same slot')
+    w.query('A', '0', found(512, 512))
+    w.remove(511)
+    w.query('GC', '10', found(511, 0))
+    w.add(511, 'A', '0')
+    w.query('GC', '10', found(511, 1))
+    set_byte('S', 512 * (139 % 64) + 400, 1)
+    w.query('A', '0', found(512, 1), 'another slot stays')
+    w.query('GC', '10', found(511, 512))
+    set_byte('T', 512 * 511, 9)
+    w.query('GC', '10', refused(11, 2, 511))
+    group('512 blocks of one molecule, 64 slots')
+    w = World(512, 64)
+    w.random('a', 4711, 512)
+    w.random('q', 1, 40)
+    w.random('H', 815, 200)
+    w.random('q', 1, 20)
+    group('512 random molecules, 64 slots')
+
+
+def histories():
+    for b, s, seed in ((1, 1, 11), (2, 1, 22), (3, 1, 33), (3, 2, 44), (4, 2, 55), (8, 3, 66), (9, 5, 77), (17, 2, 88)):
+        w = World(b, s)
+        w.random('H', seed * 1000 + 7, 500)
+        group('history of %d blocks and %d slots' % (b, s))
+
+
+rows_of_add()
+rows_of_remove()
+rows_of_query()
+unsound_blocks()
+story()
+used_again()
+altered()
+unsound_entries()
+foreign()
+other_slots()
+long_strands()
+largest_buffers()
+histories()
