@@ -1,3 +1,4 @@
 pub mod ListLaws
 pub mod NestingLaws
 pub mod VerdictLaws
+pub mod Claims

@@ -133,6 +133,16 @@ module _ (p : ℕ → Bool) where
       go true e rec = absurd (let z : x < i = rw e at b in omega arith)
       go false e rec = ⊎-elim (λ q. ap p (sym q) ∙ e) (λ u. rec u (rw e at b)) (eq-or-lt-of-le a)
 
+  from-passes : (i k : ℕ) → lowestFrom i k p < i + k → p (lowestFrom i k p) ≡ true
+  unfolding lowestFrom choose
+  from-passes i zero l = absurd (omega arith)
+  from-passes i (suc k) l = go (p i) refl l (from-passes (suc i) k)
+    where
+      go : (t : Bool) → p i ≡ t → choose t i (lowestFrom (suc i) k p) < i + suc k
+          → (lowestFrom (suc i) k p < suc i + k → p (lowestFrom (suc i) k p) ≡ true) → p (choose t i (lowestFrom (suc i) k p)) ≡ true
+      go true e b rec = e
+      go false e b rec = rec (omega arith)
+
   pub lowest-none : lowest 0 p ≡ 0
   unfolding lowest lowestFrom
   lowest-none = refl
@@ -146,6 +156,17 @@ module _ (p : ℕ → Bool) where
   pub lowest-before : (n i : ℕ) → i < lowest n p → i < n → p i ≡ false
   unfolding lowest
   lowest-before n i l h = from-before 0 n i (omega arith) l (omega arith)
+
+  -- The lowest is at most n, and passes where it is below n.
+  pub lowest-upto : (n : ℕ) → lowest n p ≤ n
+  lowest-upto n = elim (decLt n (lowest n p)) [
+    | yes h ↦ let z : lowest n p ≡ n = lowest-all n (λ i l. lowest-before n i (omega arith) l) in omega arith
+    | no h ↦ omega arith
+  ]
+
+  pub lowest-passes : (n : ℕ) → lowest n p < n → p (lowest n p) ≡ true
+  unfolding lowest
+  lowest-passes n l = from-passes 0 n (omega arith)
 
   pub lowest-more : (i : ℕ) → lowest i p ≡ i → p i ≡ false → lowest (i + 1) p ≡ i + 1
   lowest-more i e h =

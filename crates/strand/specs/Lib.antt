@@ -1,3 +1,4 @@
 pub mod Vocabulary
 pub mod Strands
 pub mod Refusals
+pub mod Statements

@@ -1,0 +1,38 @@
+-- What is claimed of these definitions, for all lists; `claims`, in proofs/Claims, proves it. Assumes nothing.
+use Prim.Native.Nat.{ℕ, _≤_, _<_}
+use mathlib.Core.Path.{_≡_}
+use mathlib.Core.Bool.{Bool, true, false}
+use mathlib.Core.Logic.{_↔_}
+use mathlib.Core.List.{List}
+use Rattle.strand.specs.declared.Verdict.the-variants.{Accepted}
+use Rattle.strand.specs.Vocabulary.{lowest}
+use Rattle.strand.specs.Strands.{motifSide, moleculeSide, Proper}
+use Rattle.strand.specs.Refusals.{strandVerdict, leastLength, greatestLength, checkVerdict, pairVerdict}
+
+-- Rows 1 to 7 let a strand pass exactly when it is proper: a nested strand of letters whose length lies within the limits.
+abbrev pub StrandSays : ℕ → ℕ → ℕ → List ℕ → List ℕ → Type 0
+StrandSays side least greatest bases mates =
+    (strandVerdict side least greatest bases mates ≡ Accepted) ↔ Proper side least greatest bases mates
+
+-- 01, Check: accepts a nested molecule, of 1 to 4,096 letters, and nothing else.
+abbrev pub CheckSays : List ℕ → List ℕ → Type 0
+CheckSays bases mates = (checkVerdict bases mates ≡ Accepted) ↔ Proper moleculeSide leastLength greatestLength bases mates
+
+-- The direct calls go on exactly when motif and molecule are proper.
+abbrev pub PairSays : List ℕ → List ℕ → List ℕ → List ℕ → Type 0
+PairSays p pm q qm =
+    (pairVerdict p pm q qm ≡ Accepted)
+    ↔ (Proper motifSide leastLength greatestLength p pm × Proper moleculeSide leastLength greatestLength q qm)
+
+-- The place that a row names: the test passes there, and nowhere below. It is n where the test passes nowhere.
+pub record LowestSays (n : ℕ) (test : ℕ → Bool) : Type 0 where
+  pub upto : lowest n test ≤ n
+  pub passes : lowest n test < n → test (lowest n test) ≡ true
+  pub below : (i : ℕ) → i < lowest n test → test i ≡ false
+
+-- All the claims.
+pub record Claims : Type 0 where
+  pub strand-says : (side least greatest : ℕ) (bases mates : List ℕ) → StrandSays side least greatest bases mates
+  pub check-says : (bases mates : List ℕ) → CheckSays bases mates
+  pub pair-says : (p pm q qm : List ℕ) → PairSays p pm q qm
+  pub lowest-says : (n : ℕ) (test : ℕ → Bool) → LowestSays n test
