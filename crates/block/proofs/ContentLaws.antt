@@ -128,6 +128,12 @@ content-of : (k : Kind) (s : List ℕ) → isEmpty s ≡ false → Sound k s →
 content-of k s ne (blank z) = never (sym ne ∙ z)
 content-of k s ne (filled e c h) = (c, h)
 
+pub bases-count : (s : List ℕ) → length s ≡ 512 → lengthIn s ≤ 160 → lengthIn s ≡ length (moleculeIn s .bases)
+unfolding moleculeIn strandIn
+bases-count s x y =
+    let e : 28 + lengthIn s - 28 ≡ lengthIn s = omega arith in
+    sym (length-take-le (28 + lengthIn s - 28) (drop 28 s) (omega (arith, length-drop 28 s)) ∙ e)
+
 module _ (s : List ℕ) (ok : soundMolecule s ≡ true) where
   pub molecule-512 : length s ≡ 512
   molecule-512 = molecule-size s ok
@@ -136,12 +142,7 @@ module _ (s : List ℕ) (ok : soundMolecule s ≡ true) where
   molecule-fits = fits-in moleculeKind s (molecule-is s ok)
 
   pub molecule-count : lengthIn s ≡ length (moleculeIn s .bases)
-  unfolding moleculeIn strandIn
-  molecule-count =
-      let x = molecule-512 in
-      let y = molecule-fits in
-      let e : 28 + lengthIn s - 28 ≡ lengthIn s = omega arith in
-      sym (length-take-le (28 + lengthIn s - 28) (drop 28 s) (omega (arith, length-drop 28 s)) ∙ e)
+  molecule-count = bases-count s molecule-512 molecule-fits
 
   -- The molecule held is a proper one, and the block is its encoding.
   module _ (full : isEmpty s ≡ false) where

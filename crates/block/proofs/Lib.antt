@@ -8,4 +8,5 @@ pub mod BlockLaws
 pub mod EncodedLaws
 pub mod WriteLaws
 pub mod ContentLaws
+pub mod OutcomeLaws
 pub mod Examples

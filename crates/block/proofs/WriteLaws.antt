@@ -1,4 +1,4 @@
--- What the code of entries and buffers leaves, put together: a molecule or zeros written at a block, a motif compared, an entry written.
+-- What the code of entries and buffers leaves, put together: zeros written at a block, a motif compared, an entry written.
 -- Assumes nothing.
 use mathlib.Core.Path.{_≡_, ap, ap₂, _∙_}
 use mathlib.Core.Bool.{true, false}
@@ -11,18 +11,13 @@ use Rattle.strand.specs.Vocabulary.{nth, between, all, sameList}
 use Rattle.strand.specs.Strands.{strandOf, sameStrand}
 use Rattle.octets.specs.Numbers.{isZero, words}
 use Rattle.octets.specs.Checksum.{rechecked}
-use Rattle.block.specs.Content.{entryKind, emptyBlock, isEmpty, strandIn, motifIn, keepsMotif, contentOf, moleculeBlock, entryBlock, encodeMolecule}
+use Rattle.block.specs.Content.{entryKind, emptyBlock, isEmpty, strandIn, motifIn, keepsMotif, contentOf, entryBlock}
 use Rattle.block.specs.Buffer.{putBlock}
 use Rattle.block.proofs.CodeLaws.{length-content, put-next, check-put}
 use Rattle.block.proofs.BufferLaws.{put-is}
 use Rattle.block.proofs.BlockLaws.{length-block}
 
 -- ---- a block of a buffer
-
-pub put-molecule-is : (d : ℕ) (buf bases mates r : List ℕ) → r ≡ moleculeBlock bases mates
-    → putMid (512 * d) (512 * d + 512 - 512 * d) buf r ≡ putBlock d (encodeMolecule (strandOf bases mates)) buf
-unfolding encodeMolecule
-put-molecule-is d buf bases mates r e = put-is d buf r (moleculeBlock bases mates) e
 
 pub zero-at-is : (d : ℕ) (s r : List ℕ) → d < length s / 512 → r ≡ replicate (length (take (512 * d + 512 - 512 * d) (drop (512 * d) s))) 0
     → putMid (512 * d) (512 * d + 512 - 512 * d) s r ≡ putBlock d emptyBlock s

@@ -1,3 +1,4 @@
 pub mod Content
 pub mod Block
 pub mod Buffer
+pub mod Outcomes

@@ -1,12 +1,8 @@
 // The blocks of a buffer, one after the other.
 ghost use mathlib.Core.Path.{_≡_};
-ghost use Prim.Native.Nat.{_+_, _*_, _-_, _<_, _≤_, _/_};
-ghost use lib.ListN.{length};
 ghost use Rattle.strand.specs.Strands.{strandOf};
-ghost use Rattle.octets.specs.Checksum.{blockSize};
-ghost use Rattle.block.specs.Content.{emptyBlock, isEmpty, encodeMolecule};
-ghost use Rattle.block.specs.Block.{blockOf};
-ghost use Rattle.block.specs.Buffer.{eachBlock, cleaned, forgot, putBlock};
+ghost use Rattle.block.specs.Buffer.{eachBlock, cleaned, forgot};
+ghost use Rattle.block.specs.Outcomes.{wrote, moleculePut, zeroPut};
 
 // Zero a cache block that is not sound.
 pub fn clean(s: &mut [u8])
@@ -61,32 +57,27 @@ pub fn forget_all(s: &mut [u8], d: usize)
     }
 }
 
-// Write the block of a molecule at number d. Add calls it below the buffer's number of blocks, where rows 1 to 7 let the molecule pass.
-pub fn put_molecule(buf: &mut [u8], d: usize, bases: &[u8], mates: &[u16])
-    requires { ⌜ (d < length (now buf) / blockSize) × (length (now bases) ≤ 160) × (length (now mates) ≡ length (now bases)) ⌝ }
-    ensures { λ _. ⌜ now (buf .exit) ≡ putBlock d (encodeMolecule (strandOf (now (bases .entry)) (now (mates .entry)))) (now (buf .entry)) ⌝ }
+// Write the block of a molecule at number d. False, and nothing written, where there is no block d or the molecule does not fit.
+pub fn put_molecule(buf: &mut [u8], d: usize, bases: &[u8], mates: &[u16]) -> bool
+    ensures { λ r. ⌜ wrote r (now (buf .exit)) ≡ moleculePut d (strandOf (now (bases .entry)) (now (mates .entry))) (now (buf .entry)) ⌝ }
 {
+    if buf.len() / 512 <= d {
+        return false;
+    }
     let a = 512 * d;
     let e = a + 512;
-    crate::codec::encode_molecule(&mut buf[a..e], bases, mates);
+    crate::codec::encode_molecule(&mut buf[a..e], bases, mates)
 }
 
-// Zero block d. Remove calls it below the buffer's number of blocks.
-pub fn zero_at(buf: &mut [u8], d: usize)
-    requires { ⌜ d < length (now buf) / blockSize ⌝ }
-    ensures { λ _. ⌜ now (buf .exit) ≡ putBlock d emptyBlock (now (buf .entry)) ⌝ }
+// Zero block d. False, and nothing written, where there is no block d.
+pub fn zero_at(buf: &mut [u8], d: usize) -> bool
+    ensures { λ r. ⌜ wrote r (now (buf .exit)) ≡ zeroPut d (now (buf .entry)) ⌝ }
 {
+    if buf.len() / 512 <= d {
+        return false;
+    }
     let a = 512 * d;
     let e = a + 512;
     octets::scan::zero(&mut buf[a..e]);
-}
-
-// Whether block d is empty. Callers ask below the buffer's number of blocks.
-pub fn empty_at(buf: &[u8], d: usize) -> bool
-    requires { ⌜ d < length (now buf) / blockSize ⌝ }
-    ensures { λ r. ⌜ r ≡ isEmpty (blockOf d (now (buf .entry))) ⌝ }
-{
-    let a = 512 * d;
-    let e = a + 512;
-    octets::scan::all_zero(&buf[a..e])
+    true
 }

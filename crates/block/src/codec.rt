@@ -1,14 +1,13 @@
 // Decode a block into borrowed slices, and encode one into a borrowed block.
 ghost use mathlib.Core.Path.{_≡_};
-ghost use mathlib.Core.Bool.{true};
 ghost use Prim.Native.Nat.{_+_, _*_, _-_, _≤_};
 ghost use mathlib.Core.List.{_++_};
 ghost use lib.ListN.{length, drop};
 ghost use Rattle.strand.specs.Vocabulary.{between};
 ghost use Rattle.octets.specs.Numbers.{words, bytesOf};
 ghost use Rattle.octets.specs.Checksum.{blockSize, checksumAt};
-ghost use Rattle.block.specs.Content.{lengthIn, moleculeIn, padded, headOf, moleculeBlock};
-ghost use Rattle.block.specs.Block.{soundMolecule};
+ghost use Rattle.block.specs.Content.{lengthIn, padded, headOf};
+ghost use Rattle.block.specs.Outcomes.{wrote, strandFits, moleculeWrote, decoded, decodes, moleculeDecoded};
 
 fn put_head(s: &mut [u8], mark: u8, n: u8)
     requires { ⌜ 2 ≤ length (now s) ⌝ }
@@ -36,8 +35,28 @@ fn put_mates(s: &mut [u8], src: &[u16])
     octets::scan::put_words(s, src);
 }
 
+// Whether a place of `size` bytes is a block, and it has room for so many bases and mates.
+pub(crate) fn strand_fits(size: usize, most: usize, bases: usize, mates: usize) -> bool
+    ensures { λ r. ⌜ r ≡ strandFits most size bases mates ⌝ }
+{
+    if size != 512 {
+        return false;
+    }
+    if most < bases {
+        return false;
+    }
+    mates == bases
+}
+
 // The bytes before the maps or the checksum. The two encoders meet the requires.
-pub fn put_content(s: &mut [u8], mark: u8, start: usize, most: usize, bases: &[u8], mates: &[u16])
+pub(crate) fn put_content(
+    s: &mut [u8],
+    mark: u8,
+    start: usize,
+    most: usize,
+    bases: &[u8],
+    mates: &[u16],
+)
     requires { ⌜ (2 ≤ start) × (most ≤ 160) × (start + 3 * most ≤ length (now s)) × (start + 3 * most ≤ checksumAt) × (length (now bases) ≤ most) × (length (now mates) ≡ length (now bases)) ⌝ }
     ensures { λ _. ⌜ now (s .exit) ≡ headOf start mark (length (now (bases .entry))) ++ padded most (now (bases .entry)) ++ padded (2 * most) (bytesOf (now (mates .entry)))
         ++ drop (start + 3 * most) (now (s .entry)) ⌝ }
@@ -50,18 +69,21 @@ pub fn put_content(s: &mut [u8], mark: u8, start: usize, most: usize, bases: &[u
     put_mates(&mut s[f..h], mates);
 }
 
-// Write the block of a molecule of at most 160 bases: add calls it where rows 1 to 7 let the molecule pass.
-pub fn encode_molecule(s: &mut [u8], bases: &[u8], mates: &[u16])
-    requires { ⌜ (length (now s) ≡ blockSize) × (length (now bases) ≤ 160) × (length (now mates) ≡ length (now bases)) ⌝ }
-    ensures { λ _. ⌜ now (s .exit) ≡ moleculeBlock (now (bases .entry)) (now (mates .entry)) ⌝ }
+// Write the block of a molecule of at most 160 bases. False, and nothing written, where s is not one block or the molecule does not fit.
+pub fn encode_molecule(s: &mut [u8], bases: &[u8], mates: &[u16]) -> bool
+    ensures { λ r. ⌜ wrote r (now (s .exit)) ≡ moleculeWrote (now (s .entry)) (now (bases .entry)) (now (mates .entry)) ⌝ }
 {
+    if !strand_fits(s.len(), 160, bases.len(), mates.len()) {
+        return false;
+    }
     put_content(s, 1, 28, 160, bases, mates);
     octets::checksum::put_checksum(s);
+    true
 }
 
-// The bases and mates of a block into the start of the borrowed slices; how many there are. A sound block meets the requires on s.
+// The bases and mates of a block into the start of the borrowed slices; how many there are. `decode_molecule` meets the requires.
 fn decode(s: &[u8], start: usize, most: usize, bases: &mut [u8], mates: &mut [u16]) -> usize
-    requires { ⌜ (length (now s) ≡ blockSize) × (start + 3 * most ≤ checksumAt) × (lengthIn (now s) ≤ most) × (most ≤ length (now bases)) × (most ≤ length (now mates)) ⌝ }
+    requires { ⌜ (length (now s) ≡ blockSize) × (start + 3 * most ≤ checksumAt) × (lengthIn (now s) ≤ most) × (lengthIn (now s) ≤ length (now bases)) × (lengthIn (now s) ≤ length (now mates)) ⌝ }
     ensures { λ r. ⌜ (r ≡ lengthIn (now (s .entry))) × (now (bases .exit) ≡ between start (start + lengthIn (now (s .entry))) (now (s .entry)) ++ drop r (now (bases .entry)))
         × (now (mates .exit) ≡ words (lengthIn (now (s .entry))) (drop (start + most) (now (s .entry))) ++ drop r (now (mates .entry))) ⌝ }
 {
@@ -73,11 +95,30 @@ fn decode(s: &[u8], start: usize, most: usize, bases: &mut [u8], mates: &mut [u1
     n
 }
 
-// The molecule of a sound block into the start of the borrowed slices; how many bases it has. Query calls it after the soundness pass.
-pub fn decode_molecule(s: &[u8], bases: &mut [u8], mates: &mut [u16]) -> usize
-    requires { ⌜ (soundMolecule (now s) ≡ true) × (160 ≤ length (now bases)) × (160 ≤ length (now mates)) ⌝ }
-    ensures { λ r. ⌜ (r ≡ length (moleculeIn (now (s .entry)) .bases)) × (now (bases .exit) ≡ moleculeIn (now (s .entry)) .bases ++ drop r (now (bases .entry)))
-        × (now (mates .exit) ≡ moleculeIn (now (s .entry)) .mates ++ drop r (now (mates .entry))) ⌝ }
+// Whether s is of one block's length, its length byte is at most 160, and the slices have so many places.
+fn can_decode(s: &[u8], bases: usize, mates: usize) -> bool
+    ensures { λ r. ⌜ r ≡ decodes (now (s .entry)) bases mates ⌝ }
 {
+    if s.len() != 512 {
+        return false;
+    }
+    let n = crate::sound::wide(s[1]);
+    if 160 < n {
+        return false;
+    }
+    if bases < n {
+        return false;
+    }
+    n <= mates
+}
+
+// The molecule of a block into the start of the borrowed slices; how many bases it has. 0, and nothing written, where s can be no block or
+// a slice is too short. Soundness is not tested again: query decodes a block after the soundness pass.
+pub fn decode_molecule(s: &[u8], bases: &mut [u8], mates: &mut [u16]) -> usize
+    ensures { λ r. ⌜ decoded r (now (bases .exit)) (now (mates .exit)) ≡ moleculeDecoded (now (s .entry)) (now (bases .entry)) (now (mates .entry)) ⌝ }
+{
+    if !can_decode(s, bases.len(), mates.len()) {
+        return 0;
+    }
     decode(s, 28, 160, bases, mates)
 }

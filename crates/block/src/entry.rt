@@ -1,25 +1,17 @@
 // A cache entry (01: kept block): the motif it keeps, its bits, and its encoder.
 ghost use mathlib.Core.Path.{_≡_};
-ghost use mathlib.Core.Bool.{true};
-ghost use Prim.Native.Nat.{_+_, _<_, _≤_};
+ghost use Prim.Native.Nat.{_≤_};
 ghost use lib.ListN.{length};
 ghost use Rattle.strand.specs.Strands.{strandOf, sameStrand};
 ghost use Rattle.octets.specs.Checksum.{blockSize};
-ghost use Rattle.octets.specs.Maps.{mapSize};
-ghost use Rattle.block.specs.Content.{lengthIn, motifIn, keepsMotif, searchedIn, hitIn, entryBlock};
-ghost use Rattle.block.specs.Block.{soundEntry};
-
-fn wide(x: u8) -> usize
-    ensures { λ r. ⌜ (r ≡ x) × (r < 256) ⌝ }
-{
-    x as usize
-}
+ghost use Rattle.block.specs.Content.{lengthIn, motifIn, searchedIn, hitIn};
+ghost use Rattle.block.specs.Outcomes.{keepsTold, wrote, entryWrote};
 
 fn keeps_in(s: &[u8], bases: &[u8], mates: &[u16], out: &mut [u16]) -> bool
     requires { ⌜ (length (now s) ≡ blockSize) × (lengthIn (now s) ≤ 120) × (length (now out) ≡ 120) ⌝ }
     ensures { λ r. ⌜ r ≡ sameStrand (motifIn (now (s .entry))) (strandOf (now (bases .entry)) (now (mates .entry))) ⌝ }
 {
-    let n = wide(s[1]);
+    let n = crate::sound::wide(s[1]);
     let e = 20 + n;
     if !octets::scan::same_bytes(&s[20..e], bases) {
         return false;
@@ -36,11 +28,17 @@ fn keeps_motif(s: &[u8], bases: &[u8], mates: &[u16]) -> bool
     keeps_in(s, bases, mates, &mut out)
 }
 
-// Whether a sound entry keeps this very motif. Query calls it on a block that was found sound or zeroed.
+// Whether an entry keeps this very motif; false where s can be no entry. Soundness is not tested again: query asks it of a block that was
+// found sound or zeroed.
 pub fn keeps(s: &[u8], bases: &[u8], mates: &[u16]) -> bool
-    requires { ⌜ soundEntry (now s) ≡ true ⌝ }
-    ensures { λ r. ⌜ r ≡ keepsMotif (now (s .entry)) (strandOf (now (bases .entry)) (now (mates .entry))) ⌝ }
+    ensures { λ r. ⌜ r ≡ keepsTold (now (s .entry)) (strandOf (now (bases .entry)) (now (mates .entry))) ⌝ }
 {
+    if s.len() != 512 {
+        return false;
+    }
+    if 120 < crate::sound::wide(s[1]) {
+        return false;
+    }
     if octets::scan::all_zero(s) {
         return false;
     }
@@ -61,13 +59,23 @@ pub fn hit(s: &[u8], d: usize) -> bool
     octets::bits::test(s, 444, d)
 }
 
-// Write the entry of a motif and its two maps of 64 bytes. Query calls it where rows 1 to 7 let the motif pass.
-pub fn encode_entry(s: &mut [u8], bases: &[u8], mates: &[u16], searched: &[u8], hits: &[u8])
-    requires { ⌜ (length (now s) ≡ blockSize) × (length (now bases) ≤ 120) × (length (now mates) ≡ length (now bases)) × (length (now searched) ≡ mapSize) × (length (now hits) ≡ mapSize) ⌝ }
-    ensures { λ _. ⌜ now (s .exit) ≡ entryBlock (now (bases .entry)) (now (mates .entry)) (now (searched .entry)) (now (hits .entry)) ⌝ }
+// Write the entry of a motif of at most 120 bases and its two maps of 64 bytes. False, and nothing written, where s is not one block, the
+// motif does not fit or a map is not 64 bytes.
+pub fn encode_entry(s: &mut [u8], bases: &[u8], mates: &[u16], searched: &[u8], hits: &[u8]) -> bool
+    ensures { λ r. ⌜ wrote r (now (s .exit)) ≡ entryWrote (now (s .entry)) (now (bases .entry)) (now (mates .entry)) (now (searched .entry)) (now (hits .entry)) ⌝ }
 {
+    if !crate::codec::strand_fits(s.len(), 120, bases.len(), mates.len()) {
+        return false;
+    }
+    if searched.len() != 64 {
+        return false;
+    }
+    if hits.len() != 64 {
+        return false;
+    }
     crate::codec::put_content(s, 2, 20, 120, bases, mates);
     octets::scan::copy(searched, &mut s[380..444]);
     octets::scan::copy(hits, &mut s[444..508]);
     octets::checksum::put_checksum(s);
+    true
 }

@@ -9,7 +9,7 @@ ghost use Rattle.octets.specs.Checksum.{blockSize, checksumAt};
 ghost use Rattle.block.specs.Content.{kindOf};
 ghost use Rattle.block.specs.Block.{contentOk, hitsOk, soundMolecule, soundEntry, blockOf};
 
-fn wide(x: u8) -> usize
+pub(crate) fn wide(x: u8) -> usize
     ensures { λ r. ⌜ (r ≡ x) × (r < 256) ⌝ }
 {
     x as usize

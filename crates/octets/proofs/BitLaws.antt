@@ -111,41 +111,38 @@ clear-map-out s at d h = set-out s _ _ h
 mod8 : (d : ℕ) → d % 8 < 8
 mod8 d = omega arith
 
-module _ (s : List ℕ) (at d : ℕ) (hd : at + d / 8 < length s) (hs : nth s (at + d / 8) < 256) where
-  pub set-same : mapBit (setMap s at d) at d ≡ true
-  unfolding mapBit setMap
-  set-same =
-      rw (getD-set-same s (at + d / 8) (withBit (nth s (at + d / 8)) (d % 8)) 0 hd)
-      (with-bit (nth s (at + d / 8)) (d % 8) hs (mod8 d) (d % 8) (mod8 d) ∙ simp (eq-eqb (d % 8) (d % 8) refl))
+module _ (s : List ℕ) (at d : ℕ) (hd : at + d / 8 < length s) where
+  -- A byte v in place of the byte of d. Bit d is v's; where v has the old byte's other bits, no other bit changes.
+  bit-same : (v : ℕ) → mapBit (set s (at + d / 8) v) at d ≡ bitOf v (d % 8)
+  unfolding mapBit
+  bit-same v = rw (getD-set-same s (at + d / 8) v 0 hd)
 
-  pub clear-same : mapBit (clearMap s at d) at d ≡ false
-  unfolding mapBit clearMap
-  clear-same =
-      rw (getD-set-same s (at + d / 8) (withoutBit (nth s (at + d / 8)) (d % 8)) 0 hd)
-      (without-bit (nth s (at + d / 8)) (d % 8) hs (mod8 d) (d % 8) (mod8 d) ∙ simp (eq-eqb (d % 8) (d % 8) refl))
+  bit-other : (v at' d' : ℕ) → ((k : ℕ) → k < 8 → (k ≡ d % 8 → ⊥) → bitOf v k ≡ bitOf (nth s (at + d / 8)) k)
+      → (at' + d' / 8 ≡ at + d / 8 → d' % 8 ≡ d % 8 → ⊥) → mapBit (set s (at + d / 8) v) at' d' ≡ mapBit s at' d'
+  unfolding mapBit
+  bit-other v at' d' like apart = go (ℕ-discrete (at' + d' / 8) (at + d / 8))
+    where
+      go : Dec (at' + d' / 8 ≡ at + d / 8) → bitOf (nth (set s (at + d / 8) v) (at' + d' / 8)) (d' % 8) ≡ bitOf (nth s (at' + d' / 8)) (d' % 8)
+      go (yes e) = rw (e, getD-set-same s (at + d / 8) v 0 hd) (like (d' % 8) (mod8 d') (apart e))
+      go (no n) = ap (λ (x : ℕ). bitOf x (d' % 8)) (getD-set-other s (at + d / 8) (at' + d' / 8) v 0 n)
 
-  module _ (at' d' : ℕ) (apart : at' + d' / 8 ≡ at + d / 8 → d' % 8 ≡ d % 8 → ⊥) where
-    pub set-other : mapBit (setMap s at d) at' d' ≡ mapBit s at' d'
-    unfolding mapBit setMap
-    set-other = go (ℕ-discrete (at' + d' / 8) (at + d / 8))
-      where
-        go : Dec (at' + d' / 8 ≡ at + d / 8) → bitOf (nth (set s (at + d / 8) (withBit (nth s (at + d / 8)) (d % 8))) (at' + d' / 8)) (d' % 8)
-            ≡ bitOf (nth s (at' + d' / 8)) (d' % 8)
-        go (yes e) =
-            rw (e, getD-set-same s (at + d / 8) (withBit (nth s (at + d / 8)) (d % 8)) 0 hd)
-            (with-bit (nth s (at + d / 8)) (d % 8) hs (mod8 d) (d' % 8) (mod8 d') ∙ simp (ne-eqb (d' % 8) (d % 8) (apart e)))
-        go (no n) = ap (λ (x : ℕ). bitOf x (d' % 8)) (getD-set-other s (at + d / 8) (at' + d' / 8) (withBit (nth s (at + d / 8)) (d % 8)) 0 n)
+  module _ (hs : nth s (at + d / 8) < 256) where
+    pub set-same : mapBit (setMap s at d) at d ≡ true
+    unfolding setMap
+    set-same = bit-same _ ∙ with-bit (nth s (at + d / 8)) (d % 8) hs (mod8 d) (d % 8) (mod8 d) ∙ simp (eq-eqb (d % 8) (d % 8) refl)
 
-    pub clear-other : mapBit (clearMap s at d) at' d' ≡ mapBit s at' d'
-    unfolding mapBit clearMap
-    clear-other = go (ℕ-discrete (at' + d' / 8) (at + d / 8))
-      where
-        go : Dec (at' + d' / 8 ≡ at + d / 8) → bitOf (nth (set s (at + d / 8) (withoutBit (nth s (at + d / 8)) (d % 8))) (at' + d' / 8)) (d' % 8)
-            ≡ bitOf (nth s (at' + d' / 8)) (d' % 8)
-        go (yes e) =
-            rw (e, getD-set-same s (at + d / 8) (withoutBit (nth s (at + d / 8)) (d % 8)) 0 hd)
-            (without-bit (nth s (at + d / 8)) (d % 8) hs (mod8 d) (d' % 8) (mod8 d') ∙ simp (ne-eqb (d' % 8) (d % 8) (apart e)))
-        go (no n) = ap (λ (x : ℕ). bitOf x (d' % 8)) (getD-set-other s (at + d / 8) (at' + d' / 8) (withoutBit (nth s (at + d / 8)) (d % 8)) 0 n)
+    pub clear-same : mapBit (clearMap s at d) at d ≡ false
+    unfolding clearMap
+    clear-same = bit-same _ ∙ without-bit (nth s (at + d / 8)) (d % 8) hs (mod8 d) (d % 8) (mod8 d) ∙ simp (eq-eqb (d % 8) (d % 8) refl)
+
+    module _ (at' d' : ℕ) (apart : at' + d' / 8 ≡ at + d / 8 → d' % 8 ≡ d % 8 → ⊥) where
+      pub set-other : mapBit (setMap s at d) at' d' ≡ mapBit s at' d'
+      unfolding setMap
+      set-other = bit-other _ at' d' (λ k l n. with-bit (nth s (at + d / 8)) (d % 8) hs (mod8 d) k l ∙ simp (ne-eqb k (d % 8) n)) apart
+
+      pub clear-other : mapBit (clearMap s at d) at' d' ≡ mapBit s at' d'
+      unfolding clearMap
+      clear-other = bit-other _ at' d' (λ k l n. without-bit (nth s (at + d / 8)) (d % 8) hs (mod8 d) k l ∙ simp (ne-eqb k (d % 8) n)) apart
 
 -- Two numbers of one map, and two maps that lie apart, have different bits.
 pub apart-in-map : (at d d' : ℕ) → (d' ≡ d → ⊥) → at + d' / 8 ≡ at + d / 8 → d' % 8 ≡ d % 8 → ⊥

@@ -1,6 +1,7 @@
--- The weighted sum of a block: one byte more, a bound, the bytes it depends on, and one byte changed.
+-- The weighted sum of a block: one byte more, a bound, the bytes it depends on, and one byte changed. The checksum of whole blocks and of less.
 -- Assumes nothing.
-use mathlib.Core.Path.{_≡_, refl, ap, ap₂, _∙_}
+use mathlib.Core.Path.{_≡_, refl, sym, ap, ap₂, _∙_}
+use mathlib.Core.Bool.{Bool, false}
 use mathlib.Core.List.{List, _++_}
 use mathlib.Core.Logic.{⊎-elim}
 use Prim.Native.Nat.{ℕ, zero, suc, _+_, _-_, _*_, _<_, _≤_}
@@ -9,8 +10,9 @@ use native.Mathlib.Nat.{mul-le-mul, le-of-suc-le-suc, not-suc-le-zero, eq-or-lt-
 use native.Mathlib.Numerals.{add-one}
 use lib.ListN.{length, set, List·getD-append}
 use lib.Seq.{getD-set-same, getD-set-other}
-use Rattle.strand.specs.Vocabulary.{nth}
-use Rattle.octets.specs.Checksum.{sumTo}
+use borrow.Author.Tests.{le-leb, lt-leb}
+use Rattle.strand.specs.Vocabulary.{nth, choose}
+use Rattle.octets.specs.Checksum.{sumTo, checksumOk, checksumTold, rechecked, recheckedWhole}
 
 pub sum-none : (s : List ℕ) → sumTo s 0 ≡ 0
 unfolding sumTo
@@ -72,3 +74,28 @@ sum-blank s a (suc m) z =
 
     none : sumTo s a + suc (a + m) * 0 ≡ sumTo s a
     none = omega arith
+
+-- ---- whole blocks, and less
+
+module _ (s : List ℕ) where
+  pub told-short : length s < 512 → false ≡ checksumTold s
+  unfolding checksumTold
+  told-short h = rw (lt-leb 512 (length s) h)
+
+  pub told-whole : 512 ≤ length s → checksumTold s ≡ checksumOk s
+  unfolding checksumTold
+  told-whole h = rw (le-leb 512 (length s) h)
+
+  pub told-is : (b : Bool) → 512 ≤ length s → b ≡ checksumOk s → b ≡ checksumTold s
+  told-is b h e = e ∙ sym (told-whole h)
+
+  pub rechecked-short : length s < 512 → s ≡ recheckedWhole s
+  unfolding recheckedWhole choose
+  rechecked-short h = rw (lt-leb 512 (length s) h)
+
+  pub rechecked-whole : 512 ≤ length s → recheckedWhole s ≡ rechecked s
+  unfolding recheckedWhole choose
+  rechecked-whole h = rw (le-leb 512 (length s) h)
+
+  pub rechecked-is : (r : List ℕ) → 512 ≤ length s → r ≡ rechecked s → r ≡ recheckedWhole s
+  rechecked-is r h e = e ∙ sym (rechecked-whole h)

@@ -1,10 +1,11 @@
 -- The checksum of a block (01: its check). Assumes nothing.
 use Prim.Native.Nat.{ℕ, zero, suc, _+_, _*_}
 use mathlib.Core.List.{List, _++_}
-use mathlib.Core.Bool.{Bool}
-use lib.Dec.{eqb}
+use mathlib.Core.Bool.{Bool, _&&_}
+use lib.Dec.{eqb, leb}
+use lib.ListN.{length}
 use lib.Seq.{sets}
-use Rattle.strand.specs.Vocabulary.{nth}
+use Rattle.strand.specs.Vocabulary.{nth, choose}
 use Rattle.octets.specs.Numbers.{word32, bytes32}
 
 -- A block has 512 bytes, and its checksum stands in bytes 508 to 511.
@@ -32,3 +33,10 @@ checked body = body ++ bytes32 (checksumOf body)
 
 unfoldable pub rechecked : List ℕ → List ℕ
 rechecked s = sets s checksumAt (bytes32 (checksumOf s))
+
+-- The same for any bytes: less than a block has no checksum, and none is written.
+unfoldable pub checksumTold : List ℕ → Bool
+checksumTold s = leb blockSize (length s) && checksumOk s
+
+unfoldable pub recheckedWhole : List ℕ → List ℕ
+recheckedWhole s = choose (leb blockSize (length s)) (rechecked s) s

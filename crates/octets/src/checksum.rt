@@ -1,8 +1,8 @@
-// The checksum of a block. What is asked of the length of s here, the crate block meets with whole blocks.
+// The checksum of a block.
 ghost use mathlib.Core.Path.{_≡_};
 ghost use Prim.Native.Nat.{_+_, _*_, _≤_};
 ghost use lib.ListN.{length};
-ghost use Rattle.octets.specs.Checksum.{checksumAt, blockSize, checksumOf, checksumOk, rechecked};
+ghost use Rattle.octets.specs.Checksum.{checksumAt, checksumOf, checksumTold, recheckedWhole};
 
 fn wide32(x: u8) -> u32
     ensures { λ r. ⌜ r ≡ x ⌝ }
@@ -11,7 +11,7 @@ fn wide32(x: u8) -> u32
 }
 
 // The sum over bytes i = 0 to 507 of (i + 1) times byte i.
-pub fn checksum_of(s: &[u8]) -> u32
+fn checksum_of(s: &[u8]) -> u32
     requires { ⌜ checksumAt ≤ length (now s) ⌝ }
     ensures { λ r. ⌜ r ≡ checksumOf (now (s .entry)) ⌝ }
 {
@@ -31,19 +31,23 @@ fn word(a: u8, b: u8, c: u8, d: u8) -> u32
     a as u32 + 256 * (b as u32) + 65536 * (c as u32) + 16777216 * (d as u32)
 }
 
-// Whether the last four bytes of a block are its checksum.
+// Whether bytes 508 to 511 are the checksum; false for less than a block.
 pub fn checksum_ok(s: &[u8]) -> bool
-    requires { ⌜ blockSize ≤ length (now s) ⌝ }
-    ensures { λ r. ⌜ r ≡ checksumOk (now (s .entry)) ⌝ }
+    ensures { λ r. ⌜ r ≡ checksumTold (now (s .entry)) ⌝ }
 {
+    if s.len() < 512 {
+        return false;
+    }
     checksum_of(s) == word(s[508], s[509], s[510], s[511])
 }
 
-// Write the checksum of a block into its last four bytes.
+// Write the checksum into bytes 508 to 511; nothing into less than a block.
 pub fn put_checksum(s: &mut [u8])
-    requires { ⌜ blockSize ≤ length (now s) ⌝ }
-    ensures { λ _. ⌜ now (s .exit) ≡ rechecked (now (s .entry)) ⌝ }
+    ensures { λ _. ⌜ now (s .exit) ≡ recheckedWhole (now (s .entry)) ⌝ }
 {
+    if s.len() < 512 {
+        return;
+    }
     let x = checksum_of(s);
     s[508] = (x % 256) as u8;
     s[509] = (x / 256 % 256) as u8;

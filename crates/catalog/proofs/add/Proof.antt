@@ -4,6 +4,7 @@ use mathlib.Core.Path.{sym, _∙_}
 use Rattle.catalog.proofs.JudgeLaws as judge
 use Rattle.strand.specs.Strands.{strandOf}
 use Rattle.catalog.proofs.CallLaws as call
+use Rattle.block.proofs.OutcomeLaws as outcome
 use Rattle.catalog.proofs.add.Statement.{statement}
 use Rattle.catalog.proofs.add.Tie as tie
 
@@ -26,7 +27,7 @@ enum-told : tie.Need-enum-told
 enum-told c = search needs
 
 put-molecule-requires : tie.Need-put-molecule-requires
-put-molecule-requires c κs = let f = judge.add-facts (c .before .before .before .before .before .before .before .before .before .before .args .catalog .now) (c .before .before .before .before .before .before .before .before .before .before .args .cache .now) (c .before .before .before .before .before .before .before .before .before .before .args .d) (strandOf (c .before .before .before .before .before .before .before .before .before .before .args .bases .now) (c .before .before .before .before .before .before .before .before .before .before .args .mates .now)) (sym (c .before .before .before .judge-add .ensures) ∙ c .before .enum-told .given .1) in (f .0, f .1 .small, f .1 .same)
+put-molecule-requires c κs = search needs
 
 clean-all-requires : tie.Need-clean-all-requires
 clean-all-requires c κs = search needs
@@ -38,7 +39,7 @@ same-length-4 : tie.Need-same-length-4
 same-length-4 c = search needs
 
 returns-2 : tie.Need-returns-2
-returns-2 c = call.add-done (c .before .before .before .before .before .before .before .before .before .before .before .before .before .before .before .before .before .args .catalog .now) (c .before .before .before .before .before .before .before .before .before .before .before .before .before .before .before .before .before .args .cache .now) (c .before .before .before .before .before .before .before .before .before .before .before .before .before .before .before .before .before .args .d) (strandOf (c .before .before .before .before .before .before .before .before .before .before .before .before .before .before .before .before .before .args .bases .now) (c .before .before .before .before .before .before .before .before .before .before .before .before .before .before .before .before .before .args .mates .now)) (c .before .before .before .before .before .before .put-molecule .last .0) (c .before .before .clean-all .last .0) (sym (c .before .before .before .before .before .before .before .before .before .before .judge-add .ensures) ∙ c .before .before .before .before .before .before .before .before .enum-told .given .1) (c .before .before .before .before .before .before .put-molecule .ensures) (c .before .before .clean-all .ensures)
+returns-2 c = let f = judge.add-facts (c .before .before .before .before .before .before .before .before .before .before .before .before .before .before .before .before .before .args .catalog .now) (c .before .before .before .before .before .before .before .before .before .before .before .before .before .before .before .before .before .args .cache .now) (c .before .before .before .before .before .before .before .before .before .before .before .before .before .before .before .before .before .args .d) (strandOf (c .before .before .before .before .before .before .before .before .before .before .before .before .before .before .before .before .before .args .bases .now) (c .before .before .before .before .before .before .before .before .before .before .before .before .before .before .before .before .before .args .mates .now)) (sym (c .before .before .before .before .before .before .before .before .before .before .judge-add .ensures) ∙ c .before .before .before .before .before .before .before .before .enum-told .given .1) in call.add-done (c .before .before .before .before .before .before .before .before .before .before .before .before .before .before .before .before .before .args .catalog .now) (c .before .before .before .before .before .before .before .before .before .before .before .before .before .before .before .before .before .args .cache .now) (c .before .before .before .before .before .before .before .before .before .before .before .before .before .before .before .before .before .args .d) (strandOf (c .before .before .before .before .before .before .before .before .before .before .before .before .before .before .before .before .before .args .bases .now) (c .before .before .before .before .before .before .before .before .before .before .before .before .before .before .before .before .before .args .mates .now)) (c .before .before .before .before .before .before .put-molecule .last .0) (c .before .before .clean-all .last .0) (sym (c .before .before .before .before .before .before .before .before .before .before .judge-add .ensures) ∙ c .before .before .before .before .before .before .before .before .enum-told .given .1) (outcome.molecule-put-there (c .before .before .before .before .before .before .before .before .before .before .before .before .before .before .before .before .before .args .d) (c .before .before .before .before .before .before .before .before .before .before .before .before .before .before .before .before .before .args .bases .now) (c .before .before .before .before .before .before .before .before .before .before .before .before .before .before .before .before .before .args .mates .now) (c .before .before .before .before .before .before .before .before .before .before .before .before .before .before .before .before .before .args .catalog .now) (c .before .before .before .before .before .before .put-molecule .result) (c .before .before .before .before .before .before .put-molecule .last .0) (f .0) (f .1 .small) (f .1 .same) (c .before .before .before .before .before .before .put-molecule .ensures)) (c .before .before .clean-all .ensures)
 
 pub add-spec : {M : Type 1} → statement M
 add-spec =

@@ -3,6 +3,7 @@ use borrow.Author.Needs.{needs}
 use mathlib.Core.Path.{sym, _∙_}
 use Rattle.catalog.proofs.JudgeLaws as judge
 use Rattle.catalog.proofs.CallLaws as call
+use Rattle.block.proofs.OutcomeLaws as outcome
 use Rattle.catalog.proofs.remove.Statement.{statement}
 use Rattle.catalog.proofs.remove.Tie as tie
 
@@ -25,7 +26,7 @@ enum-told : tie.Need-enum-told
 enum-told c = search needs
 
 zero-at-requires : tie.Need-zero-at-requires
-zero-at-requires c κs = judge.remove-facts (c .before .before .before .before .before .before .before .before .args .catalog .now) (c .before .before .before .before .before .before .before .before .args .cache .now) (c .before .before .before .before .before .before .before .before .args .d) (sym (c .before .before .before .judge-remove .ensures) ∙ c .before .enum-told .given .1)
+zero-at-requires c κs = search needs
 
 clean-all-requires : tie.Need-clean-all-requires
 clean-all-requires c κs = search needs
@@ -40,7 +41,7 @@ same-length-4 : tie.Need-same-length-4
 same-length-4 c = search needs
 
 returns-2 : tie.Need-returns-2
-returns-2 c = call.remove-done (c .before .before .before .before .before .before .before .before .before .before .before .before .before .before .before .before .before .before .before .args .catalog .now) (c .before .before .before .before .before .before .before .before .before .before .before .before .before .before .before .before .before .before .before .args .cache .now) (c .before .before .before .before .before .before .before .before .before .before .before .before .before .before .before .before .before .before .before .args .d) (c .before .before .before .before .before .before .before .before .before .before .zero-at .last .0) (c .before .before .before .before .before .before .clean-all .last .0) (c .before .before .forget-all .last .0) (sym (c .before .before .before .before .before .before .before .before .before .before .before .before .before .before .judge-remove .ensures) ∙ c .before .before .before .before .before .before .before .before .before .before .before .before .enum-told .given .1) (c .before .before .before .before .before .before .before .before .before .before .zero-at .ensures) (c .before .before .before .before .before .before .clean-all .ensures) (c .before .before .forget-all .ensures)
+returns-2 c = call.remove-done (c .before .before .before .before .before .before .before .before .before .before .before .before .before .before .before .before .before .before .before .args .catalog .now) (c .before .before .before .before .before .before .before .before .before .before .before .before .before .before .before .before .before .before .before .args .cache .now) (c .before .before .before .before .before .before .before .before .before .before .before .before .before .before .before .before .before .before .before .args .d) (c .before .before .before .before .before .before .before .before .before .before .zero-at .last .0) (c .before .before .before .before .before .before .clean-all .last .0) (c .before .before .forget-all .last .0) (sym (c .before .before .before .before .before .before .before .before .before .before .before .before .before .before .judge-remove .ensures) ∙ c .before .before .before .before .before .before .before .before .before .before .before .before .enum-told .given .1) (outcome.zero-put-there (c .before .before .before .before .before .before .before .before .before .before .before .before .before .before .before .before .before .before .before .args .d) (c .before .before .before .before .before .before .before .before .before .before .before .before .before .before .before .before .before .before .before .args .catalog .now) (c .before .before .before .before .before .before .before .before .before .before .zero-at .result) (c .before .before .before .before .before .before .before .before .before .before .zero-at .last .0) (judge.remove-facts (c .before .before .before .before .before .before .before .before .before .before .before .before .before .before .before .before .before .before .before .args .catalog .now) (c .before .before .before .before .before .before .before .before .before .before .before .before .before .before .before .before .before .before .before .args .cache .now) (c .before .before .before .before .before .before .before .before .before .before .before .before .before .before .before .before .before .before .before .args .d) (sym (c .before .before .before .before .before .before .before .before .before .before .before .before .before .before .judge-remove .ensures) ∙ c .before .before .before .before .before .before .before .before .before .before .before .before .enum-told .given .1)) (c .before .before .before .before .before .before .before .before .before .before .zero-at .ensures)) (c .before .before .before .before .before .before .clean-all .ensures) (c .before .before .forget-all .ensures)
 
 pub remove-spec : {M : Type 1} → statement M
 remove-spec =

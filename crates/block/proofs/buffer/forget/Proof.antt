@@ -2,6 +2,9 @@
 use borrow.Author.Needs.{needs}
 use Rattle.block.proofs.BufferLaws.{forget-1, forget-2, forget-3}
 use Rattle.block.proofs.BufferLaws as laws
+use native.Mathlib.Omega.{arith}
+use mathlib.Core.Path.{_∙_}
+use Rattle.octets.proofs.SumLaws.{rechecked-whole}
 use Rattle.block.proofs.buffer.forget.Statement.{statement}
 use Rattle.block.proofs.buffer.forget.Tie as tie
 
@@ -27,7 +30,7 @@ same-length : tie.Need-same-length
 same-length c = search needs
 
 returns-3 : tie.Need-returns-3
-returns-3 c = laws.forget-3 (c .before .before .before .before .before .before .before .before .before .before .before .before .before .before .before .before .args .d) (c .before .before .before .before .before .before .before .before .before .before .before .before .before .before .before .before .args .s .now) (c .before .before .before .before .before .before .before .before .before .before .clear .last .0) (c .before .before .before .before .before .before .clear2 .last .0) (c .before .before .put-checksum .last .0) (c .before .before .before .before .before .before .before .before .before .before .before .before .before .before .if1 .left) (c .before .before .before .before .before .before .before .before .before .before .before .before .if2 .left) (c .before .before .before .before .before .before .before .before .before .before .clear .ensures) (c .before .before .before .before .before .before .clear2 .ensures) (c .before .before .put-checksum .ensures)
+returns-3 c = laws.forget-3 (c .before .before .before .before .before .before .before .before .before .before .before .before .before .before .before .before .args .d) (c .before .before .before .before .before .before .before .before .before .before .before .before .before .before .before .before .args .s .now) (c .before .before .before .before .before .before .before .before .before .before .clear .last .0) (c .before .before .before .before .before .before .clear2 .last .0) (c .before .before .put-checksum .last .0) (c .before .before .before .before .before .before .before .before .before .before .before .before .before .before .if1 .left) (c .before .before .before .before .before .before .before .before .before .before .before .before .if2 .left) (c .before .before .before .before .before .before .before .before .before .before .clear .ensures) (c .before .before .before .before .before .before .clear2 .ensures) (c .before .before .put-checksum .ensures ∙ rechecked-whole (c .before .before .before .before .before .before .clear2 .last .0) (omega (arith, c .before .before .before .before .before .before .before .before .before .before .before .before .before .before .if1 .left, c .before .before .before .before .before .before .before .before .before .before .clear .kept .0, c .before .before .before .before .before .before .clear2 .kept .0)))
 
 pub forget-spec : {M : Type 1} → statement M
 forget-spec =

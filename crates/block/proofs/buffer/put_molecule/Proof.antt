@@ -1,8 +1,11 @@
 -- `block::buffer::put_molecule` meets its contract.
 use borrow.Author.Needs.{needs}
-use Rattle.block.proofs.WriteLaws.{put-molecule-is}
+use Rattle.block.proofs.OutcomeLaws as law
 use Rattle.block.proofs.buffer.put_molecule.Statement.{statement}
 use Rattle.block.proofs.buffer.put_molecule.Tie as tie
+
+returns : tie.Need-returns
+returns c = law.put-not (c .before .before .before .before .args .d) (c .before .before .before .before .args .bases .now) (c .before .before .before .before .args .mates .now) (c .before .before .before .before .args .buf .now) (c .if1 .taken)
 
 mul-a : tie.Need-mul-a
 mul-a c = search needs
@@ -25,13 +28,14 @@ encode-molecule-requires c κs = search needs
 same-length : tie.Need-same-length
 same-length c = search needs
 
-returns : tie.Need-returns
-returns c = put-molecule-is (c .before .before .before .before .before .before .before .args .d) (c .before .before .before .before .before .before .before .args .buf .now) (c .before .before .before .before .before .before .before .args .bases .now) (c .before .before .before .before .before .before .before .args .mates .now) (c .before .before .encode-molecule .last .0) (c .before .before .encode-molecule .ensures)
+returns-2 : tie.Need-returns-2
+returns-2 c = law.put-done (c .before .before .before .before .before .before .before .before .args .d) (c .before .before .before .before .before .before .before .before .args .bases .now) (c .before .before .before .before .before .before .before .before .args .mates .now) (c .before .before .before .before .before .before .before .before .args .buf .now) (c .before .before .encode-molecule .result) (c .before .before .encode-molecule .last .0) (c .before .before .before .before .if1 .left) (c .before .before .encode-molecule .ensures)
 
 pub put-molecule-spec : {M : Type 1} → statement M
 put-molecule-spec =
     tie.close
     (tie.spec
+    returns
     mul-a
     add-e
     sub-encode-molecule
@@ -39,4 +43,4 @@ put-molecule-spec =
     part-encode-molecule-end
     encode-molecule-requires
     same-length
-    returns)
+    returns-2)

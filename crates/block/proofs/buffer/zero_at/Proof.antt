@@ -1,9 +1,12 @@
 -- `block::buffer::zero_at` meets its contract.
-use Prim.Native.Nat.{zero}
 use borrow.Author.Needs.{needs}
+use Rattle.block.proofs.OutcomeLaws as law
 use Rattle.block.proofs.WriteLaws.{zero-at-is}
 use Rattle.block.proofs.buffer.zero_at.Statement.{statement}
 use Rattle.block.proofs.buffer.zero_at.Tie as tie
+
+returns : tie.Need-returns
+returns c = law.zero-not (c .before .before .args .d) (c .before .before .args .buf .now) (c .if1 .taken)
 
 mul-a : tie.Need-mul-a
 mul-a c = search needs
@@ -26,10 +29,19 @@ zero-requires c κs = search needs
 same-length : tie.Need-same-length
 same-length c = search needs
 
-returns : tie.Need-returns
-returns c = zero-at-is (c .before .before .before .before .before .args .d) (c .before .before .before .before .before .args .buf .now) (c .before .before .zero .last .0) (search needs) (c .before .before .zero .ensures)
+returns-2 : tie.Need-returns-2
+returns-2 c = law.zero-done (c .before .before .before .before .before .before .args .d) (c .before .before .before .before .before .before .args .buf .now) _ (c .before .before .before .before .if1 .left) (zero-at-is (c .before .before .before .before .before .before .args .d) (c .before .before .before .before .before .before .args .buf .now) (c .before .before .zero .last .0) (c .before .before .before .before .if1 .left) (c .before .before .zero .ensures))
 
 pub zero-at-spec : {M : Type 1} → statement M
 zero-at-spec =
     tie.close
-    (tie.spec mul-a add-e sub-zero part-zero-start part-zero-end zero-requires same-length returns)
+    (tie.spec
+    returns
+    mul-a
+    add-e
+    sub-zero
+    part-zero-start
+    part-zero-end
+    zero-requires
+    same-length
+    returns-2)

@@ -1,22 +1,46 @@
 -- `block::entry::keeps` meets its contract.
 use borrow.Author.Needs.{needs}
-use mathlib.Core.Path.{_∙_, sym}
-use Rattle.block.proofs.ContentLaws.{entry-512, entry-fits}
+use native.Mathlib.Omega.{arith}
+use mathlib.Core.Path.{sym, _∙_}
+use Rattle.block.proofs.OutcomeLaws as law
+use Rattle.strand.specs.Strands.{strandOf}
 use Rattle.block.proofs.WriteLaws.{keeps-3, keeps-4}
 use Rattle.block.proofs.entry.keeps.Statement.{statement}
 use Rattle.block.proofs.entry.keeps.Tie as tie
 
+returns : tie.Need-returns
+returns c = law.told-1 (c .before .before .before .before .args .s .now) (strandOf (c .before .before .before .before .args .bases .now) (c .before .before .before .before .args .mates .now)) (c .if1 .taken)
+
+shared-slice-read-wide : tie.Need-shared-slice-read-wide
+shared-slice-read-wide c = search needs
+
+wide-requires : tie.Need-wide-requires
+wide-requires c κs = search needs
+
+returns-2 : tie.Need-returns-2
+returns-2 c = law.told-2 (c .before .before .before .before .before .before .before .args .s .now) (strandOf (c .before .before .before .before .before .before .before .args .bases .now) (c .before .before .before .before .before .before .before .args .mates .now)) (c .before .wide .result) (c .before .wide .ensures .0) (c .before .before .before .if1 .left) (c .if2 .taken)
+
 all-zero-requires : tie.Need-all-zero-requires
 all-zero-requires c κs = search needs
 
-returns : tie.Need-returns
-returns c = keeps-3 (c .before .before .before .before .before .args .s .now) (c .before .before .before .before .before .args .bases .now) (c .before .before .before .before .before .args .mates .now) (sym (c .before .all-zero .ensures) ∙ c .if1 .taken)
+returns-3 : tie.Need-returns-3
+returns-3 c = keeps-3 (c .before .before .before .before .before .before .before .before .before .args .s .now) (c .before .before .before .before .before .before .before .before .before .args .bases .now) (c .before .before .before .before .before .before .before .before .before .args .mates .now) (sym (c .before .all-zero .ensures) ∙ c .if3 .taken) ∙ law.told-3 (c .before .before .before .before .before .before .before .before .before .args .s .now) (strandOf (c .before .before .before .before .before .before .before .before .before .args .bases .now) (c .before .before .before .before .before .before .before .before .before .args .mates .now)) (c .before .before .before .wide .result) (c .before .before .before .wide .ensures .0) (c .before .before .before .before .before .if1 .left) (c .before .before .if2 .left)
 
 keeps-motif-requires : tie.Need-keeps-motif-requires
-keeps-motif-requires c κs = (entry-512 (c .before .before .before .before .before .args .s .now) (c .before .before .before .before .before .pre), entry-fits (c .before .before .before .before .before .args .s .now) (c .before .before .before .before .before .pre))
+keeps-motif-requires c κs = (c .before .before .before .before .before .if1 .left, omega (arith, c .before .before .before .wide .ensures .0, c .before .before .if2 .left))
 
-returns-2 : tie.Need-returns-2
-returns-2 c = c .keeps-motif .ensures ∙ keeps-4 (c .before .before .before .before .before .before .args .s .now) (c .before .before .before .before .before .before .args .bases .now) (c .before .before .before .before .before .before .args .mates .now) (sym (c .before .before .all-zero .ensures) ∙ c .before .if1 .left)
+returns-4 : tie.Need-returns-4
+returns-4 c = c .keeps-motif .ensures ∙ keeps-4 (c .before .before .before .before .before .before .before .before .before .before .args .s .now) (c .before .before .before .before .before .before .before .before .before .before .args .bases .now) (c .before .before .before .before .before .before .before .before .before .before .args .mates .now) (sym (c .before .before .all-zero .ensures) ∙ c .before .if3 .left) ∙ law.told-3 (c .before .before .before .before .before .before .before .before .before .before .args .s .now) (strandOf (c .before .before .before .before .before .before .before .before .before .before .args .bases .now) (c .before .before .before .before .before .before .before .before .before .before .args .mates .now)) (c .before .before .before .before .wide .result) (c .before .before .before .before .wide .ensures .0) (c .before .before .before .before .before .before .if1 .left) (c .before .before .before .if2 .left)
 
 pub keeps-spec : {M : Type 1} → statement M
-keeps-spec = tie.close (tie.spec all-zero-requires returns keeps-motif-requires returns-2)
+keeps-spec =
+    tie.close
+    (tie.spec
+    returns
+    shared-slice-read-wide
+    wide-requires
+    returns-2
+    all-zero-requires
+    returns-3
+    keeps-motif-requires
+    returns-4)

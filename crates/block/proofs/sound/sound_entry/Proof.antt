@@ -5,6 +5,8 @@ use mathlib.Core.Path.{_∙_, sym}
 use Rattle.block.proofs.ContentLaws.{entry-length}
 use Rattle.block.proofs.SoundLaws.{entry-check, entry-content, entry-hits, entry-zero}
 use Rattle.block.proofs.SoundLaws as laws
+use native.Mathlib.Omega.{arith}
+use Rattle.octets.proofs.SumLaws.{told-whole}
 use Rattle.block.proofs.sound.sound_entry.Statement.{statement}
 use Rattle.block.proofs.sound.sound_entry.Tie as tie
 
@@ -33,7 +35,7 @@ checksum-ok-requires : tie.Need-checksum-ok-requires
 checksum-ok-requires c κs = search needs
 
 returns-5 : tie.Need-returns-5
-returns-5 c = c .checksum-ok .ensures ∙ laws.entry-check (c .before .before .before .before .before .before .before .before .before .args .s .now) (c .before .before .before .before .before .before .before .if1 .left) (sym (c .before .before .before .before .before .before .all-zero .ensures) ∙ c .before .before .before .before .before .if2 .left) (sym (c .before .before .before .before .content-ok .ensures) ∙ not-false _ (c .before .before .before .if3 .left)) (sym (c .before .before .hits-ok .ensures) ∙ not-false _ (c .before .if4 .left))
+returns-5 c = c .checksum-ok .ensures ∙ told-whole (c .before .before .before .before .before .before .before .before .before .args .s .now) (omega (arith, c .before .before .before .before .before .before .before .if1 .left)) ∙ laws.entry-check (c .before .before .before .before .before .before .before .before .before .args .s .now) (c .before .before .before .before .before .before .before .if1 .left) (sym (c .before .before .before .before .before .before .all-zero .ensures) ∙ c .before .before .before .before .before .if2 .left) (sym (c .before .before .before .before .content-ok .ensures) ∙ not-false _ (c .before .before .before .if3 .left)) (sym (c .before .before .hits-ok .ensures) ∙ not-false _ (c .before .if4 .left))
 
 pub sound-entry-spec : {M : Type 1} → statement M
 sound-entry-spec =

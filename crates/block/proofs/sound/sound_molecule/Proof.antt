@@ -5,6 +5,8 @@ use mathlib.Core.Path.{_∙_, sym}
 use Rattle.block.proofs.ContentLaws.{molecule-length}
 use Rattle.block.proofs.SoundLaws.{molecule-check, molecule-content, molecule-zero}
 use Rattle.block.proofs.SoundLaws as laws
+use native.Mathlib.Omega.{arith}
+use Rattle.octets.proofs.SumLaws.{told-whole}
 use Rattle.block.proofs.sound.sound_molecule.Statement.{statement}
 use Rattle.block.proofs.sound.sound_molecule.Tie as tie
 
@@ -27,7 +29,7 @@ checksum-ok-requires : tie.Need-checksum-ok-requires
 checksum-ok-requires c κs = search needs
 
 returns-4 : tie.Need-returns-4
-returns-4 c = c .checksum-ok .ensures ∙ laws.molecule-check (c .before .before .before .before .before .before .before .args .s .now) (c .before .before .before .before .before .if1 .left) (sym (c .before .before .before .before .all-zero .ensures) ∙ c .before .before .before .if2 .left) (sym (c .before .before .content-ok .ensures) ∙ not-false _ (c .before .if3 .left))
+returns-4 c = c .checksum-ok .ensures ∙ told-whole (c .before .before .before .before .before .before .before .args .s .now) (omega (arith, c .before .before .before .before .before .if1 .left)) ∙ laws.molecule-check (c .before .before .before .before .before .before .before .args .s .now) (c .before .before .before .before .before .if1 .left) (sym (c .before .before .before .before .all-zero .ensures) ∙ c .before .before .before .if2 .left) (sym (c .before .before .content-ok .ensures) ∙ not-false _ (c .before .if3 .left))
 
 pub sound-molecule-spec : {M : Type 1} → statement M
 sound-molecule-spec =

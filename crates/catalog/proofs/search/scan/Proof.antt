@@ -8,6 +8,7 @@ use Rattle.catalog.proofs.SearchLaws as search-laws
 use Rattle.strand.specs.Strands.{strandOf}
 use Rattle.catalog.specs.Motifs.{embeds}
 use Rattle.catalog.specs.Calls.{isHit, toSearch}
+use Rattle.block.proofs.OutcomeLaws as outcome
 use Rattle.catalog.proofs.search.scan.Statement.{statement}
 use Rattle.catalog.proofs.search.scan.Tie as tie
 
@@ -21,13 +22,13 @@ zero-requires : tie.Need-zero-requires Inv-loop μ-loop
 zero-requires c κs = search needs
 
 keeps-requires : tie.Need-keeps-requires Inv-loop μ-loop
-keeps-requires c κs = c .before .before .before .before .before .before .before .before .before .before .before .pre .1
+keeps-requires c κs = search needs
 
 loop-holds : tie.Need-loop-holds Inv-loop μ-loop
 loop-holds c = (search-laws.scan-start (isHit embeds (c .before .before .before .before .before .before .before .before .before .before .before .before .args .catalog .now) (c .before .before .before .before .before .before .before .before .before .before .before .before .args .entry .now) (strandOf (c .before .before .before .before .before .before .before .before .before .before .before .before .args .bases .now) (c .before .before .before .before .before .before .before .before .before .before .before .before .args .mates .now))) (toSearch (c .before .before .before .before .before .before .before .before .before .before .before .before .args .catalog .now) (c .before .before .before .before .before .before .before .before .before .before .before .before .args .entry .now) (strandOf (c .before .before .before .before .before .before .before .before .before .before .before .before .args .bases .now) (c .before .before .before .before .before .before .before .before .before .before .before .before .args .mates .now))) (length (c .before .before .before .before .before .before .before .before .before .before .before .before .args .catalog .now) / 512) (c .before .before .before .before .before .before .before .before .before .before .before .before .args .hits .now) _ (c .before .before .before .zero .ensures ∙ ap (λ (k : ℕ). replicate k 0) (c .before .before .before .before .before .before .before .before .before .before .before .before .pre .3)), refl, refl, c .before .before .before .zero .kept .0 ∙ c .before .before .before .before .before .before .before .before .before .before .before .before .pre .3)
 
 look-requires : tie.Need-look-requires Inv-loop μ-loop
-look-requires c κs = (search-laws.ready-at (c .before .before .before .before .before .before .before .before .before .before .before .before .before .before .before .pre .0) (c .before .before .loop .inv .1), c .before .loop-test .taken, c .before .before .before .keeps .ensures, search-laws.searched-short (isHit embeds (c .before .before .before .before .before .before .before .before .before .before .before .before .before .before .before .args .catalog .now) (c .before .before .before .before .before .before .before .before .before .before .before .before .before .before .before .args .entry .now) (strandOf (c .before .before .before .before .before .before .before .before .before .before .before .before .before .before .before .args .bases .now) (c .before .before .before .before .before .before .before .before .before .before .before .before .before .before .before .args .mates .now))) (toSearch (c .before .before .before .before .before .before .before .before .before .before .before .before .before .before .before .args .catalog .now) (c .before .before .before .before .before .before .before .before .before .before .before .before .before .before .before .args .entry .now) (strandOf (c .before .before .before .before .before .before .before .before .before .before .before .before .before .before .before .args .bases .now) (c .before .before .before .before .before .before .before .before .before .before .before .before .before .before .before .args .mates .now))) (length (c .before .before .before .before .before .before .before .before .before .before .before .before .before .before .before .args .catalog .now) / 512) (c .before .before .before .before .before .before .before .before .before .before .before .before .before .before .before .args .hits .now) (c .before .before .loop .hits) (c .before .before .loop .map) (c .before .before .loop .d) (c .before .before .loop .count) (c .before .before .loop .searched) (c .before .before .loop .inv .0))
+look-requires c κs = (search-laws.ready-at (c .before .before .before .before .before .before .before .before .before .before .before .before .before .before .before .pre .0) (c .before .before .loop .inv .1), c .before .loop-test .taken, c .before .before .before .keeps .ensures ∙ outcome.told-sound (c .before .before .before .before .before .before .before .before .before .before .before .before .before .before .before .args .entry .now) (strandOf (c .before .before .before .before .before .before .before .before .before .before .before .before .before .before .before .args .bases .now) (c .before .before .before .before .before .before .before .before .before .before .before .before .before .before .before .args .mates .now)) (c .before .before .before .before .before .before .before .before .before .before .before .before .before .before .before .pre .1), search-laws.searched-short (isHit embeds (c .before .before .before .before .before .before .before .before .before .before .before .before .before .before .before .args .catalog .now) (c .before .before .before .before .before .before .before .before .before .before .before .before .before .before .before .args .entry .now) (strandOf (c .before .before .before .before .before .before .before .before .before .before .before .before .before .before .before .args .bases .now) (c .before .before .before .before .before .before .before .before .before .before .before .before .before .before .before .args .mates .now))) (toSearch (c .before .before .before .before .before .before .before .before .before .before .before .before .before .before .before .args .catalog .now) (c .before .before .before .before .before .before .before .before .before .before .before .before .before .before .before .args .entry .now) (strandOf (c .before .before .before .before .before .before .before .before .before .before .before .before .before .before .before .args .bases .now) (c .before .before .before .before .before .before .before .before .before .before .before .before .before .before .before .args .mates .now))) (length (c .before .before .before .before .before .before .before .before .before .before .before .before .before .before .before .args .catalog .now) / 512) (c .before .before .before .before .before .before .before .before .before .before .before .before .before .before .before .args .hits .now) (c .before .before .loop .hits) (c .before .before .loop .map) (c .before .before .loop .d) (c .before .before .loop .count) (c .before .before .loop .searched) (c .before .before .loop .inv .0))
 
 note-requires : tie.Need-note-requires Inv-loop μ-loop
 note-requires c κs = (omega (arith, search-laws.count-short (isHit embeds (c .before .before .before .before .before .before .before .before .before .before .before .before .before .before .before .before .before .before .before .before .args .catalog .now) (c .before .before .before .before .before .before .before .before .before .before .before .before .before .before .before .before .before .before .before .before .args .entry .now) (strandOf (c .before .before .before .before .before .before .before .before .before .before .before .before .before .before .before .before .before .before .before .before .args .bases .now) (c .before .before .before .before .before .before .before .before .before .before .before .before .before .before .before .before .before .before .before .before .args .mates .now))) (toSearch (c .before .before .before .before .before .before .before .before .before .before .before .before .before .before .before .before .before .before .before .before .args .catalog .now) (c .before .before .before .before .before .before .before .before .before .before .before .before .before .before .before .before .before .before .before .before .args .entry .now) (strandOf (c .before .before .before .before .before .before .before .before .before .before .before .before .before .before .before .before .before .before .before .before .args .bases .now) (c .before .before .before .before .before .before .before .before .before .before .before .before .before .before .before .before .before .before .before .before .args .mates .now))) (length (c .before .before .before .before .before .before .before .before .before .before .before .before .before .before .before .before .before .before .before .before .args .catalog .now) / 512) (c .before .before .before .before .before .before .before .before .before .before .before .before .before .before .before .before .before .before .before .before .args .hits .now) (c .before .before .before .before .before .before .before .loop .hits) (c .before .before .before .before .before .before .before .loop .map) (c .before .before .before .before .before .before .before .loop .d) (c .before .before .before .before .before .before .before .loop .count) (c .before .before .before .before .before .before .before .loop .searched) (c .before .before .before .before .before .before .before .loop .inv .0), c .before .before .before .before .before .before .before .before .before .before .before .before .before .before .before .before .before .before .before .before .pre .2, c .before .before .before .before .before .before .before .loop .inv .2, c .before .before .before .before .before .before .loop-test .taken), omega (arith, c .before .before .before .before .before .before .before .before .before .before .before .before .before .before .before .before .before .before .before .before .pre .0 .most, c .before .before .before .before .before .before .loop-test .taken), search-laws.count-short (isHit embeds (c .before .before .before .before .before .before .before .before .before .before .before .before .before .before .before .before .before .before .before .before .args .catalog .now) (c .before .before .before .before .before .before .before .before .before .before .before .before .before .before .before .before .before .before .before .before .args .entry .now) (strandOf (c .before .before .before .before .before .before .before .before .before .before .before .before .before .before .before .before .before .before .before .before .args .bases .now) (c .before .before .before .before .before .before .before .before .before .before .before .before .before .before .before .before .before .before .before .before .args .mates .now))) (toSearch (c .before .before .before .before .before .before .before .before .before .before .before .before .before .before .before .before .before .before .before .before .args .catalog .now) (c .before .before .before .before .before .before .before .before .before .before .before .before .before .before .before .before .before .before .before .before .args .entry .now) (strandOf (c .before .before .before .before .before .before .before .before .before .before .before .before .before .before .before .before .before .before .before .before .args .bases .now) (c .before .before .before .before .before .before .before .before .before .before .before .before .before .before .before .before .before .before .before .before .args .mates .now))) (length (c .before .before .before .before .before .before .before .before .before .before .before .before .before .before .before .before .before .before .before .before .args .catalog .now) / 512) (c .before .before .before .before .before .before .before .before .before .before .before .before .before .before .before .before .before .before .before .before .args .hits .now) (c .before .before .before .before .before .before .before .loop .hits) (c .before .before .before .before .before .before .before .loop .map) (c .before .before .before .before .before .before .before .loop .d) (c .before .before .before .before .before .before .before .loop .count) (c .before .before .before .before .before .before .before .loop .searched) (c .before .before .before .before .before .before .before .loop .inv .0))

@@ -1,9 +1,13 @@
 -- `octets::checksum::checksum_ok` meets its contract.
+use borrow.Author.Needs.{needs}
 use Rattle.octets.specs.Checksum.{checksumOk}
 use Rattle.octets.specs.Numbers.{word32}
-use borrow.Author.Needs.{needs}
+use Rattle.octets.proofs.SumLaws.{told-short, told-is}
 use Rattle.octets.proofs.checksum.checksum_ok.Statement.{statement}
 use Rattle.octets.proofs.checksum.checksum_ok.Tie as tie
+
+returns : tie.Need-returns
+returns c = told-short (c .before .before .args .s .now) (c .if1 .taken)
 
 checksum-of-requires : tie.Need-checksum-of-requires
 checksum-of-requires c κs = search needs
@@ -23,18 +27,19 @@ shared-slice-read-word-4 c = search needs
 word-requires : tie.Need-word-requires
 word-requires c κs = search needs
 
-returns : tie.Need-returns
+returns-2 : tie.Need-returns-2
 unfolding checksumOk word32
-returns c = cc
+returns-2 c = told-is (c .before .before .before .before .before .before .before .before .args .s .now) _ (c .before .before .before .before .before .before .if1 .left) cc
 
 pub checksum-ok-spec : {M : Type 1} → statement M
 checksum-ok-spec =
     tie.close
     (tie.spec
+    returns
     checksum-of-requires
     shared-slice-read-word
     shared-slice-read-word-2
     shared-slice-read-word-3
     shared-slice-read-word-4
     word-requires
-    returns)
+    returns-2)

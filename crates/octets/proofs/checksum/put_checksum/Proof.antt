@@ -1,10 +1,14 @@
 -- `octets::checksum::put_checksum` meets its contract.
-use Rattle.octets.specs.Checksum.{rechecked}
 use borrow.Author.Needs.{needs}
-use lib.ListN.{length-set}
 use native.Mathlib.Omega.{arith}
+use lib.ListN.{length-set}
+use Rattle.octets.specs.Checksum.{rechecked}
+use Rattle.octets.proofs.SumLaws.{rechecked-short, rechecked-is}
 use Rattle.octets.proofs.checksum.put_checksum.Statement.{statement}
 use Rattle.octets.proofs.checksum.put_checksum.Tie as tie
+
+returns : tie.Need-returns
+returns c = rechecked-short (c .before .before .args .s .now) (c .if1 .taken)
 
 checksum-of-requires : tie.Need-checksum-of-requires
 checksum-of-requires c κs = search needs
@@ -36,14 +40,15 @@ slice-write-s-4 c = search needs
 same-length : tie.Need-same-length
 same-length c = search needs
 
-returns : tie.Need-returns
+returns-2 : tie.Need-returns-2
 unfolding rechecked
-returns c = cc
+returns-2 c = rechecked-is (c .before .before .before .before .args .s .now) _ (c .before .before .if1 .left) cc
 
 pub put-checksum-spec : {M : Type 1} → statement M
 put-checksum-spec =
     tie.close
     (tie.spec
+    returns
     checksum-of-requires
     cast-s
     slice-write-s
@@ -54,4 +59,4 @@ put-checksum-spec =
     cast-s-4
     slice-write-s-4
     same-length
-    returns)
+    returns-2)
