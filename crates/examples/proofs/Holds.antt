@@ -19,7 +19,7 @@ use Rattle.history.specs.History.{atMostOnce, admittedFrom, admitted}
 use Rattle.history.specs.Examples.{Story, resultsOf, sameResult, sameResults, storyOk, storiesOk, stories, settledStory, reusedStory}
 use Rattle.history.proofs.Stories.{keys, told}
 use Rattle.history.proofs.Stories as stories
-use Rattle.examples.specs.Table.{Row, story, screenText, Holds, AllHold, a, ask, screenInput, screenPrints, longMotif, numberTwo, addedTwice, removedEmpty, refusals, settledRows, also, table}
+use Rattle.examples.specs.Table.{Row, story, screenText, Holds, AllHold, a, ask, screenInput, screenPrints, longMotif, fewHits, numberTwo, addedTwice, removedEmpty, refusals, settledRows, also, table}
 use Rattle.examples.proofs.BufferRows.{uneven-refused, unsound-refused}
 use Rattle.examples.proofs.ScreenRow.{screen-prints}
 
@@ -33,9 +33,9 @@ by-model : (t : Story) → storyOk t ≡ true → Holds (story t)
 unfolding Holds
 by-model t ok = (ok, told t ok)
 
-tales : (storyOk longMotif ≡ true) × (storyOk numberTwo ≡ true) × (storyOk addedTwice ≡ true) × (storyOk removedEmpty ≡ true)
-unfolding longMotif numberTwo addedTwice removedEmpty storyOk admitted admittedFrom atMostOnce modelLog resultsOf sameResults sameResult choose every some lowestFrom lowest tab first row rowAt strandVerdict isLetter notLetter mateOutside notMutual crosses crossedAt moleculeVerdict motifVerdict workVerdict refusedBy resultBy ifAccepted start putAt isHeld heldIn inRange modelVerdict modelAnswer modelNext
-tales = (refl, refl, refl, refl)
+tales : (storyOk longMotif ≡ true) × (storyOk fewHits ≡ true) × (storyOk numberTwo ≡ true) × (storyOk addedTwice ≡ true) × (storyOk removedEmpty ≡ true)
+unfolding longMotif fewHits numberTwo addedTwice removedEmpty storyOk admitted admittedFrom atMostOnce modelLog resultsOf sameResults sameResult choose every some lowestFrom lowest tab first row rowAt strandVerdict isLetter notLetter mateOutside notMutual crosses crossedAt moleculeVerdict motifVerdict workVerdict refusedBy resultBy ifAccepted start putAt isHeld heldIn inRange modelVerdict modelAnswer modelNext
+tales = (refl, refl, refl, refl, refl)
 
 refusals-hold : AllHold refusals
 unfolding refusals AllHold Holds checkVerdict motifVerdict matcher.lengthVerdict matcher.lengthAnswer matcher.showVerdict matcher.showAnswer matcher.answerOf verify.verifyVerdict verify.answerOf pairVerdict strandVerdict first row rowAt choose every some someList lowestFrom lowest isLetter notLetter mateOutside notMutual crosses crossedAt lettersMatch longest largest prefixOk closedTo placesOk
@@ -51,15 +51,16 @@ refusals-hold =
     & refl
     & refl
     & refl
+    & by-model fewHits (tales .1)
     & uneven-refused (add 0 a)
     & uneven-refused (remove 0)
     & uneven-refused ask
     & unsound-refused (add 0 a)
     & unsound-refused (remove 0)
     & unsound-refused ask
-    & by-model numberTwo (tales .1)
-    & by-model addedTwice (tales .2)
-    & by-model removedEmpty (tales .3)
+    & by-model numberTwo (tales .2)
+    & by-model addedTwice (tales .3)
+    & by-model removedEmpty (tales .4)
     & refl
     & refl
     & tt

@@ -96,6 +96,9 @@ tale events results = record { blocks = 2; slots = 1; events = events; results =
 unfoldable pub longMotif : Story
 longMotif = tale (call (query long 9088 (0 ∷ 0 ∷ [])) ∷ []) (refused 3 motifSide 0 ∷ [])
 
+unfoldable pub fewHits : Story
+fewHits = tale (call (query bonded 1472 (0 ∷ [])) ∷ []) (refused 9 noSide 0 ∷ [])
+
 unfoldable pub numberTwo : Story
 numberTwo = tale (call (add 2 a) ∷ call (remove 2) ∷ []) (refused 12 noSide 0 ∷ refused 12 noSide 0 ∷ [])
 
@@ -151,6 +154,7 @@ refusals =
     -- 9: m = 2, 1 entry
     ∷ showCall bonded gac 1 216 (notMatched 9)
     ∷ verifyCall bonded gac (0 ∷ []) (verified.Refused (refusedBy 9))
+    ∷ story fewHits
     -- 10: shelf of 513 bytes
     ∷ bufferCall uneven (add 0 a) (refused 10 noSide 0)
     ∷ bufferCall uneven (remove 0) (refused 10 noSide 0)
