@@ -6,7 +6,7 @@
 //! - any bytes and any 16-bit numbers are values of `u8` and `u16`, so whatever a call writes leaves the slices valid;
 //! - the functions take every content and length, keep no pointer, do not unwind and have no state.
 //!
-//! That the library does what the header says is proved in the repository; that these declarations match the header was checked by eye, and by the tests.
+//! That the library does what the header says is proved in the repository. That the declarations here match the header no tool checks; the tests make all calls.
 
 /// `lakhido_answer`: refusal 0 means accepted.
 #[repr(C)]

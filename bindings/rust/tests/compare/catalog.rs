@@ -5,7 +5,7 @@ use crate::make;
 use crate::plain::block::{self, BLOCK, CHECKSUM, ENTRY, MOLECULE, Owned};
 use crate::plain::calls::{self, work_size};
 use crate::plain::strand::{Refused, Strand};
-use crate::random::{Random, rounds, seed};
+use crate::random::{Random, rounds, seeded};
 use crate::{lent, refused, report};
 
 /// A catalog and a cache.
@@ -106,8 +106,7 @@ fn blocks(r: &mut Random, most: usize) -> usize {
 
 #[test]
 fn calls_on_any_content() {
-    let seed = seed();
-    let mut r = Random::new(seed);
+    let mut r = seeded();
     let (mut count, mut accepted) = (0, 0);
     for case in 0..rounds(6_000) {
         let longest = if case % 10 == 0 { MOLECULE.most } else { 20 };
@@ -138,12 +137,12 @@ fn calls_on_any_content() {
             }
         }
     }
-    report("add, remove, query on any content", seed, count);
+    report("add, remove, query on any content", count);
     assert!(count / 3 < accepted, "only {accepted} of {count} accepted");
 }
 
 /// Runs a test on a block with each byte set to each value, the checksum left or, for the bytes before it, made right again. Gives the number of runs.
-fn every_byte(original: &[u8; BLOCK], mut test: impl FnMut(&[u8; BLOCK])) -> usize {
+fn every_byte(original: &[u8; BLOCK], test: fn(&[u8; BLOCK])) -> usize {
     let mut count = 0;
     for at in 0..BLOCK {
         for value in 0..=255 {
@@ -161,33 +160,34 @@ fn every_byte(original: &[u8; BLOCK], mut test: impl FnMut(&[u8; BLOCK])) -> usi
     count
 }
 
+/// A molecule block: a remove past the end is refused with 12 after the soundness pass, with 11 by it.
+fn passes_as_molecule(b: &[u8; BLOCK]) {
+    let expected = if block::sound(&MOLECULE, b) { Refused(12, 2, 0) } else { Refused(11, 2, 0) };
+    let answer = lakhido::remove(&mut b.clone(), &mut [0; BLOCK], 1).map_err(refused);
+    assert_eq!(answer, Err(expected), "library, plain; remove 1 in {}", written(b));
+}
+
+/// An entry in slot 0: a query of A, whose slot is 1 of 2, keeps it or zeroes it.
+fn passes_as_entry(b: &[u8; BLOCK]) {
+    let expected = if block::sound(&ENTRY, b) { *b } else { [0; BLOCK] };
+    let mut cache = [0; 2 * BLOCK];
+    cache[..BLOCK].copy_from_slice(b);
+    let found = lakhido::query(&[0; BLOCK], &mut cache, lakhido::Strand::new(b"A", &[0]), &mut [0; 64 * 2 + 8 * 160], &mut [0]);
+    assert_eq!(found, Ok(lakhido::Found { count: 0, searched: 0 }));
+    assert!(cache[..BLOCK] == expected, "the library leaves {}, of the entry {}", written(&cache[..BLOCK]), written(b));
+}
+
 #[test]
 fn every_byte_of_a_block() {
-    let seed = seed();
-    let mut r = Random::new(seed);
+    let mut r = seeded();
     let mut count = 0;
-    for most in [MOLECULE.most, ENTRY.most] {
-        for n in [1, r.between(2, most - 1), most] {
-            let s = make::strand(&mut r, n);
-            // A molecule block: a remove past the end is refused with 12 after the soundness pass, with 11 by it.
-            count += every_byte(&block::molecule_block(s.lend()), |b| {
-                let expected = if block::sound(&MOLECULE, b) { Refused(12, 2, 0) } else { Refused(11, 2, 0) };
-                let answer = lakhido::remove(&mut b.clone(), &mut [0; BLOCK], 1).map_err(refused);
-                assert_eq!(answer, Err(expected), "library, plain; remove 1 in {}", written(b));
-            });
-            if n > ENTRY.most {
-                continue;
-            }
-            // An entry in slot 0: a query of A, whose slot is 1 of 2, keeps it or zeroes it.
-            count += every_byte(&blocks::entry(&mut r, &s, 512), |b| {
-                let expected = if block::sound(&ENTRY, b) { *b } else { [0; BLOCK] };
-                let mut cache = [0; 2 * BLOCK];
-                cache[..BLOCK].copy_from_slice(b);
-                let found = lakhido::query(&[0; BLOCK], &mut cache, lakhido::Strand::new(b"A", &[0]), &mut [0; 64 * 2 + 8 * 160], &mut [0]);
-                assert_eq!(found, Ok(lakhido::Found { count: 0, searched: 0 }));
-                assert!(cache[..BLOCK] == expected, "the library leaves {}, of the entry {}", written(&cache[..BLOCK]), written(b));
-            });
-        }
+    for n in [1, r.between(2, MOLECULE.most - 1), MOLECULE.most] {
+        let s = make::strand(&mut r, n);
+        count += every_byte(&block::molecule_block(s.lend()), passes_as_molecule);
     }
-    report("every byte of a block", seed, count);
+    for n in [1, r.between(2, ENTRY.most - 1), ENTRY.most] {
+        let s = make::strand(&mut r, n);
+        count += every_byte(&blocks::entry(&mut r, &s, 512), passes_as_entry);
+    }
+    report("every byte of a block", count);
 }

@@ -5,7 +5,7 @@ use crate::plain::block::Owned;
 use crate::plain::calls::{self, LONGEST, work_size};
 use crate::plain::embedding::{longest_by_trying, verify_linear};
 use crate::plain::strand::{Refused, Strand};
-use crate::random::{Random, rounds, seed};
+use crate::random::{Random, rounds, seeded};
 use crate::{lent, refused, report};
 
 /// Inputs between guards, so that a write to them or beside them shows.
@@ -138,7 +138,7 @@ fn all_small_pairs() {
             count += 2;
         }
     }
-    println!("all motifs of up to 4 bases and molecules of up to 5 in two letters: {count} comparisons");
+    report("all motifs of up to 4 bases and molecules of up to 5 in two letters", count);
     assert!(300_000 < count);
 }
 
@@ -158,7 +158,7 @@ fn all_small_checks() {
             mates[..at].fill(0);
         }
     }
-    println!("all strands of up to 4 bases, mates up to 4: {count} comparisons");
+    report("all strands of up to 4 bases, mates up to 4", count);
     assert!(50_000 < count);
 }
 
@@ -175,7 +175,7 @@ fn all_small_places() {
             }
         }
     }
-    println!("all places for motifs and molecules of up to 3 bases in two letters: {count} comparisons");
+    report("all places for motifs and molecules of up to 3 bases in two letters", count);
     assert!(50_000 < count);
 }
 
@@ -205,8 +205,7 @@ fn pair(r: &mut Random, p: Strand, q: Strand) -> usize {
 
 #[test]
 fn short_pairs() {
-    let seed = seed();
-    let mut r = Random::new(seed);
+    let mut r = seeded();
     let mut count = 0;
     for _ in 0..rounds(12_000) {
         let n = r.between(1, 60);
@@ -215,13 +214,12 @@ fn short_pairs() {
         let p = make::motif(&mut r, &q, m);
         count += pair(&mut r, p.lend(), q.lend());
     }
-    report("check, length, show, verify on short pairs", seed, count);
+    report("check, length, show, verify on short pairs", count);
 }
 
 #[test]
 fn long_pairs() {
-    let seed = seed();
-    let mut r = Random::new(seed);
+    let mut r = seeded();
     let mut count = 0;
     for case in 0..rounds(60) {
         let n = if case % 6 == 0 { LONGEST } else { r.between(61, 1500) };
@@ -236,5 +234,5 @@ fn long_pairs() {
             count += 1;
         }
     }
-    report("check, length, show, verify on long pairs", seed, count);
+    report("check, length, show, verify on long pairs", count);
 }

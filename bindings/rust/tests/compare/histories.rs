@@ -5,7 +5,7 @@ use crate::make;
 use crate::plain::block::{BLOCK, CHECKSUM, ENTRY, HIT, MOLECULE, Owned, SEARCHED};
 use crate::plain::calls::work_size;
 use crate::plain::model::{Found, Model};
-use crate::random::{Random, rounds, seed};
+use crate::random::{Random, rounds, seeded};
 use crate::report;
 
 struct History {
@@ -119,8 +119,7 @@ fn step(r: &mut Random, h: &mut History, molecules: &[Owned], motifs: &[Owned]) 
 
 #[test]
 fn random_histories() {
-    let seed = seed();
-    let mut r = Random::new(seed);
+    let mut r = seeded();
     let (mut compared, mut saved) = (0, 0);
     for case in 0..rounds(1_500) {
         let b = match case % 50 {
@@ -138,6 +137,6 @@ fn random_histories() {
         compared += h.compared;
         saved += h.saved;
     }
-    report("histories", seed, compared);
+    report("histories", compared);
     assert!(30_000 < compared && compared / 100 < saved, "{compared} compared, {saved} answered from the cache alone");
 }

@@ -25,7 +25,7 @@ fn lent<'a>(s: plain::strand::Strand<'a>) -> lakhido::Strand<'a> {
     lakhido::Strand::new(s.bases, s.mates)
 }
 
-/// Names what a test did.
-fn report(what: &str, seed: u64, comparisons: usize) {
-    println!("{what}: {comparisons} comparisons, seed {seed}");
+/// Says what a test did.
+fn report(what: &str, comparisons: usize) {
+    println!("{what}: {comparisons} comparisons");
 }

@@ -6,7 +6,7 @@ use crate::make;
 use crate::plain::block::{BLOCK, ENTRY, MOLECULE, Owned};
 use crate::plain::calls::{self, LONGEST, work_size};
 use crate::plain::strand::Refused;
-use crate::random::{Random, rounds, seed};
+use crate::random::{Random, rounds, seeded};
 use crate::report;
 
 /// A row with its side.
@@ -36,8 +36,7 @@ fn apart(a: Label, b: Label) -> bool {
 /// Runs a call on inputs damaged by each pair of labels, until both rows applied and at least `turns` times, and by random sets of labels. The call gives the
 /// rows that applied.
 fn every_pair(name: &str, labels: &[Label], never: &[(Label, Label)], turns: usize, mut call: impl FnMut(&mut Random, &[Label]) -> Vec<Refused>) {
-    let seed = seed();
-    let mut r = Random::new(seed);
+    let mut r = seeded();
     let (turns, mut count) = (rounds(turns), 0);
     let mut run = |r: &mut Random, chosen: &[Label]| {
         count += 1;
@@ -49,7 +48,7 @@ fn every_pair(name: &str, labels: &[Label], never: &[(Label, Label)], turns: usi
             let never = apart(a, b) || never.contains(&(a, b)) || never.contains(&(b, a));
             let (mut both, mut tries) = (never, 0);
             while tries < turns || !both {
-                assert!(tries < turns + 1_000, "{name}: no input with the rows {a:?} and {b:?} (number, side), seed {seed}");
+                assert!(tries < turns + 1_000, "{name}: no input with the rows {a:?} and {b:?} (number, side)");
                 both |= run(&mut r, &[a, b]);
                 tries += 1;
             }
@@ -59,7 +58,7 @@ fn every_pair(name: &str, labels: &[Label], never: &[(Label, Label)], turns: usi
         let some: Vec<Label> = labels.iter().copied().filter(|_| r.one_in(4)).collect();
         run(&mut r, &some);
     }
-    report(&format!("order of refusals, {name}"), seed, count);
+    report(&format!("order of refusals, {name}"), count);
 }
 
 /// A motif and a molecule, damaged by the labels of their sides.
@@ -207,7 +206,7 @@ fn of_query() {
 #[test]
 fn of_lengths() {
     // Strands and buffers at the limits: the last that is accepted and the first that is not.
-    let mut r = Random::new(seed());
+    let mut r = seeded();
     for most in [MOLECULE.most, ENTRY.most, LONGEST] {
         for n in [1, most - 1, most, most + 1] {
             let s = make::strand(&mut r, n);

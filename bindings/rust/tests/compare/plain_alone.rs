@@ -3,7 +3,7 @@ use crate::make;
 use crate::plain::embedding::{closed, longest_by_trying, verify, verify_linear};
 use crate::plain::strand::{Strand, lowest_crossing, lowest_crossing_by_pairs};
 use crate::plain::{rows, table::Table};
-use crate::random::{Random, rounds, seed};
+use crate::random::{rounds, seeded};
 
 /// Rows, table and trying give one length, and the table's places are an embedding.
 fn lengths_agree(p: Strand, q: Strand, trying: bool) {
@@ -22,9 +22,7 @@ fn lengths_agree(p: Strand, q: Strand, trying: bool) {
 
 #[test]
 fn the_matchers_agree() {
-    let seed = seed();
-    let mut r = Random::new(seed);
-    println!("plain matchers: seed {seed}");
+    let mut r = seeded();
     for case in 0..rounds(30_000) {
         let n = if case % 100 == 0 { r.between(1, 300) } else { r.between(1, 14) };
         let q = make::strand(&mut r, n);
@@ -36,9 +34,7 @@ fn the_matchers_agree() {
 
 #[test]
 fn the_verifiers_agree() {
-    let seed = seed();
-    let mut r = Random::new(seed);
-    println!("plain verifiers: seed {seed}");
+    let mut r = seeded();
     let mut yes = 0;
     for _ in 0..rounds(50_000) {
         let n = r.between(1, 12);
@@ -60,9 +56,7 @@ fn the_verifiers_agree() {
 
 #[test]
 fn the_crossings_agree() {
-    let seed = seed();
-    let mut r = Random::new(seed);
-    println!("plain crossings: seed {seed}");
+    let mut r = seeded();
     let mut found = 0;
     for _ in 0..rounds(100_000) {
         let n = r.between(1, 24);

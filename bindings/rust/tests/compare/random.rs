@@ -2,12 +2,14 @@
 
 pub struct Random(u64);
 
-/// The seed of this run: LAKHIDO_SEED, or the clock.
-pub fn seed() -> u64 {
-    match std::env::var("LAKHIDO_SEED") {
+/// Random numbers for a test, from LAKHIDO_SEED or the clock. Prints the seed before anything can fail.
+pub fn seeded() -> Random {
+    let seed = match std::env::var("LAKHIDO_SEED") {
         Ok(text) => text.parse().expect("LAKHIDO_SEED is a number"),
         Err(_) => std::time::SystemTime::now().duration_since(std::time::UNIX_EPOCH).map_or(1, |t| t.as_nanos() as u64 % 1_000_000_007),
-    }
+    };
+    println!("{}: seed {seed}", std::thread::current().name().unwrap_or("test"));
+    Random::new(seed)
 }
 
 /// How many cases a random test takes: LAKHIDO_ROUNDS multiplies its own number.
