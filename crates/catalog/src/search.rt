@@ -2,10 +2,9 @@
 // has let catalog, motif, work and hits pass (`Ready`), and the cache is clean.
 ghost use mathlib.Core.Path.{_≡_};
 ghost use mathlib.Core.Bool.{true, false, _&&_};
-ghost use mathlib.Core.List.{_++_};
 ghost use Prim.Native.Nat.{_+_, _*_, _-_, _<_, _≤_, _/_, _%_};
-ghost use lib.ListN.{length, set, drop};
-ghost use Rattle.strand.specs.Vocabulary.{choose, select, total};
+ghost use lib.ListN.{length, set};
+ghost use Rattle.strand.specs.Vocabulary.{choose, total};
 ghost use Rattle.strand.specs.Strands.{strandOf, motifSide, Proper};
 ghost use Rattle.octets.specs.Bits.{setMap};
 ghost use Rattle.octets.specs.Maps.{mapSize, mapBytes};

@@ -292,10 +292,6 @@ module _ (embeds : Strand → Strand → Bool) (input cache : List ℕ) (work : 
 
 -- ---- the text of an answer
 
-pub fits-refused : (r : Refusal) (answer : Queried) (hits : List ℕ) (room : ℕ) → answer ≡ NotQueried r → AnswerFits answer hits room → mostOutput ≤ room
-unfolding AnswerFits
-fits-refused r answer hits room e f = rw e at f
-
 pub fits-hits : (count searched : ℕ) (answer : Queried) (hits : List ℕ) (room : ℕ) → answer ≡ Hits count searched → AnswerFits answer hits room
     → (count ≤ length hits) × (length (hitsText count searched (take count hits)) ≤ room)
 unfolding AnswerFits

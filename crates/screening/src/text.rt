@@ -1,10 +1,9 @@
 // Writers of text into a borrowed slice. Each takes the place where its text begins, and answers the place past it.
 // Each asks for room for its text: the callers in this crate have mostOutput bytes.
-ghost use mathlib.Core.Path.{_≡_};
 ghost use mathlib.Core.List.{[], _∷_, _++_};
 ghost use Prim.Native.Nat.{_+_, _≤_, _<_};
 ghost use lib.ListN.{length, take};
-ghost use Rattle.screening.specs.Text.{digits, newline, line, lines, hitsText, refusedText, Put};
+ghost use Rattle.screening.specs.Text.{digits, line, lines, hitsText, refusedText, Put};
 
 // One byte.
 pub fn put_byte(out: &mut [u8], at: usize, b: u8) -> usize

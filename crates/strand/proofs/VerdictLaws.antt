@@ -236,17 +236,6 @@ module _ (side least greatest : ℕ) (bs ms : List ℕ) where
       N : Nested (nth ms) (length ms)
       N = rw (P .same) (P .nested)
 
--- A strand within narrower limits lies within wider ones.
-pub wider : {side a b c d : ℕ} {bs ms : List ℕ} → c ≤ a → b ≤ d → Proper side a b bs ms → Proper side c d bs ms
-wider h k P =
-    record {
-      same = P .same;
-      enough = (let x = P .enough in omega arith);
-      small = (let x = P .small in omega arith);
-      letters = P .letters;
-      nested = P .nested;
-    }
-
 -- ---- a motif and a molecule
 
 pub record Pair (p pm q qm : List ℕ) : Type 0 where

@@ -4,7 +4,6 @@ use mathlib.Core.List.{List, [], _∷_}
 use mathlib.Core.Bool.{Bool, not}
 use lib.Dec.{eqb, ltb}
 use lib.ListN.{length}
-use Rattle.strand.specs.declared.Refusal.{Refusal}
 use Rattle.strand.specs.declared.Verdict.{Verdict}
 use Rattle.strand.specs.declared.Verdict.the-variants.{Accepted, Refused}
 use Rattle.strand.specs.Vocabulary.{choose, lowest}

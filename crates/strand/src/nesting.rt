@@ -1,7 +1,7 @@
 // Mates: in range, mutual, and no two arcs crossing.
 ghost use mathlib.Core.Path.{_≡_};
 ghost use mathlib.Core.Bool.{not};
-ghost use Prim.Native.Nat.{ℕ, _≤_, _<_};
+ghost use Prim.Native.Nat.{ℕ, _<_};
 ghost use lib.ListN.{length};
 ghost use Rattle.strand.specs.Vocabulary.{nth, some, lowest, Tells};
 ghost use Rattle.strand.specs.Strands.{mateOutside, notMutual, crosses, crossedAt, isNested, Mutual, Closes};
