@@ -1,4 +1,4 @@
--- For proofs: what the functions behind the calls ask of their inputs, which the judge of a call gives, and what the search of a query leaves. Assumes nothing.
+-- Only the functions behind the calls need this file: what they ask of their inputs, which the judge of a call gives, and what the search of a query leaves. Assumes nothing.
 use Prim.Native.Nat.{ℕ, _+_, _*_, _≤_, _<_}
 use mathlib.Core.Path.{_≡_}
 use mathlib.Core.Bool.{Bool, true}
