@@ -11,7 +11,7 @@ use borrow.Author.Tests.{lt-ltb, le-ltb}
 use lib.ListN.{length, take, drop, set, length-append, take-append-drop}
 use lib.Seq.{set-split, take-at, drop-at, drop-drop, take-suc, take-add, length-take-le, take-length, paste, paste-suc}
 use Rattle.strand.specs.Vocabulary.{nth, choose, select}
-use Rattle.screening.specs.Text.{digit, digitsIn, digits, spaced, line, lines, hitsText, refusedText, badLengthText, badMotifText, mostOutput, Put}
+use Rattle.screening.specs.Text.{newline, digit, digitsIn, digits, spaced, line, lines, hitsText, refusedText, badLengthText, badMotifText, mostOutput, Put}
 
 -- ---- one text after another
 
@@ -159,7 +159,7 @@ module _ (n : ℕ) {x y : List ℕ} {a b : ℕ} where
 
 pub line-length : (t : List ℕ) → length (line t) ≡ length t + 1
 unfolding line
-line-length t = length-append t (10 ∷ [])
+line-length t = length-append t (newline ∷ [])
 
 pub lines-append : (xs ys : List ℕ) → lines (xs ++ ys) ≡ lines xs ++ lines ys
 unfolding lines
