@@ -1,3 +1,5 @@
 pub mod Top
 pub mod Turning
+pub mod Descent
+pub mod Levels
 pub mod CallLaws

@@ -34,9 +34,6 @@ narrow a z S h g =
 pub room-whole : (m n l r room : ℕ) → n ≤ 4096 → r < n → workSize m n ≤ room → Room (m + 1) (r - l) room
 room-whole m n l r room h g e = room-any (omega arith) (omega arith)
 
-pub room-row : (m n room : ℕ) → workSize m n ≤ room → m + 1 < room
-room-row m n room e = omega arith
-
 pub all-sealed : {qm : List ℕ} {n : ℕ} → Nested (nth qm) n → Sealed qm 0 n
 all-sealed N = record { low = λ u a b. omega arith; high = λ u a b. N .inside u b }
 

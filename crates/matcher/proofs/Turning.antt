@@ -1,6 +1,6 @@
 -- A turn at an arc of the molecule takes the motif as far as can be, and places of what goes inside the arc, with its ends, are places of the whole.
 -- Assumes nothing.
-use Prim.Native.Nat.{ℕ, suc, _+_, _-_, _≤_, _<_, min, max}
+use Prim.Native.Nat.{ℕ, suc, _+_, _≤_, _<_, max}
 use mathlib.Core.Path.{_≡_, refl, sym, ap, _∙_}
 use mathlib.Core.Bool.{Bool, true, false}
 use mathlib.Core.List.{List}
@@ -22,7 +22,6 @@ use Rattle.matcher.specs.declared.trace.Turn.{Turn}
 use Rattle.rows.specs.Rows.{Setting, matches}
 use Rattle.matcher.specs.Trace.{Turns, upon, left-end, inside, Turned, Put, Laid}
 use Rattle.rows.proofs.Entries.{over-free, over-arc}
-use Rattle.matcher.proofs.Top.{window-low, window-high, window-best}
 
 -- A unit row takes a position or not.
 pub record Takes (has : ℕ → Bool) (pm : ℕ → ℕ) (z k : ℕ) : Type 0 where
@@ -65,24 +64,10 @@ module _ {fit : ℕ → ℕ → Bool} {f g : ℕ → ℕ} where
         arcs = λ x y a b d. absurd (omega arith);
       }
 
--- The turn at an arc, from its inner row.
-module _ {p pm q qm : List ℕ} {j to : ℕ} (z l r : ℕ) (S : Setting p pm q qm j to) (jt : j < to) (e : z ≡ min to (j + (r + 1 - l)))
-    (lr : l < r) (rn : r < length q) (arc : nth qm l ≡ r) {row : ℕ → ℕ} (A : IsRow (letters p q) (nth pm) (nth qm) j z (l + 1) r row) where
-  L : ℕ → Bool
-  L = matches p (nth q l)
-
-  R : ℕ → Bool
-  R = matches p (nth q r)
-
-  jz : j < z
-  jz = window-low z l r S jt e lr rn arc
-
-  zt : z ≤ to
-  zt = window-high z l r S jt e lr rn arc
-
-  best : Best (letters p q) (nth pm) (nth qm) to j (arcAt (matches p (nth q l)) (matches p (nth q r)) (nth pm) z (row j) (row (j + 1)) j) l (r + 1)
-  best = window-best z l r S jt e lr rn arc A
-
+-- The turn at an arc, from its inner row for a window that the arc does not fill or that is all of the part.
+module _ {p pm q qm : List ℕ} {j to : ℕ} (z l r : ℕ) (S : Setting p pm q qm j to) (jz : j < z) (zt : z ≤ to)
+    (lr : l < r) (rn : r < length q) (arc : nth qm l ≡ r) {row : ℕ → ℕ} (A : IsRow (letters p q) (nth pm) (nth qm) j z (l + 1) r row)
+    (best : Best (letters p q) (nth pm) (nth qm) to j (arcAt (matches p (nth q l)) (matches p (nth q r)) (nth pm) z (row j) (row (j + 1)) j) l (r + 1)) where
   here : (j ≤ row j) × (row j ≤ z)
   here = row-from A j (omega arith) (omega (arith, jz))
 
@@ -182,9 +167,6 @@ put-set j k s v jk h =
       kept = λ x n. getD-set-other v j x s 0 (λ e. n e jk);
     }
 
-pub put-not : (j k s : ℕ) (v : List ℕ) → k ≤ j → Put j k s v v
-put-not j k s v h = record { long = refl; here = λ l. absurd (omega arith); kept = λ x n. refl }
-
 module _ {p pm q qm : List ℕ} where
   pub laid-none : (j s e : ℕ) (v : List ℕ) → Laid p pm q qm j j s e v v
   laid-none j s e v = record { long = refl; before = λ x a. refl; after = λ x a. refl; embeds = no-base j s e (nth v) }
@@ -234,20 +216,3 @@ module _ {p pm q qm : List ℕ} where
           after = after;
           embeds = shift j k s (r + 1) refl (sym i) refl (omega arith) (one-base j s (nth w) (P .here (omega arith)) (T .fits));
         }
-
-  -- An arc.
-  pub laid-turn : {to j s r k : ℕ} {t : Turn} {v v₁ v₂ w : List ℕ} → Turned p pm q qm to j s r t → Put j (t .start) s v v₁ → Put (t .stop) (t .next) r v₁ v₂
-      → k ≡ t .stop → Laid p pm q qm (t .start) k (s + 1) r v₂ w → Laid p pm q qm j (t .next) s (r + 1) v w
-  laid-turn {to} {j} {s} {r} {k} {t} {v} {v₁} {v₂} {w} T P Q e X =
-      record {
-        long = X .long ∙ Q .long ∙ P .long;
-        before = λ x h. X .before x (omega (arith, T .low)) ∙ Q .kept x (λ a b. omega (arith, T .low, T .order)) ∙ P .kept x (λ a b. omega arith);
-        after = λ x h. X .after x (omega (arith, T .goes)) ∙ Q .kept x (λ a b. omega arith) ∙ P .kept x (λ a b. omega (arith, T .order, T .goes));
-        embeds = T .lay (nth w) (shift (t .start) (t .stop) (s + 1) r refl e refl refl (X .embeds))
-            (λ h. X .before j h ∙ Q .kept j (λ a b. omega (arith, T .order)) ∙ P .here h)
-            (λ h. X .after (t .stop) (omega arith) ∙ Q .here h);
-      }
-
-  -- All of what goes inside the arc is taken.
-  pub turned-full : {to j s r k : ℕ} {t : Turn} → Turned p pm q qm to j s r t → Best (letters p q) (nth pm) (nth qm) (t .stop) (t .start) k (s + 1) r → k ≡ t .stop
-  turned-full {to} {j} {s} {r} {k} {t} T B = omega (arith, B .most (t .stop) (T .inner), B .reach .upto)

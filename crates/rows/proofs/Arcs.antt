@@ -22,6 +22,7 @@ pub record Seen (qm : List ℕ) (lo hi best size i : ℕ) : Type 0 where
   pub arc : best < hi → (best < nth qm best) × (size ≡ nth qm best - best)
   pub none : hi ≤ best → size ≡ 0
   pub most : (c : ℕ) → lo ≤ c → c < i → c < nth qm c → nth qm c - c ≤ size
+  pub first : (c : ℕ) → lo ≤ c → c < best → best < hi → c < nth qm c → nth qm c - c < size
 
 module _ {qm : List ℕ} {n : ℕ} (N : Nested (nth qm) n) where
   -- Inside an arc.
@@ -81,6 +82,7 @@ module _ {qm : List ℕ} {n : ℕ} (N : Nested (nth qm) n) where
         arc = λ a. absurd (omega arith);
         none = λ a. refl;
         most = λ c a b d. absurd (omega arith);
+        first = λ c a b d f. absurd (omega arith);
       }
 
   pub seen-base : (lo hi best size i : ℕ) → Seen qm lo hi best size i → i < hi → nth qm i ≤ i → Seen qm lo hi best size (i + 1)
@@ -94,6 +96,7 @@ module _ {qm : List ℕ} {n : ℕ} (N : Nested (nth qm) n) where
         arc = S .arc;
         none = S .none;
         most = most;
+        first = S .first;
       } where
         closed : (c : ℕ) → lo ≤ c → c < i + 1 → nth qm c < i + 1
         closed c p q = elim (ℕ-discrete c i) [ yes e ↦ omega (arith, ap (nth qm) e) | no e ↦ omega (arith, S .closed c p (omega arith)) ]
@@ -104,8 +107,9 @@ module _ {qm : List ℕ} {n : ℕ} (N : Nested (nth qm) n) where
   -- Past an arc from i, where the best is now at least as long.
   pub seen-arc : (lo hi best size i best′ size′ : ℕ) → Seen qm lo hi best size i → i < n → i < nth qm i → nth qm i < hi
       → lo ≤ best′ → best′ ≤ hi → (best′ < hi → (best′ < nth qm best′) × (size′ ≡ nth qm best′ - best′)) → (hi ≤ best′ → size′ ≡ 0)
-      → size ≤ size′ → nth qm i - i ≤ size′ → Seen qm lo hi best′ size′ (nth qm i + 1)
-  seen-arc lo hi best size i best′ size′ S hn b h l u arc none s t =
+      → size ≤ size′ → nth qm i - i ≤ size′
+      → ((c : ℕ) → lo ≤ c → c < best′ → best′ < hi → c < nth qm c → nth qm c - c < size′) → Seen qm lo hi best′ size′ (nth qm i + 1)
+  seen-arc lo hi best size i best′ size′ S hn b h l u arc none s t f =
       record {
         low = omega (arith, S .low);
         high = omega arith;
@@ -115,6 +119,7 @@ module _ {qm : List ℕ} {n : ℕ} (N : Nested (nth qm) n) where
         arc = arc;
         none = none;
         most = most;
+        first = f;
       } where
         closed : (c : ℕ) → lo ≤ c → c < nth qm i + 1 → nth qm c < nth qm i + 1
         closed c p q = elim (decLt c i) [
@@ -129,7 +134,7 @@ module _ {qm : List ℕ} {n : ℕ} (N : Nested (nth qm) n) where
         ]
 
   pub seen-end : (lo hi best size i : ℕ) → Seen qm lo hi best size i → hi ≤ i → Heavy qm lo hi best
-  seen-end lo hi best size i S h = record { low = S .best-low; high = S .best-high; arc = λ a. S .arc a .0; most = most } where
+  seen-end lo hi best size i S h = record { low = S .best-low; high = S .best-high; arc = λ a. S .arc a .0; most = most; first = λ c p q r d. omega (arith, S .first c p q r d, S .arc r) } where
     most : (c : ℕ) → lo ≤ c → c < hi → c < nth qm c → (best < hi) × (nth qm c - c ≤ nth qm best - best)
     most c p q r = go (decLt best hi) where
       go : Dec (best < hi) → (best < hi) × (nth qm c - c ≤ nth qm best - best)
@@ -176,6 +181,18 @@ module _ {qm : List ℕ} {n : ℕ} (N : Nested (nth qm) n) where
 
     pub light-left : (c : ℕ) → lo ≤ c → c < h → c < nth qm c → 2 * (nth qm c - c + 3) ≤ hi - lo + 4
     light-left c a b d = omega (arith, heavy-left .high c a b, H .most c a (omega arith) d, heavy-end, H .arc lt)
+
+-- The first longest arc is one.
+pub heavy-same : {qm : List ℕ} {lo hi a b : ℕ} → Heavy qm lo hi a → Heavy qm lo hi b → a ≡ b
+heavy-same {qm} {lo} {hi} {a} {b} A B = go (decLt a b) (decLt b a) where
+  go : Dec (a < b) → Dec (b < a) → a ≡ b
+  go (yes x) y =
+      let m = B .most a (A .low) (omega (arith, B .high)) (A .arc (omega (arith, B .high))) in
+      absurd (omega (arith, B .first a (A .low) x (m .0) (A .arc (omega (arith, B .high))), A .most b (B .low) (m .0) (B .arc (m .0))))
+  go (no x) (yes y) =
+      let m = A .most b (B .low) (omega (arith, A .high)) (B .arc (omega (arith, A .high))) in
+      absurd (omega (arith, A .first b (B .low) y (m .0) (B .arc (omega (arith, A .high))), B .most a (A .low) (m .0) (A .arc (m .0))))
+  go (no x) (no y) = omega arith
 
 -- 23 rows are room for any arc of a molecule.
 pub room-any : {w size room : ℕ} → size < 4096 → 23 * w ≤ room → Room w size room

@@ -57,12 +57,13 @@ pub record Sealed (qm : List ℕ) (lo hi : ℕ) : Type 0 where
   pub low : (u : ℕ) → lo ≤ u → u < hi → lo ≤ nth qm u
   pub high : (u : ℕ) → lo ≤ u → u < hi → nth qm u < hi
 
--- The left end of a longest arc in Q[lo..hi), or hi where there is none.
+-- The left end of the first longest arc in Q[lo..hi), or hi where there is none.
 pub record Heavy (qm : List ℕ) (lo hi r : ℕ) : Type 0 where
   pub low : lo ≤ r
   pub high : r ≤ hi
   pub arc : r < hi → r < nth qm r
   pub most : (c : ℕ) → lo ≤ c → c < hi → c < nth qm c → (r < hi) × (nth qm c - c ≤ nth qm r - r)
+  pub first : (c : ℕ) → lo ≤ c → c < r → r < hi → c < nth qm c → nth qm c - c < nth qm r - r
 
 -- Room for the inner row of an arc that is `size` long, in rows of w entries: two for each light edge below it, and three.
 pub record Room (w size room : ℕ) : Type 0 where

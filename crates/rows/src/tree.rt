@@ -17,7 +17,7 @@ pub fn mate(qm: &[u16], i: usize) -> usize
     qm[i] as usize
 }
 
-// The left end of the longest arc in lo..hi, or hi if there is none. It looks only at arcs that lie in no other.
+// The left end of the first longest arc in lo..hi, or hi if there is none. It looks only at arcs that lie in no other.
 pub fn heaviest(qm: &[u16], lo: usize, hi: usize) -> usize
     requires { ⌜ Nested (nth (now qm)) (length (now qm)) ⌝ }
     requires { ⌜ (lo ≤ hi) × (hi ≤ length (now qm)) ⌝ }

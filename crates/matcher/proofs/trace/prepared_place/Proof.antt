@@ -1,6 +1,7 @@
 -- `matcher::trace::prepared_place` meets its contract.
 use native.Mathlib.Omega.{arith}
 use Rattle.matcher.proofs.Top.{all-sealed}
+use Rattle.matcher.proofs.Levels.{levels-whole}
 use borrow.Author.Needs.{needs}
 use Rattle.matcher.proofs.trace.prepared_place.Statement.{statement}
 use Rattle.matcher.proofs.trace.prepared_place.Tie as tie
@@ -9,7 +10,7 @@ partners-requires : tie.Need-partners-requires
 partners-requires c κs = search needs
 
 place-requires : tie.Need-place-requires
-place-requires c κs = ((c .before .before .before .before .before .before .before .before .before .before .before .before .before .before .pre) .0, (omega arith, (all-sealed ((c .before .before .before .before .before .before .before .before .before .before .before .before .before .before .pre) .0 .molecule), ((c .before .before .before .before .before .before .before .before .before .before .before .before .before .before .pre) .1 .0, ((c .before .before .before .before .before .before .before .before .before .before .before .before .before .before .pre) .1 .1 .0, (c .before .before .before .before .before .partners) .ensures)))))
+place-requires c κs = ((c .before .before .before .before .before .before .before .before .before .before .before .before .before .before .pre) .0, (omega arith, (all-sealed ((c .before .before .before .before .before .before .before .before .before .before .before .before .before .before .pre) .0 .molecule), ((c .before .before .before .before .before .before .before .before .before .before .before .before .before .before .pre) .1 .0, (levels-whole _ _ _ ((c .before .before .before .before .before .before .before .before .before .before .before .before .before .before .pre) .0 .molecule) ((c .before .before .before .before .before .before .before .before .before .before .before .before .before .before .pre) .0 .short) (omega (arith, (c .before .before .before .before .before .before .before .before .before .before .before .before .before .before .pre) .1 .1 .0)), (c .before .before .before .before .before .partners) .ensures)))))
 
 same-length : tie.Need-same-length
 same-length c = search needs

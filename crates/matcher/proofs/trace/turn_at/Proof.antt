@@ -3,10 +3,17 @@ use Prim.Native.Nat.{_+_, _-_}
 use native.Mathlib.Omega.{arith}
 use borrow.Author.Needs.{needs}
 use Rattle.rows.proofs.Made.{no-box}
-use Rattle.matcher.proofs.Top.{room-whole, window-of}
+use Rattle.rows.proofs.Arcs.{room-any}
+use Rattle.matcher.proofs.Top.{window-low, window-high, window-of, window-best}
 use Rattle.matcher.proofs.Turning.{turned}
 use Rattle.matcher.proofs.trace.turn_at.Statement.{statement}
 use Rattle.matcher.proofs.trace.turn_at.Tie as tie
+
+-- `matcher::trace::turn_at` meets its contract.
+
+-- `matcher::trace::turn_at` meets its contract.
+
+-- `matcher::trace::turn_at` meets its contract.
 
 add-smaller : tie.Need-add-smaller
 add-smaller c = search needs
@@ -21,7 +28,7 @@ smaller-requires : tie.Need-smaller-requires
 smaller-requires c κs = search needs
 
 inner-row-requires : tie.Need-inner-row-requires
-inner-row-requires c κs = (window-of _ ((c .before .before .before .before .before .before .before .before .args) .s) ((c .before .before .before .before .before .before .before .before .args) .r) ((c .before .before .before .before .before .before .before .before .pre) .0) ((c .before .before .before .before .before .before .before .before .pre) .1 .0) ((c .before .smaller) .ensures) ((c .before .before .before .before .before .before .before .before .pre) .1 .1 .0 .0) ((c .before .before .before .before .before .before .before .before .pre) .1 .1 .0 .1 .0) ((c .before .before .before .before .before .before .before .before .pre) .1 .1 .0 .1 .1), ((((c .before .before .before .before .before .before .before .before .pre) .1 .1 .0 .0), (((c .before .before .before .before .before .before .before .before .pre) .1 .1 .0 .1 .0), ((c .before .before .before .before .before .before .before .before .pre) .1 .1 .0 .1 .1))), (room-whole _ _ _ _ _ (((c .before .before .before .before .before .before .before .before .pre) .0) .short) ((c .before .before .before .before .before .before .before .before .pre) .1 .1 .0 .1 .0) ((c .before .before .before .before .before .before .before .before .pre) .1 .1 .1 .0), ((c .before .before .before .before .before .before .before .before .pre) .1 .1 .1 .1, no-box _))))
+inner-row-requires c κs = (window-of (c .before .smaller .result) (c .before .before .before .before .before .before .before .before .args .s) (c .before .before .before .before .before .before .before .before .args .r) (c .before .before .before .before .before .before .before .before .pre .0) (c .before .before .before .before .before .before .before .before .pre .1 .0) (c .before .smaller .ensures) (c .before .before .before .before .before .before .before .before .pre .1 .1 .0 .0) (c .before .before .before .before .before .before .before .before .pre .1 .1 .0 .1 .0) (c .before .before .before .before .before .before .before .before .pre .1 .1 .0 .1 .1), (c .before .before .before .before .before .before .before .before .pre .1 .1 .0, (room-any (omega (arith, c .before .before .before .before .before .before .before .before .pre .0 .short, c .before .before .before .before .before .before .before .before .pre .1 .1 .0)) (c .before .before .before .before .before .before .before .before .pre .1 .1 .1 .0), (c .before .before .before .before .before .before .before .before .pre .1 .1 .1 .1, no-box _))))
 
 shared-slice-read-choose-turn : tie.Need-shared-slice-read-choose-turn
 shared-slice-read-choose-turn c = search needs
@@ -57,7 +64,7 @@ same-length : tie.Need-same-length
 same-length c = search needs
 
 returns : tie.Need-returns
-returns c = turned _ ((c .before .before .before .before .before .before .before .before .before .before .before .before .before .before .before .before .args) .s) ((c .before .before .before .before .before .before .before .before .before .before .before .before .before .before .before .before .args) .r) ((c .before .before .before .before .before .before .before .before .before .before .before .before .before .before .before .before .pre) .0) ((c .before .before .before .before .before .before .before .before .before .before .before .before .before .before .before .before .pre) .1 .0) ((c .before .before .before .before .before .before .before .before .before .smaller) .ensures) ((c .before .before .before .before .before .before .before .before .before .before .before .before .before .before .before .before .pre) .1 .1 .0 .0) ((c .before .before .before .before .before .before .before .before .before .before .before .before .before .before .before .before .pre) .1 .1 .0 .1 .0) ((c .before .before .before .before .before .before .before .before .before .before .before .before .before .before .before .before .pre) .1 .1 .0 .1 .1) ((c .before .before .before .before .before .before .before .inner-row) .ensures) _ ((c .choose-turn) .ensures)
+returns c = turned (c .before .before .before .before .before .before .before .before .before .smaller .result) (c .before .before .before .before .before .before .before .before .before .before .before .before .before .before .before .before .args .s) (c .before .before .before .before .before .before .before .before .before .before .before .before .before .before .before .before .args .r) (c .before .before .before .before .before .before .before .before .before .before .before .before .before .before .before .before .pre .0) (window-low (c .before .before .before .before .before .before .before .before .before .smaller .result) (c .before .before .before .before .before .before .before .before .before .before .before .before .before .before .before .before .args .s) (c .before .before .before .before .before .before .before .before .before .before .before .before .before .before .before .before .args .r) (c .before .before .before .before .before .before .before .before .before .before .before .before .before .before .before .before .pre .0) (c .before .before .before .before .before .before .before .before .before .before .before .before .before .before .before .before .pre .1 .0) (c .before .before .before .before .before .before .before .before .before .smaller .ensures) (c .before .before .before .before .before .before .before .before .before .before .before .before .before .before .before .before .pre .1 .1 .0 .0) (c .before .before .before .before .before .before .before .before .before .before .before .before .before .before .before .before .pre .1 .1 .0 .1 .0) (c .before .before .before .before .before .before .before .before .before .before .before .before .before .before .before .before .pre .1 .1 .0 .1 .1)) (window-high (c .before .before .before .before .before .before .before .before .before .smaller .result) (c .before .before .before .before .before .before .before .before .before .before .before .before .before .before .before .before .args .s) (c .before .before .before .before .before .before .before .before .before .before .before .before .before .before .before .before .args .r) (c .before .before .before .before .before .before .before .before .before .before .before .before .before .before .before .before .pre .0) (c .before .before .before .before .before .before .before .before .before .before .before .before .before .before .before .before .pre .1 .0) (c .before .before .before .before .before .before .before .before .before .smaller .ensures) (c .before .before .before .before .before .before .before .before .before .before .before .before .before .before .before .before .pre .1 .1 .0 .0) (c .before .before .before .before .before .before .before .before .before .before .before .before .before .before .before .before .pre .1 .1 .0 .1 .0) (c .before .before .before .before .before .before .before .before .before .before .before .before .before .before .before .before .pre .1 .1 .0 .1 .1)) (c .before .before .before .before .before .before .before .before .before .before .before .before .before .before .before .before .pre .1 .1 .0 .0) (c .before .before .before .before .before .before .before .before .before .before .before .before .before .before .before .before .pre .1 .1 .0 .1 .0) (c .before .before .before .before .before .before .before .before .before .before .before .before .before .before .before .before .pre .1 .1 .0 .1 .1) (c .before .before .before .before .before .before .before .inner-row .ensures) (window-best (c .before .before .before .before .before .before .before .before .before .smaller .result) (c .before .before .before .before .before .before .before .before .before .before .before .before .before .before .before .before .args .s) (c .before .before .before .before .before .before .before .before .before .before .before .before .before .before .before .before .args .r) (c .before .before .before .before .before .before .before .before .before .before .before .before .before .before .before .before .pre .0) (c .before .before .before .before .before .before .before .before .before .before .before .before .before .before .before .before .pre .1 .0) (c .before .before .before .before .before .before .before .before .before .smaller .ensures) (c .before .before .before .before .before .before .before .before .before .before .before .before .before .before .before .before .pre .1 .1 .0 .0) (c .before .before .before .before .before .before .before .before .before .before .before .before .before .before .before .before .pre .1 .1 .0 .1 .0) (c .before .before .before .before .before .before .before .before .before .before .before .before .before .before .before .before .pre .1 .1 .0 .1 .1) (c .before .before .before .before .before .before .before .inner-row .ensures)) _ (c .choose-turn .ensures)
 
 pub turn-at-spec : {M : Type 1} → statement M
 turn-at-spec =

@@ -16,13 +16,13 @@ module _ {qm : List ℕ} {n : ℕ} (N : Nested (nth qm) n) {lo hi best size i : 
   new-best k best′ size′ i′ e l s a b d =
       rw (a, b, d, e)
       (seen-arc N lo hi best size i i (nth qm i - i) S (omega arith) (omega arith) (Z .high i (S .low) h) (S .low) (omega arith)
-      (λ x. (omega arith, refl)) (λ x. absurd (omega arith)) (omega arith) (omega arith))
+      (λ x. (omega arith, refl)) (λ x. absurd (omega arith)) (omega arith) (omega arith) (λ c p q r d. omega (arith, S .most c p q d)))
 
   old-best : (k best′ size′ i′ : ℕ) → k ≡ nth qm i → i < k → k - i ≤ size → best′ ≡ best → size′ ≡ size → i′ ≡ k → Seen qm lo hi best′ size′ (i′ + 1)
   old-best k best′ size′ i′ e l s a b d =
       rw (a, b, d, e)
       (seen-arc N lo hi best size i best size S (omega arith) (omega arith) (Z .high i (S .low) h) (S .best-low) (S .best-high)
-      (S .arc) (S .none) (omega arith) (omega arith))
+      (S .arc) (S .none) (omega arith) (omega arith) (S .first))
 
   no-arc : (k best′ size′ i′ : ℕ) → k ≡ nth qm i → k ≤ i → best′ ≡ best → size′ ≡ size → i′ ≡ i → Seen qm lo hi best′ size′ (i′ + 1)
   no-arc k best′ size′ i′ e l a b d = rw (a, b, d) (seen-base N lo hi best size i S h (omega arith))

@@ -1,0 +1,1366 @@
+-- `matcher::trace::place`, `enter`, `past`, `along` and `descend`, which call each other, meet their contracts.
+use mathlib.Core.Path.{_≡_, refl, sym, ap, _∙_}
+use mathlib.Core.Logic.{⊎-elim}
+use Prim.Native.Nat.{ℕ, _+_, _-_, _*_, _<_}
+use native.Mathlib.Omega.{arith}
+use lib.ListN.{length}
+use Rattle.embedding.proofs.Recurrence.{rest}
+use Rattle.rows.proofs.Parts.{part-length, back-length}
+use Rattle.strand.specs.Vocabulary.{nth}
+use Rattle.rows.proofs.Arcs.{inner-sealed, split-left, heavy-end}
+use Rattle.matcher.specs.Trace.{Laid}
+use Rattle.matcher.proofs.Top.{narrow, best-all, best-end, Walked, walked-none, walked-up, walked-in, walked-step, walked-unit}
+use Rattle.matcher.proofs.Turning.{laid-none, laid-join, laid-wide, laid-unit}
+use Rattle.matcher.proofs.Descent.{but-end, but-turn, but-all, but-box, but-taken, but-rest, but-but, but-to, but-empty, but-filled, but-after, turned-part, kept-none, kept-under, kept-back, kept-part, nested-mates, reach-to, heavy-before, heavy-on, heavy-in, first-end, first-split, first-behind}
+use Rattle.matcher.proofs.Levels.{below-next, path-at, box-none, box-size, levels-least, levels-at, levels-half, arcs-least, levels-arc, levels-all, levels-behind, levels-before}
+use borrow.Fn.Kinds.{In}
+use borrow.Fn.PlainCycle.{Measures, is, falls, and}
+use Rattle.matcher.proofs.trace.along.Reads as along
+use Rattle.matcher.proofs.trace.along.Kinds as along-kinds
+use Rattle.matcher.proofs.trace.+along+descend+enter+past+place.Lts-along as along-lts
+use Rattle.matcher.proofs.trace.descend.Reads as descend
+use Rattle.matcher.proofs.trace.descend.Kinds as descend-kinds
+use Rattle.matcher.proofs.trace.+along+descend+enter+past+place.Lts-descend as descend-lts
+use Rattle.matcher.proofs.trace.enter.Reads as enter
+use Rattle.matcher.proofs.trace.enter.Kinds as enter-kinds
+use Rattle.matcher.proofs.trace.+along+descend+enter+past+place.Lts-enter as enter-lts
+use Rattle.matcher.proofs.trace.past.Reads as past
+use Rattle.matcher.proofs.trace.past.Kinds as past-kinds
+use Rattle.matcher.proofs.trace.+along+descend+enter+past+place.Lts-past as past-lts
+use Rattle.matcher.proofs.trace.place.Reads as place
+use Rattle.matcher.proofs.trace.place.Kinds as place-kinds
+use Rattle.matcher.proofs.trace.+along+descend+enter+past+place.Lts-place as place-lts
+use Rattle.matcher.proofs.trace.choose_turn.Reads as choose-turn-reads
+use Rattle.matcher.proofs.trace.keep.Reads as keep-reads
+use Rattle.matcher.proofs.trace.middle.Reads as middle-reads
+use Rattle.matcher.proofs.trace.put.Reads as put-reads
+use Rattle.matcher.proofs.trace.turn_at.Reads as turn-at-reads
+use Rattle.rows.proofs.row.unit.Reads as unit-reads
+use Rattle.rows.proofs.tree.heaviest.Reads as heaviest-reads
+use Rattle.rows.proofs.tree.mate.Reads as mate-reads
+use Rattle.matcher.proofs.trace.+along+descend+enter+past+place.{statement}
+use Rattle.matcher.proofs.trace.+along+descend+enter+past+place.Tie.{close}
+
+abbrev μ-along : Measures 7 along-kinds.ps ℕ
+μ-along κs a = 8192 * (a .1 .1 .1 .1 .1 .1 .1 .0 - a .1 .1 .1 .1 .1 .1 .0) + 2 + (a .1 .1 .1 .1 .1 .1 .1 .1 .0 - a .1 .1 .1 .1 .1 .1 .0)
+
+abbrev μ-descend : Measures 7 descend-kinds.ps ℕ
+μ-descend κs a = 8192 * (a .1 .1 .1 .1 .1 .1 .1 .0 - a .1 .1 .1 .1 .1 .1 .0) + 4100
+
+abbrev μ-enter : Measures 7 enter-kinds.ps ℕ
+μ-enter κs a = 8192 * (a .1 .1 .1 .1 .1 .1 .1 .0 + 1 - a .1 .1 .1 .1 .1 .1 .0)
+
+abbrev μ-past : Measures 7 past-kinds.ps ℕ
+μ-past κs a = 8192 * (a .1 .1 .1 .1 .1 .1 .1 .0 - a .1 .1 .1 .1 .1 .1 .0) + 1
+
+abbrev μ-place : Measures 7 place-kinds.ps ℕ
+μ-place κs a = 8192 * (a .1 .1 .1 .1 .1 .1 .1 .0 - a .1 .1 .1 .1 .1 .1 .0)
+
+abbrev along-at : ℕ → In 7 along-kinds.ps
+along-at t = and 7 along-kinds.ps (is 7 along-kinds.ps μ-along t) along.Pre
+
+abbrev along-below : ℕ → In 7 along-kinds.ps
+along-below t = and 7 along-kinds.ps (falls 7 along-kinds.ps _<_ μ-along t) along.Pre
+
+abbrev descend-at : ℕ → In 7 descend-kinds.ps
+descend-at t = and 7 descend-kinds.ps (is 7 descend-kinds.ps μ-descend t) descend.Pre
+
+abbrev descend-below : ℕ → In 7 descend-kinds.ps
+descend-below t = and 7 descend-kinds.ps (falls 7 descend-kinds.ps _<_ μ-descend t) descend.Pre
+
+abbrev enter-at : ℕ → In 7 enter-kinds.ps
+enter-at t = and 7 enter-kinds.ps (is 7 enter-kinds.ps μ-enter t) enter.Pre
+
+abbrev enter-below : ℕ → In 7 enter-kinds.ps
+enter-below t = and 7 enter-kinds.ps (falls 7 enter-kinds.ps _<_ μ-enter t) enter.Pre
+
+abbrev past-at : ℕ → In 7 past-kinds.ps
+past-at t = and 7 past-kinds.ps (is 7 past-kinds.ps μ-past t) past.Pre
+
+abbrev past-below : ℕ → In 7 past-kinds.ps
+past-below t = and 7 past-kinds.ps (falls 7 past-kinds.ps _<_ μ-past t) past.Pre
+
+abbrev place-at : ℕ → In 7 place-kinds.ps
+place-at t = and 7 place-kinds.ps (is 7 place-kinds.ps μ-place t) place.Pre
+
+abbrev place-below : ℕ → In 7 place-kinds.ps
+place-below t = and 7 place-kinds.ps (falls 7 place-kinds.ps _<_ μ-place t) place.Pre
+
+along-add-w : (t : ℕ) → along-lts.Need-add-w (
+  middle-reads.Asked,
+  middle-reads.Learnt,
+  past-below t,
+  past.Post,
+  mate-reads.Asked,
+  mate-reads.Learnt,
+  keep-reads.Asked,
+  keep-reads.Learnt,
+  along-below t,
+  along.Post,
+  descend-below t,
+  descend.Post,
+) (along-at t) along.Post
+along-add-w t c = omega (arith, (c .before .before .before .before .before .before .before .pre) .1 .0 .window .small)
+
+along-sub-middle : (t : ℕ) → along-lts.Need-sub-middle (
+  middle-reads.Asked,
+  middle-reads.Learnt,
+  past-below t,
+  past.Post,
+  mate-reads.Asked,
+  mate-reads.Learnt,
+  keep-reads.Asked,
+  keep-reads.Learnt,
+  along-below t,
+  along.Post,
+  descend-below t,
+  descend.Post,
+) (along-at t) along.Post
+along-sub-middle t c = omega (arith, (c .before .before .before .before .before .before .before .pre) .1 .1 .0)
+
+along-middle-requires : (t : ℕ) → along-lts.Need-middle-requires (
+  middle-reads.Asked,
+  middle-reads.Learnt,
+  past-below t,
+  past.Post,
+  mate-reads.Asked,
+  mate-reads.Learnt,
+  keep-reads.Asked,
+  keep-reads.Learnt,
+  along-below t,
+  along.Post,
+  descend-below t,
+  descend.Post,
+) (along-at t) along.Post
+along-middle-requires t c κs = (nested-mates ((c .before .before .before .before .before .before .before .pre) .1 .0), (((c .before .before .before .before .before .before .before .pre) .1 .1 .0 .1 .0, (omega (arith, (c .before .before .before .before .before .before .before .pre) .1 .0 .equal, (c .before .before .before .before .before .before .before .pre) .1 .1 .0), (c .before .before .before .before .before .before .before .pre) .1 .1 .1 .1 .0 .1)), (omega (arith, (c .before .before .before .before .before .before .before .pre) .1 .0 .window .ends, (c .before .before .before .before .before .before .before .pre) .1 .0 .window .small), omega (arith, (c .before .before .before .before .before .before .before .pre) .1 .0 .equal, (c .before .before .before .before .before .before .before .pre) .1 .0 .short))))
+
+along-past-requires : (t : ℕ) → along-lts.Need-past-requires (
+  middle-reads.Asked,
+  middle-reads.Learnt,
+  past-below t,
+  past.Post,
+  mate-reads.Asked,
+  mate-reads.Learnt,
+  keep-reads.Asked,
+  keep-reads.Learnt,
+  along-below t,
+  along.Post,
+  descend-below t,
+  descend.Post,
+) (along-at t) along.Post
+along-past-requires t c κs = (omega (arith, (c .before .before .before .before .before .before .before .before .before .before .before .pre) .0), ((c .before .before .before .before .before .before .before .before .before .before .before .pre) .1 .0, ((c .before .before .before .before .before .before .before .before .before .before .before .pre) .1 .1 .0, ((c .before .before .before .before .before .before .before .before .before .before .before .pre) .1 .1 .1 .0, ((c .before .before .before .before .before .before .before .before .before .before .before .pre) .1 .1 .1 .1 .0, ((c .before .before .before .before .before .before .before .before .before .before .before .pre) .1 .1 .1 .1 .1 .0, ((c .before .before .before .before .before .before .before .before .before .before .before .pre) .1 .1 .1 .1 .1 .1 .0, ((c .before .before .before .before .before .before .before .before .before .before .before .pre) .1 .1 .1 .1 .1 .1 .1 .0, ((c .before .before .before .before .before .before .before .before .before .before .before .pre) .1 .1 .1 .1 .1 .1 .1 .1 .0, (c .before .before .before .before .before .before .before .before .before .before .before .pre) .1 .1 .1 .1 .1 .1 .1 .1 .1)))))))))
+
+along-same-length : (t : ℕ) → along-lts.Need-same-length (
+  middle-reads.Asked,
+  middle-reads.Learnt,
+  past-below t,
+  past.Post,
+  mate-reads.Asked,
+  mate-reads.Learnt,
+  keep-reads.Asked,
+  keep-reads.Learnt,
+  along-below t,
+  along.Post,
+  descend-below t,
+  descend.Post,
+) (along-at t) along.Post
+along-same-length t c = (c .before .before .before .before .past) .kept .1 .1 .1 .1 .1 .1 .1 .1 .1 .0
+
+along-same-length-2 : (t : ℕ) → along-lts.Need-same-length-2 (
+  middle-reads.Asked,
+  middle-reads.Learnt,
+  past-below t,
+  past.Post,
+  mate-reads.Asked,
+  mate-reads.Learnt,
+  keep-reads.Asked,
+  keep-reads.Learnt,
+  along-below t,
+  along.Post,
+  descend-below t,
+  descend.Post,
+) (along-at t) along.Post
+along-same-length-2 t c = (c .before .before .before .before .past) .kept .1 .1 .1 .1 .1 .1 .1 .1 .1 .1 .0
+
+along-returns : (t : ℕ) → along-lts.Need-returns (
+  middle-reads.Asked,
+  middle-reads.Learnt,
+  past-below t,
+  past.Post,
+  mate-reads.Asked,
+  mate-reads.Learnt,
+  keep-reads.Asked,
+  keep-reads.Learnt,
+  along-below t,
+  along.Post,
+  descend-below t,
+  descend.Post,
+) (along-at t) along.Post
+along-returns t c = (c .before .before .before .before .past) .ensures
+
+along-mate-requires : (t : ℕ) → along-lts.Need-mate-requires (
+  middle-reads.Asked,
+  middle-reads.Learnt,
+  past-below t,
+  past.Post,
+  mate-reads.Asked,
+  mate-reads.Learnt,
+  keep-reads.Asked,
+  keep-reads.Learnt,
+  along-below t,
+  along.Post,
+  descend-below t,
+  descend.Post,
+) (along-at t) along.Post
+along-mate-requires t c κs = omega (arith, (c .before .before .before .before .before .before .before .before .before .pre) .1 .0 .equal, (c .before .middle) .ensures .arc, (c .before .middle) .ensures .high, (c .before .before .before .before .before .before .before .before .before .pre) .1 .0 .molecule .inside ((c .before .before .before .before .before .before .before .before .before .args) .s) (omega (arith, (c .before .before .before .before .before .before .before .before .before .pre) .1 .1 .0)))
+
+along-keep-requires : (t : ℕ) → along-lts.Need-keep-requires (
+  middle-reads.Asked,
+  middle-reads.Learnt,
+  past-below t,
+  past.Post,
+  mate-reads.Asked,
+  mate-reads.Learnt,
+  keep-reads.Asked,
+  keep-reads.Learnt,
+  along-below t,
+  along.Post,
+  descend-below t,
+  descend.Post,
+) (along-at t) along.Post
+along-keep-requires t c κs = ((c .before .before .before .before .before .before .before .before .before .before .before .pre) .1 .0, ((c .before .before .before .before .before .before .before .before .before .before .before .pre) .1 .1 .1 .0 .closed, ((omega (arith, (c .before .mate) .ensures, (c .before .before .before .middle) .ensures .arc), (omega (arith, (c .before .mate) .ensures, (c .before .before .before .middle) .ensures .arc, (c .before .before .before .middle) .ensures .high, (c .before .before .before .before .before .before .before .before .before .before .before .pre) .1 .0 .molecule .inside ((c .before .before .before .before .before .before .before .before .before .before .before .args) .s) (omega (arith, (c .before .before .before .before .before .before .before .before .before .before .before .pre) .1 .1 .0))), sym ((c .before .mate) .ensures))), ((c .before .before .before .before .before .before .before .before .before .before .before .pre) .1 .1 .1 .1 .1 .1 .0, (levels-least ((c .before .before .before .before .before .before .before .before .before .before .before .pre) .1 .1 .1 .1 .1 .1 .1 .1 .0), (c .before .before .before .before .before .before .before .before .before .before .before .pre) .1 .1 .1 .1 .1 .1 .1 .1 .1)))))
+
+along-mul-part : (t : ℕ) → along-lts.Need-mul-part (
+  middle-reads.Asked,
+  middle-reads.Learnt,
+  past-below t,
+  past.Post,
+  mate-reads.Asked,
+  mate-reads.Learnt,
+  keep-reads.Asked,
+  keep-reads.Learnt,
+  along-below t,
+  along.Post,
+  descend-below t,
+  descend.Post,
+) (along-at t) along.Post
+along-mul-part t c = omega (arith, levels-least ((c .before .before .before .before .before .before .before .before .before .before .before .before .before .before .pre) .1 .1 .1 .1 .1 .1 .1 .1 .0), (c .before .before .keep) .kept .1 .1 .1 .1 .1 .1 .1 .1 .1 .0, (c .before .before .before .before .before .before .before .before .before .before .before .before .before .before .pre) .1 .0 .window .small)
+
+along-sub-part : (t : ℕ) → along-lts.Need-sub-part (
+  middle-reads.Asked,
+  middle-reads.Learnt,
+  past-below t,
+  past.Post,
+  mate-reads.Asked,
+  mate-reads.Learnt,
+  keep-reads.Asked,
+  keep-reads.Learnt,
+  along-below t,
+  along.Post,
+  descend-below t,
+  descend.Post,
+) (along-at t) along.Post
+along-sub-part t c = omega (arith, levels-least ((c .before .before .before .before .before .before .before .before .before .before .before .before .before .before .pre) .1 .1 .1 .1 .1 .1 .1 .1 .0), (c .before .before .keep) .kept .1 .1 .1 .1 .1 .1 .1 .1 .1 .0, (c .before .before .before .before .before .before .before .before .before .before .before .before .before .before .pre) .1 .0 .window .small)
+
+along-part-part-start : (t : ℕ) → along-lts.Need-part-part-start (
+  middle-reads.Asked,
+  middle-reads.Learnt,
+  past-below t,
+  past.Post,
+  mate-reads.Asked,
+  mate-reads.Learnt,
+  keep-reads.Asked,
+  keep-reads.Learnt,
+  along-below t,
+  along.Post,
+  descend-below t,
+  descend.Post,
+) (along-at t) along.Post
+along-part-part-start t c = omega (arith, levels-least ((c .before .before .before .before .before .before .before .before .before .before .before .before .before .before .pre) .1 .1 .1 .1 .1 .1 .1 .1 .0), (c .before .before .keep) .kept .1 .1 .1 .1 .1 .1 .1 .1 .1 .0, (c .before .before .before .before .before .before .before .before .before .before .before .before .before .before .pre) .1 .0 .window .small)
+
+along-part-part-end : (t : ℕ) → along-lts.Need-part-part-end (
+  middle-reads.Asked,
+  middle-reads.Learnt,
+  past-below t,
+  past.Post,
+  mate-reads.Asked,
+  mate-reads.Learnt,
+  keep-reads.Asked,
+  keep-reads.Learnt,
+  along-below t,
+  along.Post,
+  descend-below t,
+  descend.Post,
+) (along-at t) along.Post
+along-part-part-end t c = omega (arith, levels-least ((c .before .before .before .before .before .before .before .before .before .before .before .before .before .before .pre) .1 .1 .1 .1 .1 .1 .1 .1 .0), (c .before .before .keep) .kept .1 .1 .1 .1 .1 .1 .1 .1 .1 .0, (c .before .before .before .before .before .before .before .before .before .before .before .before .before .before .pre) .1 .0 .window .small)
+
+along-along-requires : (t : ℕ) → along-lts.Need-along-requires (
+  middle-reads.Asked,
+  middle-reads.Learnt,
+  past-below t,
+  past.Post,
+  mate-reads.Asked,
+  mate-reads.Learnt,
+  keep-reads.Asked,
+  keep-reads.Learnt,
+  along-below t,
+  along.Post,
+  descend-below t,
+  descend.Post,
+) (along-at t) along.Post
+along-along-requires t c κs = (omega (arith, (c .before .before .before .before .before .before .before .before .before .before .before .before .before .before .before .before .pre) .0, (c .before .before .before .before .before .before .before .before .middle) .ensures .before ((c .before .before .before .before .before .before .before .if1) .left), (c .before .before .before .before .before .before .before .if1) .left), ((c .before .before .before .before .before .before .before .before .before .before .before .before .before .before .before .before .pre) .1 .0, ((c .before .before .before .before .before .before .before .before .before .before .before .before .before .before .before .before .pre) .1 .1 .0, ((c .before .before .before .before .before .before .before .before .before .before .before .before .before .before .before .before .pre) .1 .1 .1 .0, ((c .before .before .before .before .before .before .before .before .before .before .before .before .before .before .before .before .pre) .1 .1 .1 .1 .0, ((omega (arith, (c .before .before .before .before .before .before .before .before .middle) .ensures .arc, (c .before .before .before .before .before .before .before .before .middle) .ensures .high, (c .before .before .before .before .before .before .before .before .before .before .before .before .before .before .before .before .pre) .1 .0 .molecule .inside ((c .before .before .before .before .before .before .before .before .before .before .before .before .before .before .before .before .args) .s) (omega (arith, (c .before .before .before .before .before .before .before .before .before .before .before .before .before .before .before .before .pre) .1 .1 .0))), λ o. (c .before .before .before .before .before .before .before .before .middle) .ensures .path), (kept-part ((c .before .before .before .before .before .before .before .before .before .before .before .before .before .before .before .before .pre) .1 .0 .window .ends) (sym ((c .before .before .before .before .before .before .mate) .ensures)) (omega (arith, levels-least ((c .before .before .before .before .before .before .before .before .before .before .before .before .before .before .before .before .pre) .1 .1 .1 .1 .1 .1 .1 .1 .0), (c .before .before .before .before .keep) .kept .1 .1 .1 .1 .1 .1 .1 .1 .1 .0)) ((c .before .before .before .before .keep) .ensures), ((c .before .before .before .before .before .before .before .before .before .before .before .before .before .before .before .before .pre) .1 .1 .1 .1 .1 .1 .1 .0, (levels-half (nth ((c .before .before .before .before .before .before .before .before .before .before .before .before .before .before .before .before .args) .qm .now) ((c .before .before .before .before .before .before .before .before .before .before .before .before .before .before .before .before .args) .stop) - (c .before .before .before .before .before .before .before .before .before .before .before .before .before .before .before .before .args) .stop) (nth ((c .before .before .before .before .before .before .before .before .before .before .before .before .before .before .before .before .args) .qm .now) ((c .before .before .before .before .before .before .before .before .middle) .result) - (c .before .before .before .before .before .before .before .before .middle) .result) _ ((c .before .before .before .before .before .before .before .before .middle) .ensures .half ((c .before .before .before .before .before .before .before .if1) .left)) (omega (arith, (c .before .before .before .before .before .before .before .before .middle) .ensures .high, (c .before .before .before .before .before .before .before .before .middle) .ensures .arc, (c .before .before .before .before .before .before .before .before .before .before .before .before .before .before .before .before .pre) .1 .1 .1 .1 .0 .0 .high ((c .before .before .before .before .before .before .before .before .before .before .before .before .before .before .before .before .args) .s) (omega arith) ((c .before .before .before .before .before .before .before .before .before .before .before .before .before .before .before .before .pre) .1 .1 .0 .1 .0), (c .before .before .before .before .before .before .before .if1) .left)) (omega (arith, part-length (length ((c .before .before .before .before .before .before .before .before .before .before .before .before .before .before .before .before .args) .p .now) + 1) ((c .before .before .before .before .keep) .last .1 .1 .1 .1 .1 .1 .1 .1 .1 .0) (omega (arith, levels-least ((c .before .before .before .before .before .before .before .before .before .before .before .before .before .before .before .before .pre) .1 .1 .1 .1 .1 .1 .1 .1 .0), (c .before .before .before .before .keep) .kept .1 .1 .1 .1 .1 .1 .1 .1 .1 .0)), (c .before .before .before .before .keep) .kept .1 .1 .1 .1 .1 .1 .1 .1 .1 .0)) ((c .before .before .before .before .before .before .before .before .before .before .before .before .before .before .before .before .pre) .1 .1 .1 .1 .1 .1 .1 .1 .0), (c .before .before .before .before .before .before .before .before .before .before .before .before .before .before .before .before .pre) .1 .1 .1 .1 .1 .1 .1 .1 .1)))))))))
+
+along-add-descend : (t : ℕ) → along-lts.Need-add-descend (
+  middle-reads.Asked,
+  middle-reads.Learnt,
+  past-below t,
+  past.Post,
+  mate-reads.Asked,
+  mate-reads.Learnt,
+  keep-reads.Asked,
+  keep-reads.Learnt,
+  along-below t,
+  along.Post,
+  descend-below t,
+  descend.Post,
+) (along-at t) along.Post
+along-add-descend t c = omega (arith, (c .before .before .before .before .before .before .before .before .before .before .before .before .before .middle) .ensures .arc, (c .before .before .before .before .before .before .before .before .before .before .before .before .before .middle) .ensures .high, (c .before .before .before .before .before .before .before .before .before .before .before .before .before .before .before .before .before .before .before .before .before .pre) .1 .0 .molecule .inside ((c .before .before .before .before .before .before .before .before .before .before .before .before .before .before .before .before .before .before .before .before .before .args) .s) (omega (arith, (c .before .before .before .before .before .before .before .before .before .before .before .before .before .before .before .before .before .before .before .before .before .pre) .1 .1 .0)), (c .before .before .before .before .before .before .before .before .before .before .before .before .before .before .before .before .before .before .before .before .before .pre) .1 .0 .short)
+
+along-descend-requires : (t : ℕ) → along-lts.Need-descend-requires (
+  middle-reads.Asked,
+  middle-reads.Learnt,
+  past-below t,
+  past.Post,
+  mate-reads.Asked,
+  mate-reads.Learnt,
+  keep-reads.Asked,
+  keep-reads.Learnt,
+  along-below t,
+  along.Post,
+  descend-below t,
+  descend.Post,
+) (along-at t) along.Post
+along-descend-requires t c κs = (omega (arith, (c .before .before .before .before .before .before .before .before .before .before .before .before .before .before .before .before .before .before .before .before .before .before .before .pre) .0, (c .before .before .before .before .before .before .before .before .before .before .before .before .before .mate) .ensures, (c .before .before .before .before .before .before .before .before .before .before .before .before .before .before .before .middle) .ensures .high, (c .before .before .before .before .before .before .before .before .before .before .before .before .before .before .before .middle) .ensures .arc, (c .before .before .before .before .before .before .before .before .before .before .before .before .before .before .if1) .left, (c .before .before .before .before .before .before .before .before .before .before .before .before .before .before .before .before .before .before .before .before .before .before .before .pre) .1 .1 .1 .1 .0 .0 .high ((c .before .before .before .before .before .before .before .before .before .before .before .before .before .before .before .before .before .before .before .before .before .before .before .args) .s) (omega arith) ((c .before .before .before .before .before .before .before .before .before .before .before .before .before .before .before .before .before .before .before .before .before .before .before .pre) .1 .1 .0 .1 .0)), (narrow _ _ ((c .before .before .before .before .before .before .before .before .before .before .before .before .before .before .before .before .before .before .before .before .before .before .before .pre) .1 .0) ((c .before .before .before .before .before .before .along) .ensures .inner .from) (omega (arith, (c .before .before .before .before .before .before .along) .ensures .high, (c .before .before .before .before .before .before .before .before .before .before .before .before .before .before .before .before .before .before .before .before .before .before .before .pre) .1 .0 .window .ends)), ((omega (arith, (c .before .before .before .before .before .before .before .before .before .before .before .before .before .mate) .ensures, (c .before .before .before .before .before .before .before .before .before .before .before .before .before .before .before .middle) .ensures .arc), omega (arith, (c .before .before .before .before .before .before .before .before .before .before .before .before .before .mate) .ensures, (c .before .before .before .before .before .before .before .before .before .before .before .before .before .before .before .middle) .ensures .arc, (c .before .before .before .before .before .before .before .before .before .before .before .before .before .before .before .middle) .ensures .high, (c .before .before .before .before .before .before .before .before .before .before .before .before .before .before .before .before .before .before .before .before .before .before .before .pre) .1 .0 .molecule .inside ((c .before .before .before .before .before .before .before .before .before .before .before .before .before .before .before .before .before .before .before .before .before .before .before .args) .s) (omega (arith, (c .before .before .before .before .before .before .before .before .before .before .before .before .before .before .before .before .before .before .before .before .before .before .before .pre) .1 .1 .0)))), (reach-to _ ((c .before .before .before .before .before .before .before .before .before .before .before .before .before .mate) .ensures) ((c .before .before .before .before .before .before .along) .ensures .inner), (inner-sealed ((c .before .before .before .before .before .before .before .before .before .before .before .before .before .before .before .before .before .before .before .before .before .before .before .pre) .1 .0 .molecule) _ _ (omega (arith, (c .before .before .before .before .before .before .before .before .before .before .before .before .before .mate) .ensures, (c .before .before .before .before .before .before .before .before .before .before .before .before .before .before .before .middle) .ensures .arc)) (omega (arith, (c .before .before .before .before .before .before .before .before .before .before .before .before .before .mate) .ensures, (c .before .before .before .before .before .before .before .before .before .before .before .before .before .before .before .middle) .ensures .arc, (c .before .before .before .before .before .before .before .before .before .before .before .before .before .before .before .middle) .ensures .high, (c .before .before .before .before .before .before .before .before .before .before .before .before .before .before .before .before .before .before .before .before .before .before .before .pre) .1 .0 .molecule .inside ((c .before .before .before .before .before .before .before .before .before .before .before .before .before .before .before .before .before .before .before .before .before .before .before .args) .s) (omega (arith, (c .before .before .before .before .before .before .before .before .before .before .before .before .before .before .before .before .before .before .before .before .before .before .before .pre) .1 .1 .0)))) (sym ((c .before .before .before .before .before .before .before .before .before .before .before .before .before .mate) .ensures)), (((c .before .before .before .before .before .before .before .before .before .before .before .before .before .before .before .before .before .before .before .before .before .before .before .pre) .1 .1 .1 .1 .1 .0 .0, λ o. below-next (sym ((c .before .before .before .before .before .before .before .before .before .before .before .before .before .mate) .ensures)) ((c .before .before .before .before .before .before .before .before .before .before .before .before .before .before .before .middle) .ensures .under ((c .before .before .before .before .before .before .before .before .before .before .before .before .before .before .before .before .before .before .before .before .before .before .before .pre) .1 .1 .1 .1 .1 .0 .1 o)) (λ i. omega (arith, i, (c .before .before .before .before .before .before .before .before .before .before .before .before .before .before .before .middle) .ensures .before ((c .before .before .before .before .before .before .before .before .before .before .before .before .before .before .if1) .left)))), (kept-back ((c .before .before .before .before .before .before .along) .last .1 .1 .1 .1 .1 .1 .1 .1 .1 .1 .0) _ _ ((c .before .before .before .before .before .before .along) .ensures .low) ((c .before .before .before .before .before .before .along) .ensures .high) (omega (arith, levels-least ((c .before .before .before .before .before .before .before .before .before .before .before .before .before .before .before .before .before .before .before .before .before .before .before .pre) .1 .1 .1 .1 .1 .1 .1 .1 .0), (c .before .before .before .before .before .before .before .before .before .before .before .keep) .kept .1 .1 .1 .1 .1 .1 .1 .1 .1 .0)) (kept-under ((c .before .before .before .before .before .before .before .before .before .before .before .before .before .before .before .before .before .before .before .before .before .before .before .args) .j) ((c .before .before .before .before .before .before .before .before .before .before .before .before .before .before .before .before .before .before .before .before .before .before .before .args) .t) (omega arith) (omega arith) ((c .before .before .before .before .before .before .before .before .before .before .before .keep) .ensures .under) ((c .before .before .before .before .before .before .before .before .before .before .before .before .before .before .before .before .before .before .before .before .before .before .before .pre) .1 .1 .1 .1 .1 .1 .0)), (omega (arith, (c .before .before .before .before .before .before .along) .ensures .high, (c .before .before .before .before .before .before .before .before .before .before .before .before .before .before .before .before .before .before .before .before .before .before .before .pre) .1 .1 .1 .1 .1 .1 .1 .0, (c .before .before .before .before .before .before .along) .ensures .long), (levels-at _ _ _ (omega (arith, (c .before .before .before .before .before .before .before .before .before .before .before .before .before .mate) .ensures, (c .before .before .before .before .before .before .before .before .before .before .before .before .before .before .before .middle) .ensures .high, (c .before .before .before .before .before .before .before .before .before .before .before .before .before .before .before .before .before .before .before .before .before .before .before .pre) .1 .1 .1 .1 .0 .0 .high ((c .before .before .before .before .before .before .before .before .before .before .before .before .before .before .before .before .before .before .before .before .before .before .before .args) .s) (omega arith) ((c .before .before .before .before .before .before .before .before .before .before .before .before .before .before .before .before .before .before .before .before .before .before .before .pre) .1 .1 .0 .1 .0), (c .before .before .before .before .before .before .before .before .before .before .before .before .before .before .if1) .left)) (omega (arith, (c .before .before .before .before .before .before .before .before .before .before .before .before .before .mate) .ensures, (c .before .before .before .before .before .before .before .before .before .before .before .before .before .before .before .middle) .ensures .high, (c .before .before .before .before .before .before .before .before .before .before .before .before .before .before .before .before .before .before .before .before .before .before .before .pre) .1 .1 .1 .1 .0 .0 .high ((c .before .before .before .before .before .before .before .before .before .before .before .before .before .before .before .before .before .before .before .before .before .before .before .args) .s) (omega arith) ((c .before .before .before .before .before .before .before .before .before .before .before .before .before .before .before .before .before .before .before .before .before .before .before .pre) .1 .1 .0 .1 .0), (c .before .before .before .before .before .before .before .before .before .before .before .before .before .before .if1) .left)) (back-length (length ((c .before .before .before .before .before .before .before .before .before .before .before .before .before .before .before .before .before .before .before .before .before .before .before .args) .p .now) + 1) ((c .before .before .before .before .before .before .before .before .before .before .before .keep) .last .1 .1 .1 .1 .1 .1 .1 .1 .1 .0) (omega (arith, levels-least ((c .before .before .before .before .before .before .before .before .before .before .before .before .before .before .before .before .before .before .before .before .before .before .before .pre) .1 .1 .1 .1 .1 .1 .1 .1 .0), (c .before .before .before .before .before .before .before .before .before .before .before .keep) .kept .1 .1 .1 .1 .1 .1 .1 .1 .1 .0)) ((c .before .before .before .before .before .before .along) .last .1 .1 .1 .1 .1 .1 .1 .1 .1 .1 .0) ((c .before .before .before .before .before .before .along) .kept .1 .1 .1 .1 .1 .1 .1 .1 .1 .1 .0) ∙ (c .before .before .before .before .before .before .before .before .before .before .before .keep) .kept .1 .1 .1 .1 .1 .1 .1 .1 .1 .0) ((c .before .before .before .before .before .before .before .before .before .before .before .before .before .before .before .before .before .before .before .before .before .before .before .pre) .1 .1 .1 .1 .1 .1 .1 .1 .0), (c .before .before .before .before .before .before .before .before .before .before .before .before .before .before .before .before .before .before .before .before .before .before .before .pre) .1 .1 .1 .1 .1 .1 .1 .1 .1)))))))))
+
+along-same-length-3 : (t : ℕ) → along-lts.Need-same-length-3 (
+  middle-reads.Asked,
+  middle-reads.Learnt,
+  past-below t,
+  past.Post,
+  mate-reads.Asked,
+  mate-reads.Learnt,
+  keep-reads.Asked,
+  keep-reads.Learnt,
+  along-below t,
+  along.Post,
+  descend-below t,
+  descend.Post,
+) (along-at t) along.Post
+along-same-length-3 t c = (c .before .before .before .before .descend) .kept .1 .1 .1 .1 .1 .1 .1 .1 .1 .0 ∙ (c .before .before .before .before .before .before .before .before .before .before .before .along) .kept .1 .1 .1 .1 .1 .1 .1 .1 .1 .0
+
+along-same-length-4 : (t : ℕ) → along-lts.Need-same-length-4 (
+  middle-reads.Asked,
+  middle-reads.Learnt,
+  past-below t,
+  past.Post,
+  mate-reads.Asked,
+  mate-reads.Learnt,
+  keep-reads.Asked,
+  keep-reads.Learnt,
+  along-below t,
+  along.Post,
+  descend-below t,
+  descend.Post,
+) (along-at t) along.Post
+along-same-length-4 t c = (c .before .before .before .before .descend) .kept .1 .1 .1 .1 .1 .1 .1 .1 .1 .1 .0 ∙ back-length (length ((c .before .before .before .before .before .before .before .before .before .before .before .before .before .before .before .before .before .before .before .before .before .before .before .before .before .before .before .before .args) .p .now) + 1) ((c .before .before .before .before .before .before .before .before .before .before .before .before .before .before .before .before .keep) .last .1 .1 .1 .1 .1 .1 .1 .1 .1 .0) (omega (arith, levels-least ((c .before .before .before .before .before .before .before .before .before .before .before .before .before .before .before .before .before .before .before .before .before .before .before .before .before .before .before .before .pre) .1 .1 .1 .1 .1 .1 .1 .1 .0), (c .before .before .before .before .before .before .before .before .before .before .before .before .before .before .before .before .keep) .kept .1 .1 .1 .1 .1 .1 .1 .1 .1 .0)) ((c .before .before .before .before .before .before .before .before .before .before .before .along) .last .1 .1 .1 .1 .1 .1 .1 .1 .1 .1 .0) ((c .before .before .before .before .before .before .before .before .before .before .before .along) .kept .1 .1 .1 .1 .1 .1 .1 .1 .1 .1 .0) ∙ (c .before .before .before .before .before .before .before .before .before .before .before .before .before .before .before .before .keep) .kept .1 .1 .1 .1 .1 .1 .1 .1 .1 .0
+
+along-returns-2 : (t : ℕ) → along-lts.Need-returns-2 (
+  middle-reads.Asked,
+  middle-reads.Learnt,
+  past-below t,
+  past.Post,
+  mate-reads.Asked,
+  mate-reads.Learnt,
+  keep-reads.Asked,
+  keep-reads.Learnt,
+  along-below t,
+  along.Post,
+  descend-below t,
+  descend.Post,
+) (along-at t) along.Post
+along-returns-2 t c = but-but (but-to _ ((c .before .before .before .before .before .before .before .before .before .before .before .before .before .before .before .before .before .before .mate) .ensures) ((c .before .before .before .before .before .before .before .before .before .before .before .along) .ensures)) ((c .before .before .before .before .descend) .ensures)
+
+descend-returns : (t : ℕ) → descend-lts.Need-returns (
+  heaviest-reads.Asked,
+  heaviest-reads.Learnt,
+  place-below t,
+  place.Post,
+  along-below t,
+  along.Post,
+) (descend-at t) descend.Post
+descend-returns t c = but-empty _ _ _ _ _ _ _ ((c .before .before .before .before .before .before .before .before .pre) .1 .0 .window .order) ((c .if1) .taken)
+
+descend-add-w : (t : ℕ) → descend-lts.Need-add-w (
+  heaviest-reads.Asked,
+  heaviest-reads.Learnt,
+  place-below t,
+  place.Post,
+  along-below t,
+  along.Post,
+) (descend-at t) descend.Post
+descend-add-w t c = omega (arith, (c .before .before .before .before .before .before .before .before .pre) .1 .0 .window .small)
+
+descend-heaviest-requires : (t : ℕ) → descend-lts.Need-heaviest-requires (
+  heaviest-reads.Asked,
+  heaviest-reads.Learnt,
+  place-below t,
+  place.Post,
+  along-below t,
+  along.Post,
+) (descend-at t) descend.Post
+descend-heaviest-requires t c κs = (nested-mates ((c .before .before .before .before .before .before .before .before .pre) .1 .0), (((c .before .before .before .before .before .before .before .before .pre) .1 .1 .0 .0, omega (arith, (c .before .before .before .before .before .before .before .before .pre) .1 .0 .equal, (c .before .before .before .before .before .before .before .before .pre) .1 .1 .0)), (c .before .before .before .before .before .before .before .before .pre) .1 .1 .1 .1 .0))
+
+descend-mul-part : (t : ℕ) → descend-lts.Need-mul-part (
+  heaviest-reads.Asked,
+  heaviest-reads.Learnt,
+  place-below t,
+  place.Post,
+  along-below t,
+  along.Post,
+) (descend-at t) descend.Post
+descend-mul-part t c = omega (arith, levels-least ((c .before .before .before .before .before .before .before .before .before .pre) .1 .1 .1 .1 .1 .1 .1 .1 .0), (c .before .before .before .before .before .before .before .before .before .pre) .1 .0 .window .small)
+
+descend-sub-part : (t : ℕ) → descend-lts.Need-sub-part (
+  heaviest-reads.Asked,
+  heaviest-reads.Learnt,
+  place-below t,
+  place.Post,
+  along-below t,
+  along.Post,
+) (descend-at t) descend.Post
+descend-sub-part t c = omega (arith, levels-least ((c .before .before .before .before .before .before .before .before .before .pre) .1 .1 .1 .1 .1 .1 .1 .1 .0), (c .before .before .before .before .before .before .before .before .before .pre) .1 .0 .window .small)
+
+descend-part-part-start : (t : ℕ) → descend-lts.Need-part-part-start (
+  heaviest-reads.Asked,
+  heaviest-reads.Learnt,
+  place-below t,
+  place.Post,
+  along-below t,
+  along.Post,
+) (descend-at t) descend.Post
+descend-part-part-start t c = omega (arith, levels-least ((c .before .before .before .before .before .before .before .before .before .pre) .1 .1 .1 .1 .1 .1 .1 .1 .0), (c .before .before .before .before .before .before .before .before .before .pre) .1 .0 .window .small)
+
+descend-part-part-end : (t : ℕ) → descend-lts.Need-part-part-end (
+  heaviest-reads.Asked,
+  heaviest-reads.Learnt,
+  place-below t,
+  place.Post,
+  along-below t,
+  along.Post,
+) (descend-at t) descend.Post
+descend-part-part-end t c = omega (arith, levels-least ((c .before .before .before .before .before .before .before .before .before .pre) .1 .1 .1 .1 .1 .1 .1 .1 .0), (c .before .before .before .before .before .before .before .before .before .pre) .1 .0 .window .small)
+
+descend-place-requires : (t : ℕ) → descend-lts.Need-place-requires (
+  heaviest-reads.Asked,
+  heaviest-reads.Learnt,
+  place-below t,
+  place.Post,
+  along-below t,
+  along.Post,
+) (descend-at t) descend.Post
+descend-place-requires t c κs = (omega (arith, (c .before .before .before .before .before .before .before .before .before .before .before .pre) .0, (c .before .before .heaviest) .ensures .low, (c .before .before .heaviest) .ensures .high), ((c .before .before .before .before .before .before .before .before .before .before .before .pre) .1 .0, (((c .before .before .heaviest) .ensures .low, omega (arith, (c .before .before .heaviest) .ensures .high, (c .before .before .before .before .before .before .before .before .before .before .before .pre) .1 .1 .0)), (heavy-before ((c .before .before .before .before .before .before .before .before .before .before .before .pre) .1 .0 .molecule) ((c .before .before .before .before .before .before .before .before .before .before .before .pre) .1 .1 .1 .1 .0) ((c .before .before .before .before .before .before .before .before .before .before .before .pre) .1 .1 .0 .1) ((c .before .before .heaviest) .ensures), ((c .before .before .before .before .before .before .before .before .before .before .before .pre) .1 .1 .1 .1 .1 .1 .1 .0, (levels-before (nth ((c .before .before .before .before .before .before .before .before .before .before .before .args) .qm .now) ((c .before .before .before .before .before .before .before .before .before .before .before .args) .stop) - (c .before .before .before .before .before .before .before .before .before .before .before .args) .stop) _ ((c .before .before .before .before .before .before .before .before .before .before .before .pre) .1 .0 .molecule) ((c .before .before .before .before .before .before .before .before .before .before .before .pre) .1 .1 .1 .1 .0) ((c .before .before .before .before .before .before .before .before .before .before .before .pre) .1 .1 .0 .1) ((c .before .before .heaviest) .ensures) (λ lt. box-size ((c .before .before .before .before .before .before .before .before .before .before .before .pre) .1 .0 .molecule) ((c .before .before .before .before .before .before .before .before .before .before .before .pre) .1 .0 .equal) (λ o. path-at ((c .before .before .before .before .before .before .before .before .before .before .before .pre) .1 .1 .1 .1 .1 .0 .1 o) ((c .before .before .heaviest) .ensures)) ((c .before .before .heaviest) .ensures .arc lt) (omega (arith, heavy-end ((c .before .before .before .before .before .before .before .before .before .before .before .pre) .1 .0 .molecule) ((c .before .before .before .before .before .before .before .before .before .before .before .pre) .1 .1 .1 .1 .0) ((c .before .before .before .before .before .before .before .before .before .before .before .pre) .1 .1 .0 .1) ((c .before .before .heaviest) .ensures) lt, (c .before .before .before .before .before .before .before .before .before .before .before .pre) .1 .1 .0))) (part-length (length ((c .before .before .before .before .before .before .before .before .before .before .before .args) .p .now) + 1) ((c .before .before .before .before .before .before .before .before .before .before .before .args) .work .now) (omega (arith, levels-least ((c .before .before .before .before .before .before .before .before .before .before .before .pre) .1 .1 .1 .1 .1 .1 .1 .1 .0)))) ((c .before .before .before .before .before .before .before .before .before .before .before .pre) .1 .1 .1 .1 .1 .1 .1 .1 .0), (c .before .before .before .before .before .before .before .before .before .before .before .pre) .1 .1 .1 .1 .1 .1 .1 .1 .1))))))
+
+descend-same-length : (t : ℕ) → descend-lts.Need-same-length (
+  heaviest-reads.Asked,
+  heaviest-reads.Learnt,
+  place-below t,
+  place.Post,
+  along-below t,
+  along.Post,
+) (descend-at t) descend.Post
+descend-same-length t c = (c .before .before .before .before .before .place) .kept .1 .1 .1 .1 .1 .1 .1 .1 .0
+
+descend-same-length-2 : (t : ℕ) → descend-lts.Need-same-length-2 (
+  heaviest-reads.Asked,
+  heaviest-reads.Learnt,
+  place-below t,
+  place.Post,
+  along-below t,
+  along.Post,
+) (descend-at t) descend.Post
+descend-same-length-2 t c = back-length (length ((c .before .before .before .before .before .before .before .before .before .before .before .before .before .before .before .before .before .args) .p .now) + 1) ((c .before .before .before .before .before .before .before .before .before .before .before .before .before .before .before .before .before .args) .work .now) (omega (arith, levels-least ((c .before .before .before .before .before .before .before .before .before .before .before .before .before .before .before .before .before .pre) .1 .1 .1 .1 .1 .1 .1 .1 .0))) ((c .before .before .before .before .before .place) .last .1 .1 .1 .1 .1 .1 .1 .1 .1 .0) ((c .before .before .before .before .before .place) .kept .1 .1 .1 .1 .1 .1 .1 .1 .1 .0)
+
+descend-returns-2 : (t : ℕ) → descend-lts.Need-returns-2 (
+  heaviest-reads.Asked,
+  heaviest-reads.Learnt,
+  place-below t,
+  place.Post,
+  along-below t,
+  along.Post,
+) (descend-at t) descend.Post
+descend-returns-2 t c = but-filled _ _ ((c .if2) .taken) ((c .before .before .before .before .before .before .before .before .heaviest) .ensures .high) ((c .before .before .before .before .before .place) .ensures .0) ((c .before .before .before .before .before .place) .ensures .1)
+
+descend-along-requires : (t : ℕ) → descend-lts.Need-along-requires (
+  heaviest-reads.Asked,
+  heaviest-reads.Learnt,
+  place-below t,
+  place.Post,
+  along-below t,
+  along.Post,
+) (descend-at t) descend.Post
+descend-along-requires t c κs = (omega (arith, (c .before .before .before .before .before .before .before .before .before .before .before .before .before .before .before .before .before .before .before .pre) .0, (c .before .before .before .before .before .before .before .before .before .before .heaviest) .ensures .low, (c .before .before .before .before .before .before .before .before .before .before .before .before .before .before .before .before .before .before .before .pre) .1 .1 .1 .1 .1 .0 .0, (c .before .before .before .before .before .before .before .before .before .before .before .before .before .before .before .before .before .before .before .pre) .1 .0 .short, (heavy-in ((c .before .before .before .before .before .before .before .before .before .before .heaviest) .ensures) ((c .before .before .before .before .before .before .before .place) .ensures .0) ((c .before .before .before .before .before .before .before .before .before .before .before .before .before .before .before .before .before .before .before .pre) .1 .1 .1 .0) ((c .before .before .if2) .left))), (narrow _ _ ((c .before .before .before .before .before .before .before .before .before .before .before .before .before .before .before .before .before .before .before .pre) .1 .0) (omega (arith, (c .before .before .if2) .left)) ((c .before .before .before .before .before .before .before .before .before .before .before .before .before .before .before .before .before .before .before .pre) .1 .0 .window .ends), (((c .before .before .if2) .left, ((heavy-in ((c .before .before .before .before .before .before .before .before .before .before .heaviest) .ensures) ((c .before .before .before .before .before .before .before .place) .ensures .0) ((c .before .before .before .before .before .before .before .before .before .before .before .before .before .before .before .before .before .before .before .pre) .1 .1 .1 .0) ((c .before .before .if2) .left)), (c .before .before .before .before .before .before .before .before .before .before .before .before .before .before .before .before .before .before .before .pre) .1 .1 .0 .1)), (rest (split-left ((c .before .before .before .before .before .before .before .before .before .before .before .before .before .before .before .before .before .before .before .pre) .1 .0 .molecule) ((c .before .before .before .before .before .before .before .before .before .before .before .before .before .before .before .before .before .before .before .pre) .1 .1 .1 .1 .0) ((c .before .before .before .before .before .before .before .before .before .before .before .before .before .before .before .before .before .before .before .pre) .1 .1 .0 .1) ((c .before .before .before .before .before .before .before .before .before .before .heaviest) .ensures) (heavy-in ((c .before .before .before .before .before .before .before .before .before .before .heaviest) .ensures) ((c .before .before .before .before .before .before .before .place) .ensures .0) ((c .before .before .before .before .before .before .before .before .before .before .before .before .before .before .before .before .before .before .before .pre) .1 .1 .1 .0) ((c .before .before .if2) .left))) ((c .before .before .before .before .before .before .before .place) .ensures .0) (omega (arith, (c .before .before .if2) .left)) ((c .before .before .before .before .before .before .before .before .before .before .before .before .before .before .before .before .before .before .before .pre) .1 .1 .1 .0), ((heavy-on ((c .before .before .before .before .before .before .before .before .before .before .before .before .before .before .before .before .before .before .before .pre) .1 .0 .molecule) ((c .before .before .before .before .before .before .before .before .before .before .before .before .before .before .before .before .before .before .before .pre) .1 .1 .1 .1 .0) ((c .before .before .before .before .before .before .before .before .before .before .before .before .before .before .before .before .before .before .before .pre) .1 .1 .0 .1) ((c .before .before .before .before .before .before .before .before .before .before .heaviest) .ensures) (heavy-in ((c .before .before .before .before .before .before .before .before .before .before .heaviest) .ensures) ((c .before .before .before .before .before .before .before .place) .ensures .0) ((c .before .before .before .before .before .before .before .before .before .before .before .before .before .before .before .before .before .before .before .pre) .1 .1 .1 .0) ((c .before .before .if2) .left)), (c .before .before .before .before .before .before .before .before .before .before .heaviest) .ensures .arc (heavy-in ((c .before .before .before .before .before .before .before .before .before .before .heaviest) .ensures) ((c .before .before .before .before .before .before .before .place) .ensures .0) ((c .before .before .before .before .before .before .before .before .before .before .before .before .before .before .before .before .before .before .before .pre) .1 .1 .1 .0) ((c .before .before .if2) .left))), (((c .before .before .before .before .before .before .before .before .before .before .before .before .before .before .before .before .before .before .before .pre) .1 .1 .1 .1 .1 .0 .0, λ o. path-at ((c .before .before .before .before .before .before .before .before .before .before .before .before .before .before .before .before .before .before .before .pre) .1 .1 .1 .1 .1 .0 .1 o) ((c .before .before .before .before .before .before .before .before .before .before .heaviest) .ensures)), (kept-back ((c .before .before .before .before .before .before .before .place) .last .1 .1 .1 .1 .1 .1 .1 .1 .1 .0) _ _ ((c .before .before .before .before .before .before .before .place) .ensures .0 .reach .from) (omega arith) (omega (arith, levels-least ((c .before .before .before .before .before .before .before .before .before .before .before .before .before .before .before .before .before .before .before .pre) .1 .1 .1 .1 .1 .1 .1 .1 .0))) ((c .before .before .before .before .before .before .before .before .before .before .before .before .before .before .before .before .before .before .before .pre) .1 .1 .1 .1 .1 .1 .0), (omega (arith, (c .before .before .before .before .before .before .before .before .before .before .before .before .before .before .before .before .before .before .before .pre) .1 .1 .1 .1 .1 .1 .1 .0, (c .before .before .before .before .before .before .before .place) .ensures .1 .long), (levels-at _ _ _ (omega (arith, (c .before .before .before .before .before .before .before .before .before .before .heaviest) .ensures .low)) (omega (arith, (c .before .before .before .before .before .before .before .before .before .before .heaviest) .ensures .low)) (back-length (length ((c .before .before .before .before .before .before .before .before .before .before .before .before .before .before .before .before .before .before .before .args) .p .now) + 1) ((c .before .before .before .before .before .before .before .before .before .before .before .before .before .before .before .before .before .before .before .args) .work .now) (omega (arith, levels-least ((c .before .before .before .before .before .before .before .before .before .before .before .before .before .before .before .before .before .before .before .pre) .1 .1 .1 .1 .1 .1 .1 .1 .0))) ((c .before .before .before .before .before .before .before .place) .last .1 .1 .1 .1 .1 .1 .1 .1 .1 .0) ((c .before .before .before .before .before .before .before .place) .kept .1 .1 .1 .1 .1 .1 .1 .1 .1 .0)) ((c .before .before .before .before .before .before .before .before .before .before .before .before .before .before .before .before .before .before .before .pre) .1 .1 .1 .1 .1 .1 .1 .1 .0), (c .before .before .before .before .before .before .before .before .before .before .before .before .before .before .before .before .before .before .before .pre) .1 .1 .1 .1 .1 .1 .1 .1 .1)))))))))
+
+descend-same-length-3 : (t : ℕ) → descend-lts.Need-same-length-3 (
+  heaviest-reads.Asked,
+  heaviest-reads.Learnt,
+  place-below t,
+  place.Post,
+  along-below t,
+  along.Post,
+) (descend-at t) descend.Post
+descend-same-length-3 t c = (c .before .before .before .before .along) .kept .1 .1 .1 .1 .1 .1 .1 .1 .1 .0 ∙ (c .before .before .before .before .before .before .before .before .before .before .before .before .place) .kept .1 .1 .1 .1 .1 .1 .1 .1 .0
+
+descend-same-length-4 : (t : ℕ) → descend-lts.Need-same-length-4 (
+  heaviest-reads.Asked,
+  heaviest-reads.Learnt,
+  place-below t,
+  place.Post,
+  along-below t,
+  along.Post,
+) (descend-at t) descend.Post
+descend-same-length-4 t c = (c .before .before .before .before .along) .kept .1 .1 .1 .1 .1 .1 .1 .1 .1 .1 .0 ∙ back-length (length ((c .before .before .before .before .before .before .before .before .before .before .before .before .before .before .before .before .before .before .before .before .before .before .before .before .args) .p .now) + 1) ((c .before .before .before .before .before .before .before .before .before .before .before .before .before .before .before .before .before .before .before .before .before .before .before .before .args) .work .now) (omega (arith, levels-least ((c .before .before .before .before .before .before .before .before .before .before .before .before .before .before .before .before .before .before .before .before .before .before .before .before .pre) .1 .1 .1 .1 .1 .1 .1 .1 .0))) ((c .before .before .before .before .before .before .before .before .before .before .before .before .place) .last .1 .1 .1 .1 .1 .1 .1 .1 .1 .0) ((c .before .before .before .before .before .before .before .before .before .before .before .before .place) .kept .1 .1 .1 .1 .1 .1 .1 .1 .1 .0)
+
+descend-returns-3 : (t : ℕ) → descend-lts.Need-returns-3 (
+  heaviest-reads.Asked,
+  heaviest-reads.Learnt,
+  place-below t,
+  place.Post,
+  along-below t,
+  along.Post,
+) (descend-at t) descend.Post
+descend-returns-3 t c = but-after _ _ ((c .before .before .before .before .before .before .before .before .before .before .before .before .place) .ensures .0 .reach .from) (omega (arith, (c .before .before .before .before .before .before .before .if2) .left)) ((c .before .before .before .before .before .before .before .before .before .before .before .before .before .before .before .heaviest) .ensures .low) ((c .before .before .before .before .before .before .before .before .before .before .before .before .before .before .before .heaviest) .ensures .high) ((c .before .before .before .before .before .before .before .before .before .before .before .before .place) .ensures .0 .reach .closed) (split-left ((c .before .before .before .before .before .before .before .before .before .before .before .before .before .before .before .before .before .before .before .before .before .before .before .before .pre) .1 .0 .molecule) ((c .before .before .before .before .before .before .before .before .before .before .before .before .before .before .before .before .before .before .before .before .before .before .before .before .pre) .1 .1 .1 .1 .0) ((c .before .before .before .before .before .before .before .before .before .before .before .before .before .before .before .before .before .before .before .before .before .before .before .before .pre) .1 .1 .0 .1) ((c .before .before .before .before .before .before .before .before .before .before .before .before .before .before .before .heaviest) .ensures) (heavy-in ((c .before .before .before .before .before .before .before .before .before .before .before .before .before .before .before .heaviest) .ensures) ((c .before .before .before .before .before .before .before .before .before .before .before .before .place) .ensures .0) ((c .before .before .before .before .before .before .before .before .before .before .before .before .before .before .before .before .before .before .before .before .before .before .before .before .pre) .1 .1 .1 .0) ((c .before .before .before .before .before .before .before .if2) .left))) ((c .before .before .before .before .before .before .before .before .before .before .before .before .place) .ensures .1) ((c .before .before .before .before .along) .ensures)
+
+enter-keep-requires : (t : ℕ) → enter-lts.Need-keep-requires (
+  keep-reads.Asked,
+  keep-reads.Learnt,
+  choose-turn-reads.Asked,
+  choose-turn-reads.Learnt,
+  put-reads.Asked,
+  put-reads.Learnt,
+  descend-below t,
+  descend.Post,
+) (enter-at t) enter.Post
+enter-keep-requires t c κs = ((c .before .before .before .before .before .before .before .before .pre) .1 .0, ((c .before .before .before .before .before .before .before .before .pre) .1 .1 .0 .1, ((c .before .before .before .before .before .before .before .before .pre) .1 .1 .1 .0, ((c .before .before .before .before .before .before .before .before .pre) .1 .1 .1 .1 .1 .0, (levels-least ((c .before .before .before .before .before .before .before .before .pre) .1 .1 .1 .1 .1 .1 .1 .0), (c .before .before .before .before .before .before .before .before .pre) .1 .1 .1 .1 .1 .1 .1 .1)))))
+
+enter-add-w : (t : ℕ) → enter-lts.Need-add-w (
+  keep-reads.Asked,
+  keep-reads.Learnt,
+  choose-turn-reads.Asked,
+  choose-turn-reads.Learnt,
+  put-reads.Asked,
+  put-reads.Learnt,
+  descend-below t,
+  descend.Post,
+) (enter-at t) enter.Post
+enter-add-w t c = omega (arith, (c .before .before .before .before .before .before .before .before .before .before .before .pre) .1 .0 .window .small, (c .before .before .before .before .before .before .before .before .before .before .before .pre) .1 .0 .window .ends, (c .before .before .before .before .before .before .before .before .before .before .before .pre) .1 .1 .0 .0, levels-least ((c .before .before .before .before .before .before .before .before .before .before .before .pre) .1 .1 .1 .1 .1 .1 .1 .0), (c .before .before .keep) .kept .1 .1 .1 .1 .1 .1 .1 .1 .1 .0)
+
+enter-add-here : (t : ℕ) → enter-lts.Need-add-here (
+  keep-reads.Asked,
+  keep-reads.Learnt,
+  choose-turn-reads.Asked,
+  choose-turn-reads.Learnt,
+  put-reads.Asked,
+  put-reads.Learnt,
+  descend-below t,
+  descend.Post,
+) (enter-at t) enter.Post
+enter-add-here t c = omega (arith, (c .before .before .before .before .before .before .before .before .before .before .before .pre) .1 .0 .window .small, (c .before .before .before .before .before .before .before .before .before .before .before .pre) .1 .0 .window .ends, (c .before .before .before .before .before .before .before .before .before .before .before .pre) .1 .1 .0 .0, levels-least ((c .before .before .before .before .before .before .before .before .before .before .before .pre) .1 .1 .1 .1 .1 .1 .1 .0), (c .before .before .keep) .kept .1 .1 .1 .1 .1 .1 .1 .1 .1 .0)
+
+enter-mul-here : (t : ℕ) → enter-lts.Need-mul-here (
+  keep-reads.Asked,
+  keep-reads.Learnt,
+  choose-turn-reads.Asked,
+  choose-turn-reads.Learnt,
+  put-reads.Asked,
+  put-reads.Learnt,
+  descend-below t,
+  descend.Post,
+) (enter-at t) enter.Post
+enter-mul-here t c = omega (arith, (c .before .before .before .before .before .before .before .before .before .before .before .pre) .1 .0 .window .small, (c .before .before .before .before .before .before .before .before .before .before .before .pre) .1 .0 .window .ends, (c .before .before .before .before .before .before .before .before .before .before .before .pre) .1 .1 .0 .0, levels-least ((c .before .before .before .before .before .before .before .before .before .before .before .pre) .1 .1 .1 .1 .1 .1 .1 .0), (c .before .before .keep) .kept .1 .1 .1 .1 .1 .1 .1 .1 .1 .0)
+
+enter-slice-read-here : (t : ℕ) → enter-lts.Need-slice-read-here (
+  keep-reads.Asked,
+  keep-reads.Learnt,
+  choose-turn-reads.Asked,
+  choose-turn-reads.Learnt,
+  put-reads.Asked,
+  put-reads.Learnt,
+  descend-below t,
+  descend.Post,
+) (enter-at t) enter.Post
+enter-slice-read-here t c = omega (arith, (c .before .before .before .before .before .before .before .before .before .before .before .before .pre) .1 .0 .window .small, (c .before .before .before .before .before .before .before .before .before .before .before .before .pre) .1 .0 .window .ends, (c .before .before .before .before .before .before .before .before .before .before .before .before .pre) .1 .1 .0 .0, levels-least ((c .before .before .before .before .before .before .before .before .before .before .before .before .pre) .1 .1 .1 .1 .1 .1 .1 .0), (c .before .before .before .keep) .kept .1 .1 .1 .1 .1 .1 .1 .1 .1 .0)
+
+enter-cast-here : (t : ℕ) → enter-lts.Need-cast-here (
+  keep-reads.Asked,
+  keep-reads.Learnt,
+  choose-turn-reads.Asked,
+  choose-turn-reads.Learnt,
+  put-reads.Asked,
+  put-reads.Learnt,
+  descend-below t,
+  descend.Post,
+) (enter-at t) enter.Post
+enter-cast-here t c = omega (arith, (c .slice-known4) .given ((length ((c .before .before .before .before .before .before .before .before .before .before .before .before .args) .p .now) + 1) + (c .before .before .before .before .before .before .before .before .before .before .before .before .args) .j))
+
+enter-add-after : (t : ℕ) → enter-lts.Need-add-after (
+  keep-reads.Asked,
+  keep-reads.Learnt,
+  choose-turn-reads.Asked,
+  choose-turn-reads.Learnt,
+  put-reads.Asked,
+  put-reads.Learnt,
+  descend-below t,
+  descend.Post,
+) (enter-at t) enter.Post
+enter-add-after t c = omega (arith, (c .before .before .before .before .before .before .before .before .before .before .before .before .pre) .1 .0 .window .small, (c .before .before .before .before .before .before .before .before .before .before .before .before .pre) .1 .0 .window .ends, (c .before .before .before .before .before .before .before .before .before .before .before .before .pre) .1 .1 .0 .0, levels-least ((c .before .before .before .before .before .before .before .before .before .before .before .before .pre) .1 .1 .1 .1 .1 .1 .1 .0), (c .before .before .before .keep) .kept .1 .1 .1 .1 .1 .1 .1 .1 .1 .0)
+
+enter-add-after-2 : (t : ℕ) → enter-lts.Need-add-after-2 (
+  keep-reads.Asked,
+  keep-reads.Learnt,
+  choose-turn-reads.Asked,
+  choose-turn-reads.Learnt,
+  put-reads.Asked,
+  put-reads.Learnt,
+  descend-below t,
+  descend.Post,
+) (enter-at t) enter.Post
+enter-add-after-2 t c = omega (arith, (c .before .before .before .before .before .before .before .before .before .before .before .before .pre) .1 .0 .window .small, (c .before .before .before .before .before .before .before .before .before .before .before .before .pre) .1 .0 .window .ends, (c .before .before .before .before .before .before .before .before .before .before .before .before .pre) .1 .1 .0 .0, levels-least ((c .before .before .before .before .before .before .before .before .before .before .before .before .pre) .1 .1 .1 .1 .1 .1 .1 .0), (c .before .before .before .keep) .kept .1 .1 .1 .1 .1 .1 .1 .1 .1 .0)
+
+enter-mul-after : (t : ℕ) → enter-lts.Need-mul-after (
+  keep-reads.Asked,
+  keep-reads.Learnt,
+  choose-turn-reads.Asked,
+  choose-turn-reads.Learnt,
+  put-reads.Asked,
+  put-reads.Learnt,
+  descend-below t,
+  descend.Post,
+) (enter-at t) enter.Post
+enter-mul-after t c = omega (arith, (c .before .before .before .before .before .before .before .before .before .before .before .before .pre) .1 .0 .window .small, (c .before .before .before .before .before .before .before .before .before .before .before .before .pre) .1 .0 .window .ends, (c .before .before .before .before .before .before .before .before .before .before .before .before .pre) .1 .1 .0 .0, levels-least ((c .before .before .before .before .before .before .before .before .before .before .before .before .pre) .1 .1 .1 .1 .1 .1 .1 .0), (c .before .before .before .keep) .kept .1 .1 .1 .1 .1 .1 .1 .1 .1 .0)
+
+enter-slice-read-after : (t : ℕ) → enter-lts.Need-slice-read-after (
+  keep-reads.Asked,
+  keep-reads.Learnt,
+  choose-turn-reads.Asked,
+  choose-turn-reads.Learnt,
+  put-reads.Asked,
+  put-reads.Learnt,
+  descend-below t,
+  descend.Post,
+) (enter-at t) enter.Post
+enter-slice-read-after t c = omega (arith, (c .before .before .before .before .before .before .before .before .before .before .before .before .before .pre) .1 .0 .window .small, (c .before .before .before .before .before .before .before .before .before .before .before .before .before .pre) .1 .0 .window .ends, (c .before .before .before .before .before .before .before .before .before .before .before .before .before .pre) .1 .1 .0 .0, levels-least ((c .before .before .before .before .before .before .before .before .before .before .before .before .before .pre) .1 .1 .1 .1 .1 .1 .1 .0), (c .before .before .before .before .keep) .kept .1 .1 .1 .1 .1 .1 .1 .1 .1 .0)
+
+enter-cast-after : (t : ℕ) → enter-lts.Need-cast-after (
+  keep-reads.Asked,
+  keep-reads.Learnt,
+  choose-turn-reads.Asked,
+  choose-turn-reads.Learnt,
+  put-reads.Asked,
+  put-reads.Learnt,
+  descend-below t,
+  descend.Post,
+) (enter-at t) enter.Post
+enter-cast-after t c = omega (arith, (c .slice-known5) .given ((length ((c .before .before .before .before .before .before .before .before .before .before .before .before .before .args) .p .now) + 1) + ((c .before .before .before .before .before .before .before .before .before .before .before .before .before .args) .j + 1)))
+
+enter-shared-slice-read-choose-turn : (t : ℕ) → enter-lts.Need-shared-slice-read-choose-turn (
+  keep-reads.Asked,
+  keep-reads.Learnt,
+  choose-turn-reads.Asked,
+  choose-turn-reads.Learnt,
+  put-reads.Asked,
+  put-reads.Learnt,
+  descend-below t,
+  descend.Post,
+) (enter-at t) enter.Post
+enter-shared-slice-read-choose-turn t c = omega (arith, (c .before .before .before .before .before .before .before .before .before .before .before .before .before .before .pre) .1 .1 .1 .0)
+
+enter-shared-slice-read-choose-turn-2 : (t : ℕ) → enter-lts.Need-shared-slice-read-choose-turn-2 (
+  keep-reads.Asked,
+  keep-reads.Learnt,
+  choose-turn-reads.Asked,
+  choose-turn-reads.Learnt,
+  put-reads.Asked,
+  put-reads.Learnt,
+  descend-below t,
+  descend.Post,
+) (enter-at t) enter.Post
+enter-shared-slice-read-choose-turn-2 t c = omega (arith, (c .before .before .before .before .before .before .before .before .before .before .before .before .before .before .before .pre) .1 .1 .1 .0)
+
+enter-choose-turn-requires : (t : ℕ) → enter-lts.Need-choose-turn-requires (
+  keep-reads.Asked,
+  keep-reads.Learnt,
+  choose-turn-reads.Asked,
+  choose-turn-reads.Learnt,
+  put-reads.Asked,
+  put-reads.Learnt,
+  descend-below t,
+  descend.Post,
+) (enter-at t) enter.Post
+enter-choose-turn-requires t c κs = (((c .before .before .before .before .before .before .before .before .before .before .before .before .before .before .before .pre) .1 .0 .window .same, ((c .before .before .before .before .before .before .before .before .before .before .before .before .before .before .before .pre) .1 .0 .window .ends, omega (arith, (c .before .before .before .before .before .before .before .before .before .before .before .before .before .before .before .pre) .1 .0 .window .small, (c .before .before .before .before .before .before .before .before .before .before .before .before .before .before .before .pre) .1 .0 .window .ends))), (c .before .before .before .before .before .before .before .before .before .before .before .before .before .before .before .pre) .1 .1 .0 .0)
+
+enter-put-requires : (t : ℕ) → enter-lts.Need-put-requires (
+  keep-reads.Asked,
+  keep-reads.Learnt,
+  choose-turn-reads.Asked,
+  choose-turn-reads.Learnt,
+  put-reads.Asked,
+  put-reads.Learnt,
+  descend-below t,
+  descend.Post,
+) (enter-at t) enter.Post
+enter-put-requires t c κs = (λ h. omega (arith, (c .before .before .before .before .before .before .before .before .before .before .before .before .before .before .before .before .before .pre) .1 .1 .1 .1 .1 .1 .0, (c .before .before .before .before .before .before .before .before .before .before .before .before .before .before .before .before .before .pre) .1 .1 .0 .0), omega (arith, (c .before .before .before .before .before .before .before .before .before .before .before .before .before .before .before .before .before .pre) .1 .0 .short, (c .before .before .before .before .before .before .before .before .before .before .before .before .before .before .before .before .before .pre) .1 .1 .1 .0))
+
+enter-put-requires-2 : (t : ℕ) → enter-lts.Need-put-requires-2 (
+  keep-reads.Asked,
+  keep-reads.Learnt,
+  choose-turn-reads.Asked,
+  choose-turn-reads.Learnt,
+  put-reads.Asked,
+  put-reads.Learnt,
+  descend-below t,
+  descend.Post,
+) (enter-at t) enter.Post
+enter-put-requires-2 t c κs = (λ h. omega (arith, h, (turned-part ((c .before .before .before .before .before .choose-turn) .result) ((c .before .before .before .before .before .before .before .before .before .before .before .before .before .before .before .before .before .before .before .before .before .pre) .1 .0) ((c .before .before .before .before .before .before .before .before .before .before .before .before .before .before .before .before .before .before .before .before .before .pre) .1 .1 .0 .0) ((c .before .before .before .before .before .before .before .before .before .before .before .before .before .before .before .before .before .before .before .before .before .pre) .1 .1 .1 .0 .0) ((c .before .before .before .before .before .before .before .before .before .before .before .before .before .before .before .before .before .before .before .before .before .pre) .1 .1 .1 .0 .1 .0) ((c .before .before .before .before .before .before .before .before .before .before .before .before .before .before .before .before .before .before .before .before .before .pre) .1 .1 .1 .0 .1 .1) ((c .before .before .before .before .before .before .before .before .before .before .before .before .keep) .ensures .row) ((c .before .before .before .before .before .choose-turn) .ensures)) .ends, (c .before .before .before .before .before .before .before .before .before .before .before .before .before .before .before .before .before .before .before .before .before .pre) .1 .1 .1 .1 .1 .1 .0, (c .before .before .before .put) .ensures .long), omega (arith, (c .before .before .before .before .before .before .before .before .before .before .before .before .before .before .before .before .before .before .before .before .before .pre) .1 .0 .short, (c .before .before .before .before .before .before .before .before .before .before .before .before .before .before .before .before .before .before .before .before .before .pre) .1 .1 .1 .0))
+
+enter-same-length : (t : ℕ) → enter-lts.Need-same-length (
+  keep-reads.Asked,
+  keep-reads.Learnt,
+  choose-turn-reads.Asked,
+  choose-turn-reads.Learnt,
+  put-reads.Asked,
+  put-reads.Learnt,
+  descend-below t,
+  descend.Post,
+) (enter-at t) enter.Post
+enter-same-length t c = (c .before .before .before .put2) .ensures .long ∙ (c .before .before .before .before .before .before .before .put) .ensures .long
+
+enter-same-length-2 : (t : ℕ) → enter-lts.Need-same-length-2 (
+  keep-reads.Asked,
+  keep-reads.Learnt,
+  choose-turn-reads.Asked,
+  choose-turn-reads.Learnt,
+  put-reads.Asked,
+  put-reads.Learnt,
+  descend-below t,
+  descend.Post,
+) (enter-at t) enter.Post
+enter-same-length-2 t c = (c .before .before .before .before .before .before .before .before .before .before .before .before .before .before .before .before .keep) .kept .1 .1 .1 .1 .1 .1 .1 .1 .1 .0
+
+enter-returns : (t : ℕ) → enter-lts.Need-returns (
+  keep-reads.Asked,
+  keep-reads.Learnt,
+  choose-turn-reads.Asked,
+  choose-turn-reads.Learnt,
+  put-reads.Asked,
+  put-reads.Learnt,
+  descend-below t,
+  descend.Post,
+) (enter-at t) enter.Post
+enter-returns t c = ((turned-part ((c .before .before .before .before .before .before .before .before .before .choose-turn) .result) ((c .before .before .before .before .before .before .before .before .before .before .before .before .before .before .before .before .before .before .before .before .before .before .before .before .before .pre) .1 .0) ((c .before .before .before .before .before .before .before .before .before .before .before .before .before .before .before .before .before .before .before .before .before .before .before .before .before .pre) .1 .1 .0 .0) ((c .before .before .before .before .before .before .before .before .before .before .before .before .before .before .before .before .before .before .before .before .before .before .before .before .before .pre) .1 .1 .1 .0 .0) ((c .before .before .before .before .before .before .before .before .before .before .before .before .before .before .before .before .before .before .before .before .before .before .before .before .before .pre) .1 .1 .1 .0 .1 .0) ((c .before .before .before .before .before .before .before .before .before .before .before .before .before .before .before .before .before .before .before .before .before .before .before .before .before .pre) .1 .1 .1 .0 .1 .1) ((c .before .before .before .before .before .before .before .before .before .before .before .before .before .before .before .before .keep) .ensures .row) ((c .before .before .before .before .before .before .before .before .before .choose-turn) .ensures)) .best, but-box ((c .if1) .taken) ((c .before .before .before .before .before .before .before .before .before .before .before .before .before .before .before .before .before .before .before .before .before .before .before .before .before .pre) .1 .1 .1 .0 .1 .1) (but-turn (turned-part ((c .before .before .before .before .before .before .before .before .before .choose-turn) .result) ((c .before .before .before .before .before .before .before .before .before .before .before .before .before .before .before .before .before .before .before .before .before .before .before .before .before .pre) .1 .0) ((c .before .before .before .before .before .before .before .before .before .before .before .before .before .before .before .before .before .before .before .before .before .before .before .before .before .pre) .1 .1 .0 .0) ((c .before .before .before .before .before .before .before .before .before .before .before .before .before .before .before .before .before .before .before .before .before .before .before .before .before .pre) .1 .1 .1 .0 .0) ((c .before .before .before .before .before .before .before .before .before .before .before .before .before .before .before .before .before .before .before .before .before .before .before .before .before .pre) .1 .1 .1 .0 .1 .0) ((c .before .before .before .before .before .before .before .before .before .before .before .before .before .before .before .before .before .before .before .before .before .before .before .before .before .pre) .1 .1 .1 .0 .1 .1) ((c .before .before .before .before .before .before .before .before .before .before .before .before .before .before .before .before .keep) .ensures .row) ((c .before .before .before .before .before .before .before .before .before .choose-turn) .ensures)) ((c .before .before .before .before .before .before .before .put) .ensures) ((c .before .before .before .put2) .ensures) (but-all _ ((turned-part ((c .before .before .before .before .before .before .before .before .before .choose-turn) .result) ((c .before .before .before .before .before .before .before .before .before .before .before .before .before .before .before .before .before .before .before .before .before .before .before .before .before .pre) .1 .0) ((c .before .before .before .before .before .before .before .before .before .before .before .before .before .before .before .before .before .before .before .before .before .before .before .before .before .pre) .1 .1 .0 .0) ((c .before .before .before .before .before .before .before .before .before .before .before .before .before .before .before .before .before .before .before .before .before .before .before .before .before .pre) .1 .1 .1 .0 .0) ((c .before .before .before .before .before .before .before .before .before .before .before .before .before .before .before .before .before .before .before .before .before .before .before .before .before .pre) .1 .1 .1 .0 .1 .0) ((c .before .before .before .before .before .before .before .before .before .before .before .before .before .before .before .before .before .before .before .before .before .before .before .before .before .pre) .1 .1 .1 .0 .1 .1) ((c .before .before .before .before .before .before .before .before .before .before .before .before .before .before .before .before .keep) .ensures .row) ((c .before .before .before .before .before .before .before .before .before .choose-turn) .ensures)) .inner))))
+
+enter-add-descend : (t : ℕ) → enter-lts.Need-add-descend (
+  keep-reads.Asked,
+  keep-reads.Learnt,
+  choose-turn-reads.Asked,
+  choose-turn-reads.Learnt,
+  put-reads.Asked,
+  put-reads.Learnt,
+  descend-below t,
+  descend.Post,
+) (enter-at t) enter.Post
+enter-add-descend t c = omega (arith, (c .before .before .before .before .before .before .before .before .before .before .before .before .before .before .before .before .before .before .before .before .before .before .before .before .before .pre) .1 .0 .short, (c .before .before .before .before .before .before .before .before .before .before .before .before .before .before .before .before .before .before .before .before .before .before .before .before .before .pre) .1 .1 .1 .0)
+
+enter-descend-requires : (t : ℕ) → enter-lts.Need-descend-requires (
+  keep-reads.Asked,
+  keep-reads.Learnt,
+  choose-turn-reads.Asked,
+  choose-turn-reads.Learnt,
+  put-reads.Asked,
+  put-reads.Learnt,
+  descend-below t,
+  descend.Post,
+) (enter-at t) enter.Post
+enter-descend-requires t c κs = (omega (arith, (c .before .before .before .before .before .before .before .before .before .before .before .before .before .before .before .before .before .before .before .before .before .before .before .before .before .before .before .pre) .0, (c .before .before .before .before .before .before .before .before .before .before .before .before .before .before .before .before .before .before .before .before .before .before .before .before .before .before .before .pre) .1 .1 .1 .0), (narrow _ _ ((c .before .before .before .before .before .before .before .before .before .before .before .before .before .before .before .before .before .before .before .before .before .before .before .before .before .before .before .pre) .1 .0) ((turned-part ((c .before .before .before .before .before .before .before .before .before .before .before .choose-turn) .result) ((c .before .before .before .before .before .before .before .before .before .before .before .before .before .before .before .before .before .before .before .before .before .before .before .before .before .before .before .pre) .1 .0) ((c .before .before .before .before .before .before .before .before .before .before .before .before .before .before .before .before .before .before .before .before .before .before .before .before .before .before .before .pre) .1 .1 .0 .0) ((c .before .before .before .before .before .before .before .before .before .before .before .before .before .before .before .before .before .before .before .before .before .before .before .before .before .before .before .pre) .1 .1 .1 .0 .0) ((c .before .before .before .before .before .before .before .before .before .before .before .before .before .before .before .before .before .before .before .before .before .before .before .before .before .before .before .pre) .1 .1 .1 .0 .1 .0) ((c .before .before .before .before .before .before .before .before .before .before .before .before .before .before .before .before .before .before .before .before .before .before .before .before .before .before .before .pre) .1 .1 .1 .0 .1 .1) ((c .before .before .before .before .before .before .before .before .before .before .before .before .before .before .before .before .before .before .keep) .ensures .row) ((c .before .before .before .before .before .before .before .before .before .before .before .choose-turn) .ensures)) .order) (omega (arith, (turned-part ((c .before .before .before .before .before .before .before .before .before .before .before .choose-turn) .result) ((c .before .before .before .before .before .before .before .before .before .before .before .before .before .before .before .before .before .before .before .before .before .before .before .before .before .before .before .pre) .1 .0) ((c .before .before .before .before .before .before .before .before .before .before .before .before .before .before .before .before .before .before .before .before .before .before .before .before .before .before .before .pre) .1 .1 .0 .0) ((c .before .before .before .before .before .before .before .before .before .before .before .before .before .before .before .before .before .before .before .before .before .before .before .before .before .before .before .pre) .1 .1 .1 .0 .0) ((c .before .before .before .before .before .before .before .before .before .before .before .before .before .before .before .before .before .before .before .before .before .before .before .before .before .before .before .pre) .1 .1 .1 .0 .1 .0) ((c .before .before .before .before .before .before .before .before .before .before .before .before .before .before .before .before .before .before .before .before .before .before .before .before .before .before .before .pre) .1 .1 .1 .0 .1 .1) ((c .before .before .before .before .before .before .before .before .before .before .before .before .before .before .before .before .before .before .keep) .ensures .row) ((c .before .before .before .before .before .before .before .before .before .before .before .choose-turn) .ensures)) .goes, (turned-part ((c .before .before .before .before .before .before .before .before .before .before .before .choose-turn) .result) ((c .before .before .before .before .before .before .before .before .before .before .before .before .before .before .before .before .before .before .before .before .before .before .before .before .before .before .before .pre) .1 .0) ((c .before .before .before .before .before .before .before .before .before .before .before .before .before .before .before .before .before .before .before .before .before .before .before .before .before .before .before .pre) .1 .1 .0 .0) ((c .before .before .before .before .before .before .before .before .before .before .before .before .before .before .before .before .before .before .before .before .before .before .before .before .before .before .before .pre) .1 .1 .1 .0 .0) ((c .before .before .before .before .before .before .before .before .before .before .before .before .before .before .before .before .before .before .before .before .before .before .before .before .before .before .before .pre) .1 .1 .1 .0 .1 .0) ((c .before .before .before .before .before .before .before .before .before .before .before .before .before .before .before .before .before .before .before .before .before .before .before .before .before .before .before .pre) .1 .1 .1 .0 .1 .1) ((c .before .before .before .before .before .before .before .before .before .before .before .before .before .before .before .before .before .before .keep) .ensures .row) ((c .before .before .before .before .before .before .before .before .before .before .before .choose-turn) .ensures)) .ends, (c .before .before .before .before .before .before .before .before .before .before .before .before .before .before .before .before .before .before .before .before .before .before .before .before .before .before .before .pre) .1 .0 .window .ends)), ((omega (arith, (c .before .before .before .before .before .before .before .before .before .before .before .before .before .before .before .before .before .before .before .before .before .before .before .before .before .before .before .pre) .1 .1 .1 .0), omega (arith, (c .before .before .before .before .before .before .before .before .before .before .before .before .before .before .before .before .before .before .before .before .before .before .before .before .before .before .before .pre) .1 .1 .1 .0)), ((turned-part ((c .before .before .before .before .before .before .before .before .before .before .before .choose-turn) .result) ((c .before .before .before .before .before .before .before .before .before .before .before .before .before .before .before .before .before .before .before .before .before .before .before .before .before .before .before .pre) .1 .0) ((c .before .before .before .before .before .before .before .before .before .before .before .before .before .before .before .before .before .before .before .before .before .before .before .before .before .before .before .pre) .1 .1 .0 .0) ((c .before .before .before .before .before .before .before .before .before .before .before .before .before .before .before .before .before .before .before .before .before .before .before .before .before .before .before .pre) .1 .1 .1 .0 .0) ((c .before .before .before .before .before .before .before .before .before .before .before .before .before .before .before .before .before .before .before .before .before .before .before .before .before .before .before .pre) .1 .1 .1 .0 .1 .0) ((c .before .before .before .before .before .before .before .before .before .before .before .before .before .before .before .before .before .before .before .before .before .before .before .before .before .before .before .pre) .1 .1 .1 .0 .1 .1) ((c .before .before .before .before .before .before .before .before .before .before .before .before .before .before .before .before .before .before .keep) .ensures .row) ((c .before .before .before .before .before .before .before .before .before .before .before .choose-turn) .ensures)) .inner, (inner-sealed ((c .before .before .before .before .before .before .before .before .before .before .before .before .before .before .before .before .before .before .before .before .before .before .before .before .before .before .before .pre) .1 .0 .molecule) _ _ ((c .before .before .before .before .before .before .before .before .before .before .before .before .before .before .before .before .before .before .before .before .before .before .before .before .before .before .before .pre) .1 .1 .1 .0 .0) ((c .before .before .before .before .before .before .before .before .before .before .before .before .before .before .before .before .before .before .before .before .before .before .before .before .before .before .before .pre) .1 .1 .1 .0 .1 .0) ((c .before .before .before .before .before .before .before .before .before .before .before .before .before .before .before .before .before .before .before .before .before .before .before .before .before .before .before .pre) .1 .1 .1 .0 .1 .1), (((c .before .before .before .before .before .before .before .before .before .before .before .before .before .before .before .before .before .before .before .before .before .before .before .before .before .before .before .pre) .1 .1 .1 .1 .0 .0, λ o. below-next ((c .before .before .before .before .before .before .before .before .before .before .before .before .before .before .before .before .before .before .before .before .before .before .before .before .before .before .before .pre) .1 .1 .1 .0 .1 .1) ((c .before .before .before .before .before .before .before .before .before .before .before .before .before .before .before .before .before .before .before .before .before .before .before .before .before .before .before .pre) .1 .1 .1 .1 .0 .1 o) ((c .before .before .if1) .left)), (kept-under _ _ ((turned-part ((c .before .before .before .before .before .before .before .before .before .before .before .choose-turn) .result) ((c .before .before .before .before .before .before .before .before .before .before .before .before .before .before .before .before .before .before .before .before .before .before .before .before .before .before .before .pre) .1 .0) ((c .before .before .before .before .before .before .before .before .before .before .before .before .before .before .before .before .before .before .before .before .before .before .before .before .before .before .before .pre) .1 .1 .0 .0) ((c .before .before .before .before .before .before .before .before .before .before .before .before .before .before .before .before .before .before .before .before .before .before .before .before .before .before .before .pre) .1 .1 .1 .0 .0) ((c .before .before .before .before .before .before .before .before .before .before .before .before .before .before .before .before .before .before .before .before .before .before .before .before .before .before .before .pre) .1 .1 .1 .0 .1 .0) ((c .before .before .before .before .before .before .before .before .before .before .before .before .before .before .before .before .before .before .before .before .before .before .before .before .before .before .before .pre) .1 .1 .1 .0 .1 .1) ((c .before .before .before .before .before .before .before .before .before .before .before .before .before .before .before .before .before .before .keep) .ensures .row) ((c .before .before .before .before .before .before .before .before .before .before .before .choose-turn) .ensures)) .low) (omega (arith, (turned-part ((c .before .before .before .before .before .before .before .before .before .before .before .choose-turn) .result) ((c .before .before .before .before .before .before .before .before .before .before .before .before .before .before .before .before .before .before .before .before .before .before .before .before .before .before .before .pre) .1 .0) ((c .before .before .before .before .before .before .before .before .before .before .before .before .before .before .before .before .before .before .before .before .before .before .before .before .before .before .before .pre) .1 .1 .0 .0) ((c .before .before .before .before .before .before .before .before .before .before .before .before .before .before .before .before .before .before .before .before .before .before .before .before .before .before .before .pre) .1 .1 .1 .0 .0) ((c .before .before .before .before .before .before .before .before .before .before .before .before .before .before .before .before .before .before .before .before .before .before .before .before .before .before .before .pre) .1 .1 .1 .0 .1 .0) ((c .before .before .before .before .before .before .before .before .before .before .before .before .before .before .before .before .before .before .before .before .before .before .before .before .before .before .before .pre) .1 .1 .1 .0 .1 .1) ((c .before .before .before .before .before .before .before .before .before .before .before .before .before .before .before .before .before .before .keep) .ensures .row) ((c .before .before .before .before .before .before .before .before .before .before .before .choose-turn) .ensures)) .goes, (turned-part ((c .before .before .before .before .before .before .before .before .before .before .before .choose-turn) .result) ((c .before .before .before .before .before .before .before .before .before .before .before .before .before .before .before .before .before .before .before .before .before .before .before .before .before .before .before .pre) .1 .0) ((c .before .before .before .before .before .before .before .before .before .before .before .before .before .before .before .before .before .before .before .before .before .before .before .before .before .before .before .pre) .1 .1 .0 .0) ((c .before .before .before .before .before .before .before .before .before .before .before .before .before .before .before .before .before .before .before .before .before .before .before .before .before .before .before .pre) .1 .1 .1 .0 .0) ((c .before .before .before .before .before .before .before .before .before .before .before .before .before .before .before .before .before .before .before .before .before .before .before .before .before .before .before .pre) .1 .1 .1 .0 .1 .0) ((c .before .before .before .before .before .before .before .before .before .before .before .before .before .before .before .before .before .before .before .before .before .before .before .before .before .before .before .pre) .1 .1 .1 .0 .1 .1) ((c .before .before .before .before .before .before .before .before .before .before .before .before .before .before .before .before .before .before .keep) .ensures .row) ((c .before .before .before .before .before .before .before .before .before .before .before .choose-turn) .ensures)) .ends)) ((c .before .before .before .before .before .before .before .before .before .before .before .before .before .before .before .before .before .before .keep) .ensures .under) ((c .before .before .before .before .before .before .before .before .before .before .before .before .before .before .before .before .before .before .before .before .before .before .before .before .before .before .before .pre) .1 .1 .1 .1 .1 .0), (omega (arith, (turned-part ((c .before .before .before .before .before .before .before .before .before .before .before .choose-turn) .result) ((c .before .before .before .before .before .before .before .before .before .before .before .before .before .before .before .before .before .before .before .before .before .before .before .before .before .before .before .pre) .1 .0) ((c .before .before .before .before .before .before .before .before .before .before .before .before .before .before .before .before .before .before .before .before .before .before .before .before .before .before .before .pre) .1 .1 .0 .0) ((c .before .before .before .before .before .before .before .before .before .before .before .before .before .before .before .before .before .before .before .before .before .before .before .before .before .before .before .pre) .1 .1 .1 .0 .0) ((c .before .before .before .before .before .before .before .before .before .before .before .before .before .before .before .before .before .before .before .before .before .before .before .before .before .before .before .pre) .1 .1 .1 .0 .1 .0) ((c .before .before .before .before .before .before .before .before .before .before .before .before .before .before .before .before .before .before .before .before .before .before .before .before .before .before .before .pre) .1 .1 .1 .0 .1 .1) ((c .before .before .before .before .before .before .before .before .before .before .before .before .before .before .before .before .before .before .keep) .ensures .row) ((c .before .before .before .before .before .before .before .before .before .before .before .choose-turn) .ensures)) .goes, (turned-part ((c .before .before .before .before .before .before .before .before .before .before .before .choose-turn) .result) ((c .before .before .before .before .before .before .before .before .before .before .before .before .before .before .before .before .before .before .before .before .before .before .before .before .before .before .before .pre) .1 .0) ((c .before .before .before .before .before .before .before .before .before .before .before .before .before .before .before .before .before .before .before .before .before .before .before .before .before .before .before .pre) .1 .1 .0 .0) ((c .before .before .before .before .before .before .before .before .before .before .before .before .before .before .before .before .before .before .before .before .before .before .before .before .before .before .before .pre) .1 .1 .1 .0 .0) ((c .before .before .before .before .before .before .before .before .before .before .before .before .before .before .before .before .before .before .before .before .before .before .before .before .before .before .before .pre) .1 .1 .1 .0 .1 .0) ((c .before .before .before .before .before .before .before .before .before .before .before .before .before .before .before .before .before .before .before .before .before .before .before .before .before .before .before .pre) .1 .1 .1 .0 .1 .1) ((c .before .before .before .before .before .before .before .before .before .before .before .before .before .before .before .before .before .before .keep) .ensures .row) ((c .before .before .before .before .before .before .before .before .before .before .before .choose-turn) .ensures)) .ends, (c .before .before .before .before .before .before .before .before .before .before .before .before .before .before .before .before .before .before .before .before .before .before .before .before .before .before .before .pre) .1 .1 .1 .1 .1 .1 .0, (c .before .before .before .before .before .before .before .before .before .put) .ensures .long, (c .before .before .before .before .before .put2) .ensures .long), (levels-at _ _ _ (omega arith) (omega arith) ((c .before .before .before .before .before .before .before .before .before .before .before .before .before .before .before .before .before .before .keep) .kept .1 .1 .1 .1 .1 .1 .1 .1 .1 .0) ((c .before .before .before .before .before .before .before .before .before .before .before .before .before .before .before .before .before .before .before .before .before .before .before .before .before .before .before .pre) .1 .1 .1 .1 .1 .1 .1 .0), (c .before .before .before .before .before .before .before .before .before .before .before .before .before .before .before .before .before .before .before .before .before .before .before .before .before .before .before .pre) .1 .1 .1 .1 .1 .1 .1 .1)))))))))
+
+enter-same-length-3 : (t : ℕ) → enter-lts.Need-same-length-3 (
+  keep-reads.Asked,
+  keep-reads.Learnt,
+  choose-turn-reads.Asked,
+  choose-turn-reads.Learnt,
+  put-reads.Asked,
+  put-reads.Learnt,
+  descend-below t,
+  descend.Post,
+) (enter-at t) enter.Post
+enter-same-length-3 t c = (c .before .before .before .before .descend) .kept .1 .1 .1 .1 .1 .1 .1 .1 .1 .0 ∙ (c .before .before .before .before .before .before .before .before .before .before .put2) .ensures .long ∙ (c .before .before .before .before .before .before .before .before .before .before .before .before .before .before .put) .ensures .long
+
+enter-same-length-4 : (t : ℕ) → enter-lts.Need-same-length-4 (
+  keep-reads.Asked,
+  keep-reads.Learnt,
+  choose-turn-reads.Asked,
+  choose-turn-reads.Learnt,
+  put-reads.Asked,
+  put-reads.Learnt,
+  descend-below t,
+  descend.Post,
+) (enter-at t) enter.Post
+enter-same-length-4 t c = (c .before .before .before .before .descend) .kept .1 .1 .1 .1 .1 .1 .1 .1 .1 .1 .0 ∙ (c .before .before .before .before .before .before .before .before .before .before .before .before .before .before .before .before .before .before .before .before .before .before .before .keep) .kept .1 .1 .1 .1 .1 .1 .1 .1 .1 .0
+
+enter-returns-2 : (t : ℕ) → enter-lts.Need-returns-2 (
+  keep-reads.Asked,
+  keep-reads.Learnt,
+  choose-turn-reads.Asked,
+  choose-turn-reads.Learnt,
+  put-reads.Asked,
+  put-reads.Learnt,
+  descend-below t,
+  descend.Post,
+) (enter-at t) enter.Post
+enter-returns-2 t c = ((turned-part ((c .before .before .before .before .before .before .before .before .before .before .before .before .before .before .before .before .choose-turn) .result) ((c .before .before .before .before .before .before .before .before .before .before .before .before .before .before .before .before .before .before .before .before .before .before .before .before .before .before .before .before .before .before .before .before .pre) .1 .0) ((c .before .before .before .before .before .before .before .before .before .before .before .before .before .before .before .before .before .before .before .before .before .before .before .before .before .before .before .before .before .before .before .before .pre) .1 .1 .0 .0) ((c .before .before .before .before .before .before .before .before .before .before .before .before .before .before .before .before .before .before .before .before .before .before .before .before .before .before .before .before .before .before .before .before .pre) .1 .1 .1 .0 .0) ((c .before .before .before .before .before .before .before .before .before .before .before .before .before .before .before .before .before .before .before .before .before .before .before .before .before .before .before .before .before .before .before .before .pre) .1 .1 .1 .0 .1 .0) ((c .before .before .before .before .before .before .before .before .before .before .before .before .before .before .before .before .before .before .before .before .before .before .before .before .before .before .before .before .before .before .before .before .pre) .1 .1 .1 .0 .1 .1) ((c .before .before .before .before .before .before .before .before .before .before .before .before .before .before .before .before .before .before .before .before .before .before .before .keep) .ensures .row) ((c .before .before .before .before .before .before .before .before .before .before .before .before .before .before .before .before .choose-turn) .ensures)) .best, but-turn (turned-part ((c .before .before .before .before .before .before .before .before .before .before .before .before .before .before .before .before .choose-turn) .result) ((c .before .before .before .before .before .before .before .before .before .before .before .before .before .before .before .before .before .before .before .before .before .before .before .before .before .before .before .before .before .before .before .before .pre) .1 .0) ((c .before .before .before .before .before .before .before .before .before .before .before .before .before .before .before .before .before .before .before .before .before .before .before .before .before .before .before .before .before .before .before .before .pre) .1 .1 .0 .0) ((c .before .before .before .before .before .before .before .before .before .before .before .before .before .before .before .before .before .before .before .before .before .before .before .before .before .before .before .before .before .before .before .before .pre) .1 .1 .1 .0 .0) ((c .before .before .before .before .before .before .before .before .before .before .before .before .before .before .before .before .before .before .before .before .before .before .before .before .before .before .before .before .before .before .before .before .pre) .1 .1 .1 .0 .1 .0) ((c .before .before .before .before .before .before .before .before .before .before .before .before .before .before .before .before .before .before .before .before .before .before .before .before .before .before .before .before .before .before .before .before .pre) .1 .1 .1 .0 .1 .1) ((c .before .before .before .before .before .before .before .before .before .before .before .before .before .before .before .before .before .before .before .before .before .before .before .keep) .ensures .row) ((c .before .before .before .before .before .before .before .before .before .before .before .before .before .before .before .before .choose-turn) .ensures)) ((c .before .before .before .before .before .before .before .before .before .before .before .before .before .before .put) .ensures) ((c .before .before .before .before .before .before .before .before .before .before .put2) .ensures) ((c .before .before .before .before .descend) .ensures))
+
+past-mate-requires : (t : ℕ) → past-lts.Need-mate-requires (
+  mate-reads.Asked,
+  mate-reads.Learnt,
+  place-below t,
+  place.Post,
+  enter-below t,
+  enter.Post,
+) (past-at t) past.Post
+past-mate-requires t c κs = omega (arith, (c .before .before .before .before .before .before .before .pre) .1 .0 .equal, (c .before .before .before .before .before .before .before .pre) .1 .1 .0)
+
+past-place-requires : (t : ℕ) → past-lts.Need-place-requires (
+  mate-reads.Asked,
+  mate-reads.Learnt,
+  place-below t,
+  place.Post,
+  enter-below t,
+  enter.Post,
+) (past-at t) past.Post
+past-place-requires t c κs = (omega (arith, (c .before .before .before .before .before .before .before .before .before .before .before .pre) .0), ((c .before .before .before .before .before .before .before .before .before .before .before .pre) .1 .0, ((omega (arith, (c .before .before .before .before .before .before .before .before .before .before .before .pre) .1 .1 .0), (c .before .before .before .before .before .before .before .before .before .before .before .pre) .1 .1 .0 .1 .1), ((c .before .before .before .before .before .before .before .before .before .before .before .pre) .1 .1 .1 .1 .0 .0, ((c .before .before .before .before .before .before .before .before .before .before .before .pre) .1 .1 .1 .1 .1 .1 .1 .0, (levels-all (nth ((c .before .before .before .before .before .before .before .before .before .before .before .args) .qm .now) ((c .before .before .before .before .before .before .before .before .before .before .before .args) .stop) - (c .before .before .before .before .before .before .before .before .before .before .before .args) .stop) ((c .before .before .before .before .before .before .before .before .before .before .before .pre) .1 .1 .1 .1 .0 .0) (box-none ((c .before .before .before .before .before .before .before .before .before .before .before .pre) .1 .0 .molecule) ((c .before .before .before .before .before .before .before .before .before .before .before .pre) .1 .0 .equal) ((c .before .before .before .before .before .before .before .before .before .before .before .pre) .1 .1 .1 .1 .1 .0 .1) ((c .before .before .before .before .before .before .before .before .before .before .before .pre) .1 .1 .1 .1 .0 .1) (omega (arith, first-end ((c .before .before .before .before .before .before .before .before .before .before .before .pre) .1 .0 .molecule) ((c .before .before .before .before .before .before .before .before .before .before .before .pre) .1 .1 .1 .1 .0 .0) ((c .before .before .before .before .before .before .before .before .before .before .before .pre) .1 .1 .0 .1 .1) ((c .before .before .before .before .before .before .before .before .before .before .before .pre) .1 .1 .0 .1 .0) ((c .before .before .before .before .before .before .before .before .before .before .before .pre) .1 .1 .1 .1 .0 .1) (sym ((c .before .before .before .mate) .ensures)), (c .before .before .before .before .before .before .before .before .before .before .before .pre) .1 .1 .0, (c .before .before .before .mate) .ensures)) (omega (arith, (c .before .before .before .mate) .ensures, (c .before .before .if1) .taken))) ((c .before .before .before .before .before .before .before .before .before .before .before .pre) .1 .1 .1 .1 .1 .1 .1 .1 .0), (c .before .before .before .before .before .before .before .before .before .before .before .pre) .1 .1 .1 .1 .1 .1 .1 .1 .1))))))
+
+past-same-length : (t : ℕ) → past-lts.Need-same-length (
+  mate-reads.Asked,
+  mate-reads.Learnt,
+  place-below t,
+  place.Post,
+  enter-below t,
+  enter.Post,
+) (past-at t) past.Post
+past-same-length t c = (c .before .before .before .before .place) .kept .1 .1 .1 .1 .1 .1 .1 .1 .0
+
+past-same-length-2 : (t : ℕ) → past-lts.Need-same-length-2 (
+  mate-reads.Asked,
+  mate-reads.Learnt,
+  place-below t,
+  place.Post,
+  enter-below t,
+  enter.Post,
+) (past-at t) past.Post
+past-same-length-2 t c = (c .before .before .before .before .place) .kept .1 .1 .1 .1 .1 .1 .1 .1 .1 .0
+
+past-returns : (t : ℕ) → past-lts.Need-returns (
+  mate-reads.Asked,
+  mate-reads.Learnt,
+  place-below t,
+  place.Post,
+  enter-below t,
+  enter.Post,
+) (past-at t) past.Post
+past-returns t c = but-taken _ _ ((c .before .before .before .before .place) .ensures .0) ((c .before .before .before .before .before .before .before .before .before .before .before .before .before .before .before .before .pre) .1 .1 .1 .0) ((c .before .before .before .before .place) .ensures .1)
+
+past-enter-requires : (t : ℕ) → past-lts.Need-enter-requires (
+  mate-reads.Asked,
+  mate-reads.Learnt,
+  place-below t,
+  place.Post,
+  enter-below t,
+  enter.Post,
+) (past-at t) past.Post
+past-enter-requires t c κs = (omega (arith, (c .before .before .before .before .before .before .before .before .before .before .before .pre) .0, first-end ((c .before .before .before .before .before .before .before .before .before .before .before .pre) .1 .0 .molecule) ((c .before .before .before .before .before .before .before .before .before .before .before .pre) .1 .1 .1 .1 .0 .0) ((c .before .before .before .before .before .before .before .before .before .before .before .pre) .1 .1 .0 .1 .1) ((c .before .before .before .before .before .before .before .before .before .before .before .pre) .1 .1 .0 .1 .0) ((c .before .before .before .before .before .before .before .before .before .before .before .pre) .1 .1 .1 .1 .0 .1) (sym ((c .before .before .before .mate) .ensures))), ((c .before .before .before .before .before .before .before .before .before .before .before .pre) .1 .0, (((c .before .before .before .before .before .before .before .before .before .before .before .pre) .1 .1 .0 .0, (c .before .before .before .before .before .before .before .before .before .before .before .pre) .1 .1 .1 .0 .closed), ((omega (arith, (c .before .before .before .mate) .ensures, (c .before .before .before .before .before .before .before .before .before .before .before .pre) .1 .1 .1 .1 .0 .1), (omega (arith, first-end ((c .before .before .before .before .before .before .before .before .before .before .before .pre) .1 .0 .molecule) ((c .before .before .before .before .before .before .before .before .before .before .before .pre) .1 .1 .1 .1 .0 .0) ((c .before .before .before .before .before .before .before .before .before .before .before .pre) .1 .1 .0 .1 .1) ((c .before .before .before .before .before .before .before .before .before .before .before .pre) .1 .1 .0 .1 .0) ((c .before .before .before .before .before .before .before .before .before .before .before .pre) .1 .1 .1 .1 .0 .1) (sym ((c .before .before .before .mate) .ensures)), (c .before .before .before .before .before .before .before .before .before .before .before .pre) .1 .1 .0), sym ((c .before .before .before .mate) .ensures))), ((c .before .before .before .before .before .before .before .before .before .before .before .pre) .1 .1 .1 .1 .1 .0, ((c .before .before .before .before .before .before .before .before .before .before .before .pre) .1 .1 .1 .1 .1 .1 .0, ((c .before .before .before .before .before .before .before .before .before .before .before .pre) .1 .1 .1 .1 .1 .1 .1 .0, (levels-at _ _ _ (omega (arith, first-end ((c .before .before .before .before .before .before .before .before .before .before .before .pre) .1 .0 .molecule) ((c .before .before .before .before .before .before .before .before .before .before .before .pre) .1 .1 .1 .1 .0 .0) ((c .before .before .before .before .before .before .before .before .before .before .before .pre) .1 .1 .0 .1 .1) ((c .before .before .before .before .before .before .before .before .before .before .before .pre) .1 .1 .0 .1 .0) ((c .before .before .before .before .before .before .before .before .before .before .before .pre) .1 .1 .1 .1 .0 .1) (sym ((c .before .before .before .mate) .ensures)))) (omega (arith, first-end ((c .before .before .before .before .before .before .before .before .before .before .before .pre) .1 .0 .molecule) ((c .before .before .before .before .before .before .before .before .before .before .before .pre) .1 .1 .1 .1 .0 .0) ((c .before .before .before .before .before .before .before .before .before .before .before .pre) .1 .1 .0 .1 .1) ((c .before .before .before .before .before .before .before .before .before .before .before .pre) .1 .1 .0 .1 .0) ((c .before .before .before .before .before .before .before .before .before .before .before .pre) .1 .1 .1 .1 .0 .1) (sym ((c .before .before .before .mate) .ensures)))) refl ((c .before .before .before .before .before .before .before .before .before .before .before .pre) .1 .1 .1 .1 .1 .1 .1 .1 .0), (c .before .before .before .before .before .before .before .before .before .before .before .pre) .1 .1 .1 .1 .1 .1 .1 .1 .1))))))))
+
+past-add-place : (t : ℕ) → past-lts.Need-add-place (
+  mate-reads.Asked,
+  mate-reads.Learnt,
+  place-below t,
+  place.Post,
+  enter-below t,
+  enter.Post,
+) (past-at t) past.Post
+past-add-place t c = omega (arith, first-end ((c .before .before .before .before .before .before .before .before .before .before .before .before .before .before .before .before .pre) .1 .0 .molecule) ((c .before .before .before .before .before .before .before .before .before .before .before .before .before .before .before .before .pre) .1 .1 .1 .1 .0 .0) ((c .before .before .before .before .before .before .before .before .before .before .before .before .before .before .before .before .pre) .1 .1 .0 .1 .1) ((c .before .before .before .before .before .before .before .before .before .before .before .before .before .before .before .before .pre) .1 .1 .0 .1 .0) ((c .before .before .before .before .before .before .before .before .before .before .before .before .before .before .before .before .pre) .1 .1 .1 .1 .0 .1) (sym ((c .before .before .before .before .before .before .before .before .mate) .ensures)), (c .before .before .before .before .before .before .before .before .before .before .before .before .before .before .before .before .pre) .1 .1 .0, (c .before .before .before .before .before .before .before .before .before .before .before .before .before .before .before .before .pre) .1 .0 .short)
+
+past-place-requires-2 : (t : ℕ) → past-lts.Need-place-requires-2 (
+  mate-reads.Asked,
+  mate-reads.Learnt,
+  place-below t,
+  place.Post,
+  enter-below t,
+  enter.Post,
+) (past-at t) past.Post
+past-place-requires-2 t c κs = (omega (arith, (c .before .before .before .before .before .before .before .before .before .before .before .before .before .before .before .before .before .before .pre) .0, (c .before .before .before .before .before .before .before .before .before .before .mate) .ensures, (c .before .before .before .before .before .before .before .before .before .before .before .before .before .before .before .before .before .before .pre) .1 .1 .1 .1 .0 .1), (narrow _ _ ((c .before .before .before .before .before .before .before .before .before .before .before .before .before .before .before .before .before .before .pre) .1 .0) ((c .before .before .before .before .before .before .enter) .ensures .0 .reach .upto) ((c .before .before .before .before .before .before .before .before .before .before .before .before .before .before .before .before .before .before .pre) .1 .0 .window .ends), ((omega (arith, first-end ((c .before .before .before .before .before .before .before .before .before .before .before .before .before .before .before .before .before .before .pre) .1 .0 .molecule) ((c .before .before .before .before .before .before .before .before .before .before .before .before .before .before .before .before .before .before .pre) .1 .1 .1 .1 .0 .0) ((c .before .before .before .before .before .before .before .before .before .before .before .before .before .before .before .before .before .before .pre) .1 .1 .0 .1 .1) ((c .before .before .before .before .before .before .before .before .before .before .before .before .before .before .before .before .before .before .pre) .1 .1 .0 .1 .0) ((c .before .before .before .before .before .before .before .before .before .before .before .before .before .before .before .before .before .before .pre) .1 .1 .1 .1 .0 .1) (sym ((c .before .before .before .before .before .before .before .before .before .before .mate) .ensures))), (c .before .before .before .before .before .before .before .before .before .before .before .before .before .before .before .before .before .before .pre) .1 .1 .0 .1 .1), (first-behind ((c .before .before .before .before .before .before .before .before .before .before .before .before .before .before .before .before .before .before .pre) .1 .0 .molecule) ((c .before .before .before .before .before .before .before .before .before .before .before .before .before .before .before .before .before .before .pre) .1 .1 .1 .1 .0 .0) ((c .before .before .before .before .before .before .before .before .before .before .before .before .before .before .before .before .before .before .pre) .1 .1 .0 .1 .1) ((c .before .before .before .before .before .before .before .before .before .before .before .before .before .before .before .before .before .before .pre) .1 .1 .0 .1 .0) ((c .before .before .before .before .before .before .before .before .before .before .before .before .before .before .before .before .before .before .pre) .1 .1 .1 .1 .0 .1) (sym ((c .before .before .before .before .before .before .before .before .before .before .mate) .ensures)), (omega (arith, (c .before .before .before .before .before .before .before .before .before .before .before .before .before .before .before .before .before .before .pre) .1 .1 .1 .1 .1 .1 .1 .0, (c .before .before .before .before .before .before .enter) .ensures .1 .long), (levels-behind (nth ((c .before .before .before .before .before .before .before .before .before .before .before .before .before .before .before .before .before .before .args) .qm .now) ((c .before .before .before .before .before .before .before .before .before .before .before .before .before .before .before .before .before .before .args) .stop) - (c .before .before .before .before .before .before .before .before .before .before .before .before .before .before .before .before .before .before .args) .stop) ((c .before .before .before .before .before .before .before .before .before .before .mate) .result) (length ((c .before .before .before .before .before .before .enter) .last .1 .1 .1 .1 .1 .1 .1 .1 .1 .1 .0)) (first-behind ((c .before .before .before .before .before .before .before .before .before .before .before .before .before .before .before .before .before .before .pre) .1 .0 .molecule) ((c .before .before .before .before .before .before .before .before .before .before .before .before .before .before .before .before .before .before .pre) .1 .1 .1 .1 .0 .0) ((c .before .before .before .before .before .before .before .before .before .before .before .before .before .before .before .before .before .before .pre) .1 .1 .0 .1 .1) ((c .before .before .before .before .before .before .before .before .before .before .before .before .before .before .before .before .before .before .pre) .1 .1 .0 .1 .0) ((c .before .before .before .before .before .before .before .before .before .before .before .before .before .before .before .before .before .before .pre) .1 .1 .1 .1 .0 .1) (sym ((c .before .before .before .before .before .before .before .before .before .before .mate) .ensures))) (omega (arith, box-size ((c .before .before .before .before .before .before .before .before .before .before .before .before .before .before .before .before .before .before .pre) .1 .0 .molecule) ((c .before .before .before .before .before .before .before .before .before .before .before .before .before .before .before .before .before .before .pre) .1 .0 .equal) ((c .before .before .before .before .before .before .before .before .before .before .before .before .before .before .before .before .before .before .pre) .1 .1 .1 .1 .1 .0 .1) ((c .before .before .before .before .before .before .before .before .before .before .before .before .before .before .before .before .before .before .pre) .1 .1 .1 .1 .0 .1) (omega (arith, first-end ((c .before .before .before .before .before .before .before .before .before .before .before .before .before .before .before .before .before .before .pre) .1 .0 .molecule) ((c .before .before .before .before .before .before .before .before .before .before .before .before .before .before .before .before .before .before .pre) .1 .1 .1 .1 .0 .0) ((c .before .before .before .before .before .before .before .before .before .before .before .before .before .before .before .before .before .before .pre) .1 .1 .0 .1 .1) ((c .before .before .before .before .before .before .before .before .before .before .before .before .before .before .before .before .before .before .pre) .1 .1 .0 .1 .0) ((c .before .before .before .before .before .before .before .before .before .before .before .before .before .before .before .before .before .before .pre) .1 .1 .1 .1 .0 .1) (sym ((c .before .before .before .before .before .before .before .before .before .before .mate) .ensures)), (c .before .before .before .before .before .before .before .before .before .before .before .before .before .before .before .before .before .before .pre) .1 .1 .0, (c .before .before .before .before .before .before .before .before .before .before .mate) .ensures)), (c .before .before .before .before .before .before .before .before .before .before .mate) .ensures)) (omega (arith, (c .before .before .before .before .before .before .before .before .before .before .mate) .ensures, (c .before .before .before .before .before .before .before .before .before .before .before .before .before .before .before .before .before .before .pre) .1 .1 .1 .1 .0 .1)) ((c .before .before .before .before .before .before .enter) .kept .1 .1 .1 .1 .1 .1 .1 .1 .1 .1 .0) ((c .before .before .before .before .before .before .before .before .before .before .before .before .before .before .before .before .before .before .pre) .1 .1 .1 .1 .1 .1 .1 .1 .0), (c .before .before .before .before .before .before .before .before .before .before .before .before .before .before .before .before .before .before .pre) .1 .1 .1 .1 .1 .1 .1 .1 .1))))))
+
+past-same-length-3 : (t : ℕ) → past-lts.Need-same-length-3 (
+  mate-reads.Asked,
+  mate-reads.Learnt,
+  place-below t,
+  place.Post,
+  enter-below t,
+  enter.Post,
+) (past-at t) past.Post
+past-same-length-3 t c = (c .before .before .before .before .place2) .kept .1 .1 .1 .1 .1 .1 .1 .1 .0 ∙ (c .before .before .before .before .before .before .before .before .before .before .before .enter) .kept .1 .1 .1 .1 .1 .1 .1 .1 .1 .0
+
+past-same-length-4 : (t : ℕ) → past-lts.Need-same-length-4 (
+  mate-reads.Asked,
+  mate-reads.Learnt,
+  place-below t,
+  place.Post,
+  enter-below t,
+  enter.Post,
+) (past-at t) past.Post
+past-same-length-4 t c = (c .before .before .before .before .place2) .kept .1 .1 .1 .1 .1 .1 .1 .1 .1 .0 ∙ (c .before .before .before .before .before .before .before .before .before .before .before .enter) .kept .1 .1 .1 .1 .1 .1 .1 .1 .1 .1 .0
+
+past-returns-2 : (t : ℕ) → past-lts.Need-returns-2 (
+  mate-reads.Asked,
+  mate-reads.Learnt,
+  place-below t,
+  place.Post,
+  enter-below t,
+  enter.Post,
+) (past-at t) past.Post
+past-returns-2 t c = but-rest (omega (arith, (c .before .before .before .before .before .before .before .before .before .before .before .before .before .before .before .mate) .ensures, (c .before .before .before .before .before .before .before .before .before .before .before .before .before .before .before .before .before .before .before .before .before .before .before .pre) .1 .1 .1 .1 .0 .1)) (omega (arith, first-end ((c .before .before .before .before .before .before .before .before .before .before .before .before .before .before .before .before .before .before .before .before .before .before .before .pre) .1 .0 .molecule) ((c .before .before .before .before .before .before .before .before .before .before .before .before .before .before .before .before .before .before .before .before .before .before .before .pre) .1 .1 .1 .1 .0 .0) ((c .before .before .before .before .before .before .before .before .before .before .before .before .before .before .before .before .before .before .before .before .before .before .before .pre) .1 .1 .0 .1 .1) ((c .before .before .before .before .before .before .before .before .before .before .before .before .before .before .before .before .before .before .before .before .before .before .before .pre) .1 .1 .0 .1 .0) ((c .before .before .before .before .before .before .before .before .before .before .before .before .before .before .before .before .before .before .before .before .before .before .before .pre) .1 .1 .1 .1 .0 .1) (sym ((c .before .before .before .before .before .before .before .before .before .before .before .before .before .before .before .mate) .ensures)))) (first-split ((c .before .before .before .before .before .before .before .before .before .before .before .before .before .before .before .before .before .before .before .before .before .before .before .pre) .1 .0 .molecule) ((c .before .before .before .before .before .before .before .before .before .before .before .before .before .before .before .before .before .before .before .before .before .before .before .pre) .1 .1 .1 .1 .0 .0) ((c .before .before .before .before .before .before .before .before .before .before .before .before .before .before .before .before .before .before .before .before .before .before .before .pre) .1 .1 .0 .1 .1) ((c .before .before .before .before .before .before .before .before .before .before .before .before .before .before .before .before .before .before .before .before .before .before .before .pre) .1 .1 .0 .1 .0) ((c .before .before .before .before .before .before .before .before .before .before .before .before .before .before .before .before .before .before .before .before .before .before .before .pre) .1 .1 .1 .1 .0 .1) (sym ((c .before .before .before .before .before .before .before .before .before .before .before .before .before .before .before .mate) .ensures))) ((c .before .before .before .before .before .before .before .before .before .before .before .enter) .ensures .0) ((c .before .before .before .before .place2) .ensures .0) ((c .before .before .before .before .before .before .before .before .before .before .before .before .before .before .before .before .before .before .before .before .before .before .before .pre) .1 .1 .1 .0) ((c .before .before .before .before .before .before .before .before .before .before .before .enter) .ensures .1) ((c .before .before .before .before .place2) .ensures .1)
+
+abbrev place-Inv-loop : place-lts.InvT-loop
+place-Inv-loop p pm q qm from to lo hi places₀ work₀ partner j₀ s₀ places work j s = Walked p pm q qm to from lo hi j s × Laid p pm q qm from j lo s places₀ places × (length work ≡ length work₀)
+
+abbrev place-μ-loop : place-lts.MeasureT-loop
+place-μ-loop p pm q qm from to lo hi places₀ work₀ partner j₀ s₀ places work j s = hi - s
+
+place-loop-holds : (t : ℕ) → place-lts.Need-loop-holds (
+  mate-reads.Asked,
+  mate-reads.Learnt,
+  turn-at-reads.Asked,
+  turn-at-reads.Learnt,
+  put-reads.Asked,
+  put-reads.Learnt,
+  descend-below t,
+  descend.Post,
+  unit-reads.Asked,
+  unit-reads.Learnt,
+) (place-at t) place.Post place-Inv-loop place-μ-loop
+place-loop-holds t c = (walked-none ((c .before .before .before .before .before .before .before .pre) .1 .0 .window .order) ((c .before .before .before .before .before .before .before .pre) .1 .1 .0 .0), laid-none _ _ _ _, refl)
+
+place-same-length : (t : ℕ) → place-lts.Need-same-length (
+  mate-reads.Asked,
+  mate-reads.Learnt,
+  turn-at-reads.Asked,
+  turn-at-reads.Learnt,
+  put-reads.Asked,
+  put-reads.Learnt,
+  descend-below t,
+  descend.Post,
+  unit-reads.Asked,
+  unit-reads.Learnt,
+) (place-at t) place.Post place-Inv-loop place-μ-loop
+place-same-length t c = (c .before .before .loop) .inv .1 .long
+
+place-same-length-2 : (t : ℕ) → place-lts.Need-same-length-2 (
+  mate-reads.Asked,
+  mate-reads.Learnt,
+  turn-at-reads.Asked,
+  turn-at-reads.Learnt,
+  put-reads.Asked,
+  put-reads.Learnt,
+  descend-below t,
+  descend.Post,
+  unit-reads.Asked,
+  unit-reads.Learnt,
+) (place-at t) place.Post place-Inv-loop place-μ-loop
+place-same-length-2 t c = (c .before .before .loop) .inv .2
+
+place-returns : (t : ℕ) → place-lts.Need-returns (
+  mate-reads.Asked,
+  mate-reads.Learnt,
+  turn-at-reads.Asked,
+  turn-at-reads.Learnt,
+  put-reads.Asked,
+  put-reads.Learnt,
+  descend-below t,
+  descend.Post,
+  unit-reads.Asked,
+  unit-reads.Learnt,
+) (place-at t) place.Post place-Inv-loop place-μ-loop
+place-returns t c = (best-all ((c .before .before .loop) .inv .0 .high) ((c .if1) .taken) ((c .before .before .loop) .inv .0 .best), laid-wide _ ((c .before .before .loop) .inv .0 .high) ((c .before .before .loop) .inv .1))
+
+place-mate-requires : (t : ℕ) → place-lts.Need-mate-requires (
+  mate-reads.Asked,
+  mate-reads.Learnt,
+  turn-at-reads.Asked,
+  turn-at-reads.Learnt,
+  put-reads.Asked,
+  put-reads.Learnt,
+  descend-below t,
+  descend.Post,
+  unit-reads.Asked,
+  unit-reads.Learnt,
+) (place-at t) place.Post place-Inv-loop place-μ-loop
+place-mate-requires t c κs = omega (arith, (c .before .before .before .before .before .before .before .before .before .before .pre) .1 .0 .equal, (c .before .before .before .before .before .before .before .before .before .before .pre) .1 .1 .0, (c .before .loop-test) .taken)
+
+place-turn-at-requires : (t : ℕ) → place-lts.Need-turn-at-requires (
+  mate-reads.Asked,
+  mate-reads.Learnt,
+  turn-at-reads.Asked,
+  turn-at-reads.Learnt,
+  put-reads.Asked,
+  put-reads.Learnt,
+  descend-below t,
+  descend.Post,
+  unit-reads.Asked,
+  unit-reads.Learnt,
+) (place-at t) place.Post place-Inv-loop place-μ-loop
+place-turn-at-requires t c κs = (narrow _ _ ((c .before .before .before .before .before .before .before .before .before .before .before .before .before .pre) .1 .0) (omega (arith, (c .before .before .before .if1) .left)) ((c .before .before .before .before .before .before .before .before .before .before .before .before .before .pre) .1 .0 .window .ends), ((c .before .before .before .if1) .left, (((c .before .if2) .taken, (omega (arith, walked-in ((c .before .before .before .before .before .before .before .before .before .before .before .before .before .pre) .1 .0 .molecule) ((c .before .before .before .before .before .before .before .before .before .before .before .before .before .pre) .1 .1 .0 .1) ((c .before .before .before .before .before .before .before .before .before .before .before .before .before .pre) .1 .1 .1 .0) ((c .before .before .before .before .before .loop) .inv .0) ((c .before .before .before .before .loop-test) .taken) _ ((c .before .before .mate) .ensures), (c .before .before .before .before .before .before .before .before .before .before .before .before .before .pre) .1 .1 .0), sym ((c .before .before .mate) .ensures))), (omega (arith, arcs-least ((c .before .before .before .before .before .before .before .before .before .before .before .before .before .pre) .1 .1 .1 .1 .1 .0), (c .before .before .before .before .before .loop) .inv .2), (c .before .before .before .before .before .before .before .before .before .before .before .before .before .pre) .1 .1 .1 .1 .1 .1))))
+
+place-put-requires : (t : ℕ) → place-lts.Need-put-requires (
+  mate-reads.Asked,
+  mate-reads.Learnt,
+  turn-at-reads.Asked,
+  turn-at-reads.Learnt,
+  put-reads.Asked,
+  put-reads.Learnt,
+  descend-below t,
+  descend.Post,
+  unit-reads.Asked,
+  unit-reads.Learnt,
+) (place-at t) place.Post place-Inv-loop place-μ-loop
+place-put-requires t c κs = (λ h. omega (arith, (c .before .before .before .before .before .before .before .before .before .before .before .before .before .before .before .before .before .pre) .1 .1 .1 .1 .0, (c .before .before .before .before .before .before .before .before .before .loop) .inv .1 .long, (c .before .before .before .before .before .before .before .if1) .left), omega (arith, (c .before .before .before .before .before .before .before .before .before .before .before .before .before .before .before .before .before .pre) .1 .0 .short, (c .before .before .before .before .before .before .before .before .before .before .before .before .before .before .before .before .before .pre) .1 .1 .0, (c .before .before .before .before .before .before .before .before .loop-test) .taken))
+
+place-put-requires-2 : (t : ℕ) → place-lts.Need-put-requires-2 (
+  mate-reads.Asked,
+  mate-reads.Learnt,
+  turn-at-reads.Asked,
+  turn-at-reads.Learnt,
+  put-reads.Asked,
+  put-reads.Learnt,
+  descend-below t,
+  descend.Post,
+  unit-reads.Asked,
+  unit-reads.Learnt,
+) (place-at t) place.Post place-Inv-loop place-μ-loop
+place-put-requires-2 t c κs = (λ h. omega (arith, h, (c .before .before .before .before .before .before .before .turn-at) .ensures .ends, (c .before .before .before .before .before .before .before .before .before .before .before .before .before .before .before .before .before .before .before .before .before .pre) .1 .1 .1 .1 .0, (c .before .before .before .before .before .before .before .before .before .before .before .before .before .loop) .inv .1 .long, (c .before .before .before .put) .ensures .long), omega (arith, (c .before .before .before .before .before .before .before .before .before .before .before .before .before .before .before .before .before .before .before .before .before .pre) .1 .0 .short, (c .before .before .before .before .before .before .before .before .before .before .before .before .before .before .before .before .before .before .before .before .before .pre) .1 .1 .0, walked-in ((c .before .before .before .before .before .before .before .before .before .before .before .before .before .before .before .before .before .before .before .before .before .pre) .1 .0 .molecule) ((c .before .before .before .before .before .before .before .before .before .before .before .before .before .before .before .before .before .before .before .before .before .pre) .1 .1 .0 .1) ((c .before .before .before .before .before .before .before .before .before .before .before .before .before .before .before .before .before .before .before .before .before .pre) .1 .1 .1 .0) ((c .before .before .before .before .before .before .before .before .before .before .before .before .before .loop) .inv .0) ((c .before .before .before .before .before .before .before .before .before .before .before .before .loop-test) .taken) _ ((c .before .before .before .before .before .before .before .before .before .before .mate) .ensures)))
+
+place-add-descend : (t : ℕ) → place-lts.Need-add-descend (
+  mate-reads.Asked,
+  mate-reads.Learnt,
+  turn-at-reads.Asked,
+  turn-at-reads.Learnt,
+  put-reads.Asked,
+  put-reads.Learnt,
+  descend-below t,
+  descend.Post,
+  unit-reads.Asked,
+  unit-reads.Learnt,
+) (place-at t) place.Post place-Inv-loop place-μ-loop
+place-add-descend t c = omega (arith, (c .before .before .before .before .before .before .before .before .before .before .before .before .before .before .before .before .before .before .before .before .before .before .before .before .pre) .1 .0 .short, (c .before .before .before .before .before .before .before .before .before .before .before .before .before .before .before .before .before .before .before .before .before .before .before .before .pre) .1 .1 .0, (c .before .before .before .before .before .before .before .before .before .before .before .before .before .before .before .loop-test) .taken)
+
+place-descend-requires : (t : ℕ) → place-lts.Need-descend-requires (
+  mate-reads.Asked,
+  mate-reads.Learnt,
+  turn-at-reads.Asked,
+  turn-at-reads.Learnt,
+  put-reads.Asked,
+  put-reads.Learnt,
+  descend-below t,
+  descend.Post,
+  unit-reads.Asked,
+  unit-reads.Learnt,
+) (place-at t) place.Post place-Inv-loop place-μ-loop
+place-descend-requires t c κs = (omega (arith, (c .before .before .before .before .before .before .before .before .before .before .before .before .before .before .before .before .before .before .before .before .before .before .before .before .before .before .pre) .0, walked-in ((c .before .before .before .before .before .before .before .before .before .before .before .before .before .before .before .before .before .before .before .before .before .before .before .before .before .before .pre) .1 .0 .molecule) ((c .before .before .before .before .before .before .before .before .before .before .before .before .before .before .before .before .before .before .before .before .before .before .before .before .before .before .pre) .1 .1 .0 .1) ((c .before .before .before .before .before .before .before .before .before .before .before .before .before .before .before .before .before .before .before .before .before .before .before .before .before .before .pre) .1 .1 .1 .0) ((c .before .before .before .before .before .before .before .before .before .before .before .before .before .before .before .before .before .before .loop) .inv .0) ((c .before .before .before .before .before .before .before .before .before .before .before .before .before .before .before .before .before .loop-test) .taken) _ ((c .before .before .before .before .before .before .before .before .before .before .before .before .before .before .before .mate) .ensures), (c .before .before .before .before .before .before .before .before .before .before .before .before .before .before .before .before .before .before .loop) .inv .0 .low, (c .before .before .before .before .before .before .before .before .before .before .before .before .before .before .if2) .taken), (narrow _ _ ((c .before .before .before .before .before .before .before .before .before .before .before .before .before .before .before .before .before .before .before .before .before .before .before .before .before .before .pre) .1 .0) ((c .before .before .before .before .before .before .before .before .before .before .before .before .turn-at) .ensures .order) (omega (arith, (c .before .before .before .before .before .before .before .before .before .before .before .before .turn-at) .ensures .goes, (c .before .before .before .before .before .before .before .before .before .before .before .before .turn-at) .ensures .ends, (c .before .before .before .before .before .before .before .before .before .before .before .before .before .before .before .before .before .before .before .before .before .before .before .before .before .before .pre) .1 .0 .window .ends)), ((omega (arith, (c .before .before .before .before .before .before .before .before .before .before .before .before .before .before .if2) .taken), omega (arith, walked-in ((c .before .before .before .before .before .before .before .before .before .before .before .before .before .before .before .before .before .before .before .before .before .before .before .before .before .before .pre) .1 .0 .molecule) ((c .before .before .before .before .before .before .before .before .before .before .before .before .before .before .before .before .before .before .before .before .before .before .before .before .before .before .pre) .1 .1 .0 .1) ((c .before .before .before .before .before .before .before .before .before .before .before .before .before .before .before .before .before .before .before .before .before .before .before .before .before .before .pre) .1 .1 .1 .0) ((c .before .before .before .before .before .before .before .before .before .before .before .before .before .before .before .before .before .before .loop) .inv .0) ((c .before .before .before .before .before .before .before .before .before .before .before .before .before .before .before .before .before .loop-test) .taken) _ ((c .before .before .before .before .before .before .before .before .before .before .before .before .before .before .before .mate) .ensures), (c .before .before .before .before .before .before .before .before .before .before .before .before .before .before .before .before .before .before .before .before .before .before .before .before .before .before .pre) .1 .1 .0)), ((c .before .before .before .before .before .before .before .before .before .before .before .before .turn-at) .ensures .inner, (inner-sealed ((c .before .before .before .before .before .before .before .before .before .before .before .before .before .before .before .before .before .before .before .before .before .before .before .before .before .before .pre) .1 .0 .molecule) _ _ ((c .before .before .before .before .before .before .before .before .before .before .before .before .before .before .if2) .taken) (omega (arith, walked-in ((c .before .before .before .before .before .before .before .before .before .before .before .before .before .before .before .before .before .before .before .before .before .before .before .before .before .before .pre) .1 .0 .molecule) ((c .before .before .before .before .before .before .before .before .before .before .before .before .before .before .before .before .before .before .before .before .before .before .before .before .before .before .pre) .1 .1 .0 .1) ((c .before .before .before .before .before .before .before .before .before .before .before .before .before .before .before .before .before .before .before .before .before .before .before .before .before .before .pre) .1 .1 .1 .0) ((c .before .before .before .before .before .before .before .before .before .before .before .before .before .before .before .before .before .before .loop) .inv .0) ((c .before .before .before .before .before .before .before .before .before .before .before .before .before .before .before .before .before .loop-test) .taken) _ ((c .before .before .before .before .before .before .before .before .before .before .before .before .before .before .before .mate) .ensures), (c .before .before .before .before .before .before .before .before .before .before .before .before .before .before .before .before .before .before .before .before .before .before .before .before .before .before .pre) .1 .1 .0)) (sym ((c .before .before .before .before .before .before .before .before .before .before .before .before .before .before .before .mate) .ensures)), ((omega arith, λ o. absurd (omega arith)), (kept-none _ _ _ (omega (arith, (c .before .before .before .before .before .before .before .before .before .before .before .before .turn-at) .ensures .goes, (c .before .before .before .before .before .before .before .before .before .before .before .before .turn-at) .ensures .ends, (c .before .before .before .before .before .before .before .before .before .before .before .before .before .before .before .before .before .before .before .before .before .before .before .before .before .before .pre) .1 .0 .window .ends)), (omega (arith, (c .before .before .before .before .before .before .before .before .before .before .before .before .turn-at) .ensures .goes, (c .before .before .before .before .before .before .before .before .before .before .before .before .turn-at) .ensures .ends, (c .before .before .before .before .before .before .before .before .before .before .before .before .before .before .before .before .before .before .before .before .before .before .before .before .before .before .pre) .1 .1 .1 .1 .0, (c .before .before .before .before .before .before .before .before .before .before .before .before .before .before .before .before .before .before .loop) .inv .1 .long, (c .before .before .before .before .before .before .before .before .put) .ensures .long, (c .before .before .before .before .put2) .ensures .long), (levels-arc (nth ((c .before .before .before .before .before .before .before .before .before .before .before .before .before .before .before .before .before .before .before .before .before .before .before .before .before .before .args) .qm .now) (length ((c .before .before .before .before .before .before .before .before .before .before .before .before .before .before .before .before .before .before .before .before .before .before .before .before .before .before .args) .q .now)) - length ((c .before .before .before .before .before .before .before .before .before .before .before .before .before .before .before .before .before .before .before .before .before .before .before .before .before .before .args) .q .now)) ((c .before .before .before .before .before .before .before .before .before .before .before .before .before .before .before .before .before .before .loop) .s) ((c .before .before .before .before .before .before .before .before .before .before .before .before .before .before .before .mate) .result) (length ((c .before .before .before .before .before .before .before .before .before .before .before .before .turn-at) .last .1 .1 .1 .1 .1 .1 .1 .1 .0)) ((c .before .before .before .before .before .before .before .before .before .before .before .before .turn-at) .kept .1 .1 .1 .1 .1 .1 .1 .1 .0 ∙ (c .before .before .before .before .before .before .before .before .before .before .before .before .before .before .before .before .before .before .loop) .inv .2) ((c .before .before .before .before .before .before .before .before .before .before .before .before .before .before .before .before .before .before .loop) .inv .0 .low) ((c .before .before .before .before .before .before .before .before .before .before .before .before .before .before .before .before .before .loop-test) .taken) (omega (arith, (c .before .before .before .before .before .before .before .before .before .before .before .before .before .before .if2) .taken, (c .before .before .before .before .before .before .before .before .before .before .before .before .before .before .before .mate) .ensures)) ((c .before .before .before .before .before .before .before .before .before .before .before .before .before .before .before .mate) .ensures) ((c .before .before .before .before .before .before .before .before .before .before .before .before .before .before .before .before .before .before .before .before .before .before .before .before .before .before .pre) .1 .1 .1 .1 .1 .0), (c .before .before .before .before .before .before .before .before .before .before .before .before .before .before .before .before .before .before .before .before .before .before .before .before .before .before .pre) .1 .1 .1 .1 .1 .1)))))))))
+
+place-shared-slice-read-unit : (t : ℕ) → place-lts.Need-shared-slice-read-unit (
+  mate-reads.Asked,
+  mate-reads.Learnt,
+  turn-at-reads.Asked,
+  turn-at-reads.Learnt,
+  put-reads.Asked,
+  put-reads.Learnt,
+  descend-below t,
+  descend.Post,
+  unit-reads.Asked,
+  unit-reads.Learnt,
+) (place-at t) place.Post place-Inv-loop place-μ-loop
+place-shared-slice-read-unit t c = omega (arith, (c .before .before .before .before .before .before .before .before .before .before .before .before .before .pre) .1 .1 .0, (c .before .before .before .before .loop-test) .taken)
+
+place-unit-requires : (t : ℕ) → place-lts.Need-unit-requires (
+  mate-reads.Asked,
+  mate-reads.Learnt,
+  turn-at-reads.Asked,
+  turn-at-reads.Learnt,
+  put-reads.Asked,
+  put-reads.Learnt,
+  descend-below t,
+  descend.Post,
+  unit-reads.Asked,
+  unit-reads.Learnt,
+) (place-at t) place.Post place-Inv-loop place-μ-loop
+place-unit-requires t c κs = ((c .before .before .before .before .before .before .before .before .before .before .before .before .before .pre) .1 .0 .window .same, (c .before .before .before .before .before .before .before .before .before .before .before .before .before .pre) .1 .0 .window .ends)
+
+place-put-requires-3 : (t : ℕ) → place-lts.Need-put-requires-3 (
+  mate-reads.Asked,
+  mate-reads.Learnt,
+  turn-at-reads.Asked,
+  turn-at-reads.Learnt,
+  put-reads.Asked,
+  put-reads.Learnt,
+  descend-below t,
+  descend.Post,
+  unit-reads.Asked,
+  unit-reads.Learnt,
+) (place-at t) place.Post place-Inv-loop place-μ-loop
+place-put-requires-3 t c κs = (λ h. omega (arith, (c .before .before .before .before .before .before .before .before .before .before .before .before .before .before .before .pre) .1 .1 .1 .1 .0, (c .before .before .before .before .before .before .before .loop) .inv .1 .long, (c .before .before .before .before .before .if1) .left), omega (arith, (c .before .before .before .before .before .before .before .before .before .before .before .before .before .before .before .pre) .1 .0 .short, (c .before .before .before .before .before .before .before .before .before .before .before .before .before .before .before .pre) .1 .1 .0, (c .before .before .before .before .before .before .loop-test) .taken))
+
+place-add-s : (t : ℕ) → place-lts.Need-add-s (
+  mate-reads.Asked,
+  mate-reads.Learnt,
+  turn-at-reads.Asked,
+  turn-at-reads.Learnt,
+  put-reads.Asked,
+  put-reads.Learnt,
+  descend-below t,
+  descend.Post,
+  unit-reads.Asked,
+  unit-reads.Learnt,
+) (place-at t) place.Post place-Inv-loop place-μ-loop
+place-add-s t c = omega (arith, walked-in ((c .before .before .before .before .before .before .before .before .before .before .before .before .pre) .1 .0 .molecule) ((c .before .before .before .before .before .before .before .before .before .before .before .before .pre) .1 .1 .0 .1) ((c .before .before .before .before .before .before .before .before .before .before .before .before .pre) .1 .1 .1 .0) ((c .before .before .before .before .loop) .inv .0) ((c .before .before .before .loop-test) .taken) _ ((c .before .mate) .ensures), (c .before .before .before .before .before .before .before .before .before .before .before .before .pre) .1 .0 .short, (c .before .before .before .before .before .before .before .before .before .before .before .before .pre) .1 .1 .0)
+
+place-loop-less : (t : ℕ) → place-lts.Need-loop-less (
+  mate-reads.Asked,
+  mate-reads.Learnt,
+  turn-at-reads.Asked,
+  turn-at-reads.Learnt,
+  put-reads.Asked,
+  put-reads.Learnt,
+  descend-below t,
+  descend.Post,
+  unit-reads.Asked,
+  unit-reads.Learnt,
+) (place-at t) place.Post place-Inv-loop place-μ-loop
+place-loop-less t c = omega (arith, walked-up ((c .before .before .before .before .before .before .before .before .before .before .before .before .pre) .1 .0 .molecule) ((c .before .before .before .before .before .before .before .before .before .before .before .before .pre) .1 .1 .0 .1) ((c .before .before .before .before .before .before .before .before .before .before .before .before .pre) .1 .1 .1 .0) ((c .before .before .before .before .loop) .inv .0) ((c .before .before .before .loop-test) .taken) _ ((c .before .mate) .ensures), walked-in ((c .before .before .before .before .before .before .before .before .before .before .before .before .pre) .1 .0 .molecule) ((c .before .before .before .before .before .before .before .before .before .before .before .before .pre) .1 .1 .0 .1) ((c .before .before .before .before .before .before .before .before .before .before .before .before .pre) .1 .1 .1 .0) ((c .before .before .before .before .loop) .inv .0) ((c .before .before .before .loop-test) .taken) _ ((c .before .mate) .ensures))
+
+place-loop-again : (t : ℕ) → place-lts.Need-loop-again (
+  mate-reads.Asked,
+  mate-reads.Learnt,
+  turn-at-reads.Asked,
+  turn-at-reads.Learnt,
+  put-reads.Asked,
+  put-reads.Learnt,
+  descend-below t,
+  descend.Post,
+  unit-reads.Asked,
+  unit-reads.Learnt,
+) (place-at t) place.Post place-Inv-loop place-μ-loop
+place-loop-again t c = ⊎-elim (λ w. (walked-step ((c .before .before .before .before .before .before .before .before .before .before .before .before .pre) .1 .0 .molecule) ((c .before .before .before .before .before .before .before .before .before .before .before .before .pre) .1 .1 .0 .1) ((c .before .before .before .before .before .before .before .before .before .before .before .before .pre) .1 .1 .1 .0) ((c .before .before .before .before .loop) .inv .0) ((c .before .before .before .loop-test) .taken) _ ((c .before .mate) .ensures) _ (rw (w .22) (w .2 .ensures .best)), rw (w .22, w .20) (laid-join ((c .before .before .before .before .loop) .j) ((c .before .before .before .before .loop) .s) ((c .before .before .before .before .loop) .inv .0 .best .reach .from) (w .2 .ensures .best .reach .from) ((c .before .before .before .before .loop) .inv .0 .low) (omega (arith, walked-up ((c .before .before .before .before .before .before .before .before .before .before .before .before .pre) .1 .0 .molecule) ((c .before .before .before .before .before .before .before .before .before .before .before .before .pre) .1 .1 .0 .1) ((c .before .before .before .before .before .before .before .before .before .before .before .before .pre) .1 .1 .1 .0) ((c .before .before .before .before .loop) .inv .0) ((c .before .before .before .loop-test) .taken) _ ((c .before .mate) .ensures))) ((c .before .before .before .before .loop) .inv .0 .best .reach .closed) (λ u a b d. absurd (omega (arith, (c .before .before .before .before .loop) .inv .0 .seal .high u a b))) ((c .before .before .before .before .loop) .inv .1) (but-end (omega (arith, (c .before .before .before .before .before .before .before .before .before .before .before .before .pre) .1 .0 .equal)) (but-turn (w .2 .ensures) (w .6 .ensures) (w .10 .ensures) (w .15 .ensures)))), ap length (w .21) ∙ w .15 .kept .1 .1 .1 .1 .1 .1 .1 .1 .1 .1 .0 ∙ w .2 .kept .1 .1 .1 .1 .1 .1 .1 .1 .0 ∙ (c .before .before .before .before .loop) .inv .2)) (λ w. (walked-step ((c .before .before .before .before .before .before .before .before .before .before .before .before .pre) .1 .0 .molecule) ((c .before .before .before .before .before .before .before .before .before .before .before .before .pre) .1 .1 .0 .1) ((c .before .before .before .before .before .before .before .before .before .before .before .before .pre) .1 .1 .1 .0) ((c .before .before .before .before .loop) .inv .0) ((c .before .before .before .loop-test) .taken) _ ((c .before .mate) .ensures) _ (rw (w .9, w .2 .ensures) (walked-unit ((c .before .before .before .before .before .before .before .before .before .before .before .before .pre) .1 .0 .molecule) ((c .before .before .before .before .before .before .before .before .before .before .before .before .pre) .1 .1 .0 .1) ((c .before .before .before .before .before .before .before .before .before .before .before .before .pre) .1 .1 .1 .0) ((c .before .before .before .before .loop) .inv .0) ((c .before .before .before .loop-test) .taken) _ ((c .before .mate) .ensures) (w .0 .left) (omega (arith, (c .before .before .if1) .left)))), rw (w .9, w .7) (laid-join ((c .before .before .before .before .loop) .j) ((c .before .before .before .before .loop) .s) ((c .before .before .before .before .loop) .inv .0 .best .reach .from) (rw (w .2 .ensures) ((walked-unit ((c .before .before .before .before .before .before .before .before .before .before .before .before .pre) .1 .0 .molecule) ((c .before .before .before .before .before .before .before .before .before .before .before .before .pre) .1 .1 .0 .1) ((c .before .before .before .before .before .before .before .before .before .before .before .before .pre) .1 .1 .1 .0) ((c .before .before .before .before .loop) .inv .0) ((c .before .before .before .loop-test) .taken) _ ((c .before .mate) .ensures) (w .0 .left) (omega (arith, (c .before .before .if1) .left))) .reach .from)) ((c .before .before .before .before .loop) .inv .0 .low) (omega (arith, walked-up ((c .before .before .before .before .before .before .before .before .before .before .before .before .pre) .1 .0 .molecule) ((c .before .before .before .before .before .before .before .before .before .before .before .before .pre) .1 .1 .0 .1) ((c .before .before .before .before .before .before .before .before .before .before .before .before .pre) .1 .1 .1 .0) ((c .before .before .before .before .loop) .inv .0) ((c .before .before .before .loop-test) .taken) _ ((c .before .mate) .ensures))) ((c .before .before .before .before .loop) .inv .0 .best .reach .closed) (λ u a b d. absurd (omega (arith, (c .before .before .before .before .loop) .inv .0 .seal .high u a b))) ((c .before .before .before .before .loop) .inv .1) (laid-unit _ _ _ _ _ (omega (arith, walked-up ((c .before .before .before .before .before .before .before .before .before .before .before .before .pre) .1 .0 .molecule) ((c .before .before .before .before .before .before .before .before .before .before .before .before .pre) .1 .1 .0 .1) ((c .before .before .before .before .before .before .before .before .before .before .before .before .pre) .1 .1 .1 .0) ((c .before .before .before .before .loop) .inv .0) ((c .before .before .before .loop-test) .taken) _ ((c .before .mate) .ensures), w .0 .left)) (w .2 .ensures) (w .4 .ensures))), ap length (w .8) ∙ (c .before .before .before .before .loop) .inv .2)) ((c .if2) .came)
+
+place-same-length-3 : (t : ℕ) → place-lts.Need-same-length-3 (
+  mate-reads.Asked,
+  mate-reads.Learnt,
+  turn-at-reads.Asked,
+  turn-at-reads.Learnt,
+  put-reads.Asked,
+  put-reads.Learnt,
+  descend-below t,
+  descend.Post,
+  unit-reads.Asked,
+  unit-reads.Learnt,
+) (place-at t) place.Post place-Inv-loop place-μ-loop
+place-same-length-3 t c = (c .before .loop) .inv .1 .long
+
+place-same-length-4 : (t : ℕ) → place-lts.Need-same-length-4 (
+  mate-reads.Asked,
+  mate-reads.Learnt,
+  turn-at-reads.Asked,
+  turn-at-reads.Learnt,
+  put-reads.Asked,
+  put-reads.Learnt,
+  descend-below t,
+  descend.Post,
+  unit-reads.Asked,
+  unit-reads.Learnt,
+) (place-at t) place.Post place-Inv-loop place-μ-loop
+place-same-length-4 t c = (c .before .loop) .inv .2
+
+place-returns-2 : (t : ℕ) → place-lts.Need-returns-2 (
+  mate-reads.Asked,
+  mate-reads.Learnt,
+  turn-at-reads.Asked,
+  turn-at-reads.Learnt,
+  put-reads.Asked,
+  put-reads.Learnt,
+  descend-below t,
+  descend.Post,
+  unit-reads.Asked,
+  unit-reads.Learnt,
+) (place-at t) place.Post place-Inv-loop place-μ-loop
+place-returns-2 t c = (best-end ((c .before .loop) .inv .0 .high) ((c .loop-test) .left) ((c .before .loop) .inv .0 .best), laid-wide _ ((c .before .loop) .inv .0 .high) ((c .before .loop) .inv .1))
+
+pub +along+descend+enter+past+place-spec : {M : Type 1} → statement M
++along+descend+enter+past+place-spec =
+    close μ-along μ-descend μ-enter μ-past μ-place (λ t. along-lts.spec (
+      middle-reads.Asked,
+      middle-reads.Learnt,
+      past-below t,
+      past.Post,
+      mate-reads.Asked,
+      mate-reads.Learnt,
+      keep-reads.Asked,
+      keep-reads.Learnt,
+      along-below t,
+      along.Post,
+      descend-below t,
+      descend.Post,
+    )
+    (along-at t)
+    along.Post
+    (along-add-w t)
+    (along-sub-middle t)
+    (along-middle-requires t)
+    (along-past-requires t)
+    (along-same-length t)
+    (along-same-length-2 t)
+    (along-returns t)
+    (along-mate-requires t)
+    (along-keep-requires t)
+    (along-mul-part t)
+    (along-sub-part t)
+    (along-part-part-start t)
+    (along-part-part-end t)
+    (along-along-requires t)
+    (along-add-descend t)
+    (along-descend-requires t)
+    (along-same-length-3 t)
+    (along-same-length-4 t)
+    (along-returns-2 t))
+    (λ t. descend-lts.spec (
+      heaviest-reads.Asked,
+      heaviest-reads.Learnt,
+      place-below t,
+      place.Post,
+      along-below t,
+      along.Post,
+    )
+    (descend-at t)
+    descend.Post
+    (descend-returns t)
+    (descend-add-w t)
+    (descend-heaviest-requires t)
+    (descend-mul-part t)
+    (descend-sub-part t)
+    (descend-part-part-start t)
+    (descend-part-part-end t)
+    (descend-place-requires t)
+    (descend-same-length t)
+    (descend-same-length-2 t)
+    (descend-returns-2 t)
+    (descend-along-requires t)
+    (descend-same-length-3 t)
+    (descend-same-length-4 t)
+    (descend-returns-3 t))
+    (λ t. enter-lts.spec (
+      keep-reads.Asked,
+      keep-reads.Learnt,
+      choose-turn-reads.Asked,
+      choose-turn-reads.Learnt,
+      put-reads.Asked,
+      put-reads.Learnt,
+      descend-below t,
+      descend.Post,
+    )
+    (enter-at t)
+    enter.Post
+    (enter-keep-requires t)
+    (enter-add-w t)
+    (enter-add-here t)
+    (enter-mul-here t)
+    (enter-slice-read-here t)
+    (enter-cast-here t)
+    (enter-add-after t)
+    (enter-add-after-2 t)
+    (enter-mul-after t)
+    (enter-slice-read-after t)
+    (enter-cast-after t)
+    (enter-shared-slice-read-choose-turn t)
+    (enter-shared-slice-read-choose-turn-2 t)
+    (enter-choose-turn-requires t)
+    (enter-put-requires t)
+    (enter-put-requires-2 t)
+    (enter-same-length t)
+    (enter-same-length-2 t)
+    (enter-returns t)
+    (enter-add-descend t)
+    (enter-descend-requires t)
+    (enter-same-length-3 t)
+    (enter-same-length-4 t)
+    (enter-returns-2 t))
+    (λ t. past-lts.spec (
+      mate-reads.Asked,
+      mate-reads.Learnt,
+      place-below t,
+      place.Post,
+      enter-below t,
+      enter.Post,
+    )
+    (past-at t)
+    past.Post
+    (past-mate-requires t)
+    (past-place-requires t)
+    (past-same-length t)
+    (past-same-length-2 t)
+    (past-returns t)
+    (past-enter-requires t)
+    (past-add-place t)
+    (past-place-requires-2 t)
+    (past-same-length-3 t)
+    (past-same-length-4 t)
+    (past-returns-2 t))
+    λ t. place-lts.spec (
+      mate-reads.Asked,
+      mate-reads.Learnt,
+      turn-at-reads.Asked,
+      turn-at-reads.Learnt,
+      put-reads.Asked,
+      put-reads.Learnt,
+      descend-below t,
+      descend.Post,
+      unit-reads.Asked,
+      unit-reads.Learnt,
+    )
+    (place-at t)
+    place.Post
+    place-Inv-loop
+    place-μ-loop
+    (place-loop-holds t)
+    (place-same-length t)
+    (place-same-length-2 t)
+    (place-returns t)
+    (place-mate-requires t)
+    (place-turn-at-requires t)
+    (place-put-requires t)
+    (place-put-requires-2 t)
+    (place-add-descend t)
+    (place-descend-requires t)
+    (place-shared-slice-read-unit t)
+    (place-unit-requires t)
+    (place-put-requires-3 t)
+    (place-add-s t)
+    (place-loop-less t)
+    (place-loop-again t)
+    (place-same-length-3 t)
+    (place-same-length-4 t)
+    (place-returns-2 t)
