@@ -8,7 +8,7 @@ ghost use Rattle.strand.specs.Refusals.{checkVerdict};
 ghost use Rattle.embedding.specs.Verify.{verifyAnswer};
 ghost use Rattle.matcher.specs.Answers.{lengthAnswer, showAnswer, WorkKept, PlacesShown};
 ghost use Rattle.catalog.specs.Motifs.{embeds};
-ghost use Rattle.catalog.specs.Calls.{addOutcome, removeOutcome, queryOutcome, workKept};
+ghost use Rattle.catalog.specs.Calls.{addOutcome, removeOutcome, queryOutcome, QueryWorkKept};
 ghost use Rattle.capi.specs.Interface.{checkTold, matchTold, verifyTold, updateSeen, seenUpdate, querySeen, seenQuery};
 
 // The answer of every call. Refused: number, side and place, else zeros. Accepted: refusal 0, and what the call says in `value` and `searched`.
@@ -112,8 +112,7 @@ pub extern "C" fn lakhido_query(
 ) -> Answer
     ensures { λ r. ⌜ (querySeen r (now (cache .exit)) (now (hits .exit))
         ≡ seenQuery (queryOutcome embeds (now (catalog .entry)) (now (cache .entry)) (strandOf (now (bases .entry)) (now (mates .entry))) (length (now (work .entry))) (now (hits .entry))))
-        × (length (now (work .exit)) ≡ length (now (work .entry)))
-        × workKept (queryOutcome embeds (now (catalog .entry)) (now (cache .entry)) (strandOf (now (bases .entry)) (now (mates .entry))) (length (now (work .entry))) (now (hits .entry)) .answer)
+        × QueryWorkKept (queryOutcome embeds (now (catalog .entry)) (now (cache .entry)) (strandOf (now (bases .entry)) (now (mates .entry))) (length (now (work .entry))) (now (hits .entry)) .answer)
         (now (work .entry)) (now (work .exit)) ⌝ }
 {
     let a = catalog::query(catalog, cache, bases, mates, work, hits);

@@ -20,7 +20,7 @@ use Rattle.catalog.specs.declared.Updated.the-variants.{Done, Refused as
 use Rattle.catalog.specs.declared.Queried.{Queried}
 use Rattle.catalog.specs.declared.Queried.the-variants.{Refused as NotQueried}
 use Rattle.catalog.specs.Buffers.{slotOf, cleanCache}
-use Rattle.catalog.specs.Calls.{updated, updateUnless, addVerdict, addOutcome, removeVerdict, removeOutcome, queried, queryUnless, queryEntry, queryVerdict, queryOutcome, workKept}
+use Rattle.catalog.specs.Calls.{updated, updateUnless, addVerdict, addOutcome, removeVerdict, removeOutcome, queried, queryUnless, queryEntry, queryVerdict, queryOutcome, QueryWorkKept}
 
 updated-eq : {r : Updated} {a a′ b b′ : List ℕ} → a ≡ a′ → b ≡ b′ → updated r a b ≡ updated r a′ b′
 updated-eq {r} x y = λ i. record { answer = r; catalog = x i; cache = y i }
@@ -85,6 +85,6 @@ pub slot-sound : (cache y : List ℕ) (s : ℕ) → y ≡ eachBlock cleaned cach
 slot-sound cache y s e l = ap (λ (w : List ℕ). soundEntry (blockOf s w)) e ∙ ap soundEntry (block-each cleaned length-cleaned s cache l) ∙ cleaned-sound (blockOf s cache) (length-block s cache (omega arith))
 
 -- The work slice.
-pub work-refused : (r : Refusal) (w : List ℕ) → workKept (NotQueried r) w w
-unfolding workKept
+pub work-refused : (r : Refusal) (w : List ℕ) → QueryWorkKept (NotQueried r) w w
+unfolding QueryWorkKept
 work-refused r w = refl

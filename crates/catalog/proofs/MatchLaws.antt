@@ -2,7 +2,7 @@
 use mathlib.Core.Path.{_≡_, sym, ap, _∙_}
 use mathlib.Core.Bool.{true, false}
 use mathlib.Core.List.{List, _++_}
-use Prim.Native.Nat.{ℕ, _+_, _*_, _≤_}
+use Prim.Native.Nat.{ℕ, _≤_}
 use native.Mathlib.Omega.{arith}
 use lib.ListN.{length, take}
 use lib.Seq.{take-at}
@@ -14,6 +14,7 @@ use Rattle.matcher.specs.Answers.{workSize}
 use Rattle.block.specs.Block.{soundMolecule}
 use Rattle.block.specs.Content.{isEmpty, moleculeIn}
 use Rattle.block.proofs.ContentLaws.{molecule-fits, molecule-count, molecule-proper}
+use Rattle.catalog.specs.Limits.{mostMoleculeBases}
 use Rattle.catalog.specs.Motifs.{embeds}
 
 pub decoded-short : (b : List ℕ) (n : ℕ) → soundMolecule b ≡ true → n ≡ length (moleculeIn b .bases) → n ≤ 160
@@ -45,7 +46,7 @@ module _ (b bases mates : List ℕ) (sound : soundMolecule b ≡ true) (full : i
         molecule = proper .nested;
       })
 
-  pub room : (work : ℕ) → 64 * (length bases + 1) + 8 * 160 ≤ work → workSize (length bases) (length (take n x)) ≤ work
+  pub room : (work : ℕ) → workSize (length bases) mostMoleculeBases ≤ work → workSize (length bases) (length (take n x)) ≤ work
   room work h = rw letters-are (let z = proper .small in omega arith)
 
   pub matched : (k : ℕ) → k ≡ longest lettersMatch bases mates (take n x) (take n y) → eqb k (length bases) ≡ embeds (strandOf bases mates) (moleculeIn b)

@@ -23,7 +23,7 @@ use Rattle.catalog.specs.declared.Queried.{Queried}
 use Rattle.catalog.specs.declared.Queried.the-variants.{Hits}
 use Rattle.catalog.specs.Motifs.{embeds}
 use Rattle.catalog.specs.Buffers.{held, moleculeAt}
-use Rattle.catalog.specs.Calls.{isKnown, toSearch, isHit, QueryEffect, queried, queryEntry, workKept}
+use Rattle.catalog.specs.Calls.{isKnown, toSearch, isHit, QueryEffect, queried, queryEntry, QueryWorkKept}
 use Rattle.catalog.specs.Search.{Ready, Recorded}
 use Rattle.catalog.proofs.JudgeLaws.{held-1}
 use Rattle.catalog.proofs.CallLaws.{queried-eq}
@@ -234,8 +234,8 @@ module _ (cat cache : List ℕ) (s : ℕ) (bases mates hits : List ℕ) where
       queried-eq (ap₂ Hits (rec .counted) (rec .tallied)) (put-is s cache e _ (ee ∙ ap₂ (entryBlock bases mates) es (rec .mapped)))
       (rec .written ∙ ap (λ (n : ℕ). select (length cat / 512) (isHit embeds cat entry motif) ++ drop n hits) (rec .counted))
 
--- An accepted query says nothing of the work slice.
+-- An accepted query keeps the length of the work slice.
 pub work-queried : (cat cache entry : List ℕ) (q : Strand) (s : ℕ) (hits : List ℕ) (r : Queried) (x h w w′ : List ℕ)
-    → queried r x h ≡ queryEntry embeds cat cache entry s q hits → workKept r w w′
-unfolding queryEntry workKept
-work-queried cat cache entry q s hits r x h w w′ e = rw (ap (λ (a : QueryEffect). a .answer) e) tt
+    → queried r x h ≡ queryEntry embeds cat cache entry s q hits → length w′ ≡ length w → QueryWorkKept r w w′
+unfolding queryEntry QueryWorkKept
+work-queried cat cache entry q s hits r x h w w′ e k = rw (ap (λ (a : QueryEffect). a .answer) e) k

@@ -120,7 +120,7 @@ module _ (embeds : Strand → Strand → Bool) where
       queryUnless (queryVerdict catalog cache p work (length hits)) cache hits
       (queryEntry catalog (cleanCache cache) (blockOf slot (cleanCache cache)) slot p hits)
 
--- A refused query leaves every entry of the work slice; after an accepted one its entries are free (the contract keeps its length).
-unfoldable pub workKept : Queried → List ℕ → List ℕ → Type 0
-workKept (Hits count searched) before after = Unit
-workKept (NotQueried r) before after = after ≡ before
+-- After a refusal the work slice is as before; after an accepted query it keeps its length, and its entries are free.
+unfoldable pub QueryWorkKept : Queried → List ℕ → List ℕ → Type 0
+QueryWorkKept (Hits count searched) before after = length after ≡ length before
+QueryWorkKept (NotQueried r) before after = after ≡ before

@@ -1,9 +1,9 @@
 -- The limits of catalog, cache and query, and what rows 1 to 8 ask of a molecule, a motif and a work slice. Assumes nothing.
-use Prim.Native.Nat.{ℕ, _+_, _*_}
-use lib.Dec.{ltb}
+use Prim.Native.Nat.{ℕ}
 use lib.ListN.{length}
-use Rattle.strand.specs.Strands.{Strand, motifSide, moleculeSide, noSide}
-use Rattle.strand.specs.Refusals.{workTooShort, row, strandVerdict}
+use Rattle.strand.specs.Strands.{Strand, motifSide, moleculeSide}
+use Rattle.strand.specs.Refusals.{strandVerdict}
+use Rattle.matcher.specs.Answers.{workRow}
 use Rattle.block.specs.Content.{moleculeKind, entryKind}
 use Rattle.strand.specs.declared.Verdict.{Verdict}
 
@@ -31,10 +31,6 @@ moleculeVerdict q = strandVerdict moleculeSide leastBases mostMoleculeBases (q .
 unfoldable pub motifVerdict : Strand → Verdict
 motifVerdict p = strandVerdict motifSide leastBases mostMotifBases (p .bases) (p .mates)
 
--- 01: a work slice of at least 64 × (m + 1) + 8 × n entries, n being 160 in a query.
-abbrev pub workNeeded : Strand → ℕ
-workNeeded p = 64 * (length (p .bases) + 1) + 8 * mostMoleculeBases
-
--- Row 8 of a query with a work slice of that many entries.
+-- Row 8 of a query with a work slice of so many entries: n is 160, the most that a molecule of the catalog has.
 unfoldable pub workVerdict : Strand → ℕ → Verdict
-workVerdict p work = row workTooShort noSide (ltb work (workNeeded p))
+workVerdict p work = workRow (length (p .bases)) mostMoleculeBases work

@@ -1,11 +1,12 @@
 -- Only the functions behind the calls need this file: what they ask of their inputs, which the judge of a call gives, and what the search of a query leaves. Assumes nothing.
-use Prim.Native.Nat.{ℕ, _+_, _*_, _≤_, _<_}
+use Prim.Native.Nat.{ℕ, _≤_, _<_}
 use mathlib.Core.Path.{_≡_}
 use mathlib.Core.Bool.{Bool, true}
 use mathlib.Core.List.{List, _++_}
 use lib.ListN.{length, drop}
 use Rattle.strand.specs.Vocabulary.{select}
 use Rattle.strand.specs.Strands.{motifSide, Proper}
+use Rattle.matcher.specs.Answers.{workSize}
 use Rattle.octets.specs.Maps.{mapBytes}
 use Rattle.block.specs.Block.{blockOf, soundMolecule}
 use Rattle.catalog.specs.Limits.{mostCatalogBlocks, leastBases, mostMoleculeBases, mostMotifBases}
@@ -20,7 +21,7 @@ pub record Ready (catalog bases mates : List ℕ) (work : ℕ) : Type 0 where
   pub blocks : SoundCatalog catalog
   pub most : blockCount catalog ≤ mostCatalogBlocks
   pub motif : Proper motifSide leastBases mostMotifBases bases mates
-  pub room : 64 * (length bases + 1) + 8 * mostMoleculeBases ≤ work
+  pub room : workSize (length bases) mostMoleculeBases ≤ work
 
 -- What the search leaves: the hits p below n, counted, at the start of the slice and in the map; and how many molecules r it had to search.
 pub record Recorded (p r : ℕ → Bool) (n : ℕ) (before after map : List ℕ) (count searched : ℕ) : Type 0 where

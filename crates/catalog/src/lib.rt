@@ -3,7 +3,7 @@ ghost use mathlib.Core.Path.{_≡_};
 ghost use lib.ListN.{length};
 ghost use Rattle.strand.specs.Strands.{strandOf};
 ghost use Rattle.catalog.specs.Motifs.{embeds};
-ghost use Rattle.catalog.specs.Calls.{updated, addOutcome, removeOutcome, queried, queryOutcome, workKept};
+ghost use Rattle.catalog.specs.Calls.{updated, addOutcome, removeOutcome, queried, queryOutcome, QueryWorkKept};
 
 mod judge;
 mod search;
@@ -60,7 +60,7 @@ pub fn query(
 ) -> Queried
     ensures { λ r. ⌜ (queried r (now (cache .exit)) (now (hits .exit))
         ≡ queryOutcome embeds (now (catalog .entry)) (now (cache .entry)) (strandOf (now (bases .entry)) (now (mates .entry))) (length (now (work .entry))) (now (hits .entry)))
-        × (length (now (work .exit)) ≡ length (now (work .entry))) × workKept r (now (work .entry)) (now (work .exit)) ⌝ }
+        × QueryWorkKept r (now (work .entry)) (now (work .exit)) ⌝ }
 {
     let room = work.len();
     let places = hits.len();

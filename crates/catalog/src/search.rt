@@ -2,15 +2,17 @@
 // has let catalog, motif, work and hits pass (`Ready`), and the cache is clean.
 ghost use mathlib.Core.Path.{_≡_};
 ghost use mathlib.Core.Bool.{true, false, _&&_};
-ghost use Prim.Native.Nat.{_+_, _*_, _-_, _<_, _≤_, _/_, _%_};
+ghost use Prim.Native.Nat.{_+_, _-_, _<_, _≤_, _/_, _%_};
 ghost use lib.ListN.{length, set};
 ghost use Rattle.strand.specs.Vocabulary.{choose, total};
 ghost use Rattle.strand.specs.Strands.{strandOf, motifSide, Proper};
+ghost use Rattle.matcher.specs.Answers.{workSize};
 ghost use Rattle.octets.specs.Bits.{setMap};
 ghost use Rattle.octets.specs.Maps.{mapSize, mapBytes};
 ghost use Rattle.block.specs.Block.{blockOf, soundMolecule, soundEntry};
 ghost use Rattle.block.specs.Content.{isEmpty, moleculeIn, keepsMotif, searchedIn};
 ghost use Rattle.catalog.specs.Motifs.{embeds};
+ghost use Rattle.catalog.specs.Limits.{mostMoleculeBases};
 ghost use Rattle.catalog.specs.Buffers.{blockCount, held, slotOf};
 ghost use Rattle.catalog.specs.Calls.{toSearch, isHit, queried, queryEntry};
 ghost use Rattle.catalog.specs.Search.{SoundCatalog, Ready, Recorded};
@@ -117,7 +119,7 @@ fn embeds_with(
     bonds: &mut [u16],
 ) -> bool
     requires { ⌜ (soundMolecule (now b) ≡ true) × (isEmpty (now b) ≡ false) × Proper motifSide 1 120 (now bases) (now mates)
-        × (64 * (length (now bases) + 1) + 8 * 160 ≤ length (now work)) × (length (now letters) ≡ 160) × (length (now bonds) ≡ 160) ⌝ }
+        × (workSize (length (now bases)) mostMoleculeBases ≤ length (now work)) × (length (now letters) ≡ 160) × (length (now bonds) ≡ 160) ⌝ }
     ensures { λ r. ⌜ r ≡ embeds (strandOf (now (bases .entry)) (now (mates .entry))) (moleculeIn (now (b .entry))) ⌝ }
 {
     let n = block::codec::decode_molecule(b, letters, bonds);
@@ -127,7 +129,7 @@ fn embeds_with(
 
 fn embeds_in(b: &[u8], bases: &[u8], mates: &[u16], work: &mut [u16]) -> bool
     requires { ⌜ (soundMolecule (now b) ≡ true) × (isEmpty (now b) ≡ false) × Proper motifSide 1 120 (now bases) (now mates)
-        × (64 * (length (now bases) + 1) + 8 * 160 ≤ length (now work)) ⌝ }
+        × (workSize (length (now bases)) mostMoleculeBases ≤ length (now work)) ⌝ }
     ensures { λ r. ⌜ r ≡ embeds (strandOf (now (bases .entry)) (now (mates .entry))) (moleculeIn (now (b .entry))) ⌝ }
 {
     let mut letters = [0u8; 160];

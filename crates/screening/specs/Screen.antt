@@ -10,6 +10,8 @@ use Rattle.strand.specs.Strands.{Strand}
 use Rattle.octets.specs.Checksum.{blockSize}
 use Rattle.block.specs.Content.{emptyBlock, isEmpty, moleculeIn}
 use Rattle.block.specs.Block.{soundMolecule}
+use Rattle.matcher.specs.Answers.{workSize}
+use Rattle.catalog.specs.Limits.{mostMoleculeBases, mostMotifBases}
 use Rattle.catalog.specs.Calls.{QueryEffect, queryOutcome}
 use Rattle.catalog.specs.declared.Queried.{Queried}
 use Rattle.catalog.specs.declared.Queried.the-variants.{Hits, Refused}
@@ -36,9 +38,9 @@ catalogIn input = drop blockSize input
 unfoldable pub isMotif : List ℕ → Bool
 isMotif block = soundMolecule block && not (isEmpty block)
 
--- The work that a motif of 120 bases asks for.
+-- The work that a motif of 120 bases, the most in a query, asks for.
 abbrev pub screenWork : ℕ
-screenWork = 64 * (120 + 1) + 8 * 160
+screenWork = workSize mostMotifBases mostMoleculeBases
 
 -- The text of an answer; `hits` is the slice of the hits afterwards.
 unfoldable pub answerText : Queried → List ℕ → List ℕ

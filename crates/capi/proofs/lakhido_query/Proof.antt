@@ -23,9 +23,8 @@ same-length-3 c = search needs
 returns : tie.Need-returns
 returns c = (
   query-seen (c .tell-query .ensures) (c .before .before .before .before .before .before .before .query .ensures .0),
-  c .before .before .before .before .before .before .before .query .ensures .1,
   rw (ap answer-of (c .before .before .before .before .before .before .before .query .ensures .0))
-      at (c .before .before .before .before .before .before .before .query .ensures .2),
+      at (c .before .before .before .before .before .before .before .query .ensures .1),
 )
 
 pub lakhido-query-spec : {M : Type 1} → statement M

@@ -1,7 +1,7 @@
 -- `catalog::query` meets its contract.
 use borrow.Author.Needs.{needs}
 use native.Mathlib.Omega.{arith}
-use mathlib.Core.Path.{refl, sym, _∙_}
+use mathlib.Core.Path.{sym, _∙_}
 use lib.ListN.{length}
 use Rattle.catalog.proofs.JudgeLaws as judge
 use Rattle.strand.specs.Strands.{strandOf}
@@ -21,7 +21,7 @@ same-length : tie.Need-same-length
 same-length c = search needs
 
 returns : tie.Need-returns
-returns c = (call.query-refused embeds (c .before .before .before .before .before .before .before .before .before .before .before .args .catalog .now) (c .before .before .before .before .before .before .before .before .before .before .before .args .cache .now) (strandOf (c .before .before .before .before .before .before .before .before .before .before .before .args .bases .now) (c .before .before .before .before .before .before .before .before .before .before .before .args .mates .now)) (length (c .before .before .before .before .before .before .before .before .before .before .before .args .work .now)) (c .before .before .before .before .before .before .before .before .before .before .before .args .hits .now) (c .before .verdict .given .0 .0) (sym (c .before .before .before .judge-query .ensures) ∙ c .before .verdict .given .1), refl, call.work-refused _ _)
+returns c = (call.query-refused embeds (c .before .before .before .before .before .before .before .before .before .before .before .args .catalog .now) (c .before .before .before .before .before .before .before .before .before .before .before .args .cache .now) (strandOf (c .before .before .before .before .before .before .before .before .before .before .before .args .bases .now) (c .before .before .before .before .before .before .before .before .before .before .before .args .mates .now)) (length (c .before .before .before .before .before .before .before .before .before .before .before .args .work .now)) (c .before .before .before .before .before .before .before .before .before .before .before .args .hits .now) (c .before .verdict .given .0 .0) (sym (c .before .before .before .judge-query .ensures) ∙ c .before .verdict .given .1), call.work-refused _ _)
 
 enum-told : tie.Need-enum-told
 enum-told c = search needs
@@ -45,7 +45,7 @@ same-length-4 : tie.Need-same-length-4
 same-length-4 c = search needs
 
 returns-2 : tie.Need-returns-2
-returns-2 c = (call.query-done embeds (c .before .before .before .before .before .before .before .before .before .before .before .before .before .before .before .before .before .before .before .before .before .before .before .before .before .args .catalog .now) (c .before .before .before .before .before .before .before .before .before .before .before .before .before .before .before .before .before .before .before .before .before .before .before .before .before .args .cache .now) (strandOf (c .before .before .before .before .before .before .before .before .before .before .before .before .before .before .before .before .before .before .before .before .before .before .before .before .before .args .bases .now) (c .before .before .before .before .before .before .before .before .before .before .before .before .before .before .before .before .before .before .before .before .before .before .before .before .before .args .mates .now)) (length (c .before .before .before .before .before .before .before .before .before .before .before .before .before .before .before .before .before .before .before .before .before .before .before .before .before .args .work .now)) (c .before .before .before .before .before .before .before .before .before .before .before .before .before .before .before .before .before .before .before .before .before .before .before .before .before .args .hits .now) (c .before .before .before .before .before .before .answer .result) _ _ (c .before .before .before .before .before .before .before .before .before .before .before .before .before .clean-all .last .0) (c .before .before .before .before .before .before .before .before .before .before .slot .result) (sym (c .before .before .before .before .before .before .before .before .before .before .before .before .before .before .before .before .before .judge-query .ensures) ∙ c .before .before .before .before .before .before .before .before .before .before .before .before .before .before .before .enum-told .given .1) (c .before .before .before .before .before .before .before .before .before .before .before .before .before .clean-all .ensures) (c .before .before .before .before .before .before .before .before .before .before .slot .ensures .0) (c .before .before .before .before .before .before .answer .ensures), c .before .before .before .before .before .before .answer .kept .1 .1 .1 .1 .1 .0, search-laws.work-queried _ _ _ _ _ _ _ _ _ _ _ (c .before .before .before .before .before .before .answer .ensures))
+returns-2 c = (call.query-done embeds (c .before .before .before .before .before .before .before .before .before .before .before .before .before .before .before .before .before .before .before .before .before .before .before .before .before .args .catalog .now) (c .before .before .before .before .before .before .before .before .before .before .before .before .before .before .before .before .before .before .before .before .before .before .before .before .before .args .cache .now) (strandOf (c .before .before .before .before .before .before .before .before .before .before .before .before .before .before .before .before .before .before .before .before .before .before .before .before .before .args .bases .now) (c .before .before .before .before .before .before .before .before .before .before .before .before .before .before .before .before .before .before .before .before .before .before .before .before .before .args .mates .now)) (length (c .before .before .before .before .before .before .before .before .before .before .before .before .before .before .before .before .before .before .before .before .before .before .before .before .before .args .work .now)) (c .before .before .before .before .before .before .before .before .before .before .before .before .before .before .before .before .before .before .before .before .before .before .before .before .before .args .hits .now) (c .before .before .before .before .before .before .answer .result) _ _ (c .before .before .before .before .before .before .before .before .before .before .before .before .before .clean-all .last .0) (c .before .before .before .before .before .before .before .before .before .before .slot .result) (sym (c .before .before .before .before .before .before .before .before .before .before .before .before .before .before .before .before .before .judge-query .ensures) ∙ c .before .before .before .before .before .before .before .before .before .before .before .before .before .before .before .enum-told .given .1) (c .before .before .before .before .before .before .before .before .before .before .before .before .before .clean-all .ensures) (c .before .before .before .before .before .before .before .before .before .before .slot .ensures .0) (c .before .before .before .before .before .before .answer .ensures), search-laws.work-queried _ _ _ _ _ _ _ _ _ _ _ (c .before .before .before .before .before .before .answer .ensures) (c .before .before .before .before .before .before .answer .kept .1 .1 .1 .1 .1 .0))
 
 pub query-spec : {M : Type 1} → statement M
 query-spec =
