@@ -4,7 +4,6 @@ use mathlib.Core.Path.{_≡_}
 use mathlib.Core.List.{List, [], _∷_}
 use lib.Dec.{ltb}
 use lib.ListN.{length}
-use Rattle.strand.specs.declared.Refusal.{Refusal}
 use Rattle.strand.specs.declared.Verdict.{Verdict}
 use Rattle.strand.specs.declared.Verdict.the-variants as verdict
 use Rattle.strand.specs.Vocabulary.{nth}

@@ -55,10 +55,6 @@ module _ {qm : List ℕ} {n : ℕ} (N : Nested (nth qm) n) where
             (rw (N .paired k kn) (omega (arith, Z .high u a (omega (arith, uk))))))
 
   -- The base after such a stretch, and the stretch with it or with its arc.
-  module _ {lo : ℕ} (i : ℕ) (Z : Sealed qm lo i) (hn : i < n) (li : lo ≤ i) where
-    pub on-high : nth qm i < i → lo ≤ nth qm i → ⊥
-    on-high h l = omega (arith, Z .high (nth qm i) l h, N .paired i hn)
-
   pub seal-on : {lo hi : ℕ} (i : ℕ) → Sealed qm lo hi → hi ≤ n → lo ≤ i → i < hi → Sealed qm lo i → Sealed qm lo (suc (nth qm i)) × (i ≤ nth qm i)
   seal-on {lo} {hi} i O hn li ih Z = (record { low = λ u a b. O .low u a (omega (arith, O .high i li ih)); high = high }, up) where
     up : i ≤ nth qm i

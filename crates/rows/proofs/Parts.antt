@@ -1,13 +1,12 @@
 -- A part `&mut xs[a..]` that was lent and is back, and what a callee wrote in it, said of the whole.
 -- Assumes nothing.
-use mathlib.Core.Path.{_≡_, sym, subst, ap, _∙_}
+use mathlib.Core.Path.{_≡_, sym, ap, _∙_}
 use mathlib.Core.List.{List, _++_, append-nil}
 use Prim.Native.Nat.{ℕ, _+_, _-_, _≤_, _<_}
-use native.Mathlib.Nat.{le-refl, add-sub-of-le}
+use native.Mathlib.Nat.{le-refl}
 use native.Mathlib.Omega.{arith}
 use lib.ListN.{length, getD, take, drop, length-append, length-drop, List·getD-append, drop-of-length-le}
 use lib.Seq.{take-all, getD-take, getD-drop, getD-append-add, length-take-le}
-use Rattle.rows.specs.Rows.{Written}
 
 -- the part as it is lent, and the whole as it is back
 abbrev pub part : ℕ → List ℕ → List ℕ
@@ -37,14 +36,3 @@ module _ (a : ℕ) (xs : List ℕ) (le : a ≤ length xs) where
 
   pub back-over : (ys : List ℕ) (k : ℕ) → getD (back a xs ys) (a + k) 0 ≡ getD ys k 0
   back-over ys k = rw (back-eq ys) (ap (λ (n : ℕ). getD (take a xs ++ ys) (n + k) 0) (sym (length-take-le a xs le)) ∙ getD-append-add (take a xs) ys k 0)
-
-  -- what is written from the part's start, said of the whole
-  pub lifted : (f g : ℕ → ℕ) (ys : List ℕ) (e : ℕ) → Written f (part a xs) ys 0 e → ((k : ℕ) → k < e → f k ≡ g (a + k)) → Written g xs (back a xs ys) a (a + e)
-  lifted f g ys e h eq = record {
-    long = back-length ys (h .long);
-    under = λ k lt. back-under ys k lt;
-    done = λ k ge lt. over-at k ge (λ n. g k) (h .done (k - a) (omega arith) (omega arith) ∙ eq (k - a) (omega arith) ∙ ap g (add-sub-of-le ge));
-    past = λ k ge. over-at k (omega arith) (λ n. getD xs n 0) (h .past (k - a) (omega arith) ∙ part-at (k - a));
-  } where
-    over-at : (k : ℕ) → a ≤ k → (m : ℕ → ℕ) → getD ys (k - a) 0 ≡ m (a + (k - a)) → getD (back a xs ys) k 0 ≡ m k
-    over-at k ge m q = subst (λ (n : ℕ). getD (back a xs ys) n 0 ≡ m n) (add-sub-of-le ge) (back-over ys (k - a) ∙ q)

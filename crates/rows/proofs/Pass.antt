@@ -21,13 +21,5 @@ pass-set f old new a e v w le lt q = record {
   past = λ k h. getD-set-other new e k v 0 (λ r. omega arith) ∙ w .past k (omega arith);
 }
 
-pub pass-keep : (f : ℕ → ℕ) (old new : List ℕ) (a e : ℕ) → Written f old new a e → getD old e 0 ≡ f e → Written f old new a (e + 1)
-pass-keep f old new a e w q = record {
-  long = w .long;
-  under = w .under;
-  done = λ k h g. below-more (λ k. a ≤ k → getD new k 0 ≡ f k) e (λ k h g. w .done k g h) (λ g. w .past e (omega arith) ∙ q) k g h;
-  past = λ k h. w .past k (omega arith);
-}
-
 pub pass-end : (f : ℕ → ℕ) (old new : List ℕ) (a j w : ℕ) → Written f old new a j → j ≤ w → w ≤ j → Written f old new a w
 pass-end f old new a j w h le ge = subst (λ (e : ℕ). Written f old new a e) (le-antisymm le ge) h

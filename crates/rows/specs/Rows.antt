@@ -7,8 +7,8 @@ use lib.ListN.{length}
 use lib.Dec.{ltb, leb}
 use Rattle.strand.specs.Vocabulary.{nth, choose}
 use Rattle.strand.specs.Strands.{Nested, lettersMatch}
-use Rattle.embedding.specs.Embedding.{Emb, letters}
-use Rattle.embedding.specs.Row.{Reach, Best, IsRow}
+use Rattle.embedding.specs.Embedding.{letters}
+use Rattle.embedding.specs.Row.{IsRow}
 
 -- A window P[from..to) of the motif. A row has an entry for each start from `from` to `to`, at that index of its stretch of the work slice.
 pub record Window (p pm : List ℕ) (from to : ℕ) : Type 0 where

@@ -1,7 +1,7 @@
 // The rows of the molecule's arcs, by a walk over their tree, heavy child first.
 use crate::row;
 ghost use mathlib.Core.Path.{_≡_};
-ghost use Prim.Native.Nat.{ℕ, _+_, _-_, _≤_, _<_};
+ghost use Prim.Native.Nat.{_+_, _-_, _≤_, _<_};
 ghost use lib.ListN.{length};
 ghost use Rattle.strand.specs.Vocabulary.{nth};
 ghost use Rattle.strand.specs.Strands.{Nested};
