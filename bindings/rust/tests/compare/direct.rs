@@ -226,13 +226,7 @@ fn long_pairs() {
         let q = make::strand(&mut r, n);
         let m = if case % 12 == 0 { r.between(1, n) } else { r.between(1, 200.min(n)) };
         let p = make::motif(&mut r, &q, m);
-        if m <= 200 {
-            count += pair(&mut r, p.lend(), q.lend());
-        } else {
-            let size = work_size(p.bases.len(), n);
-            length(p.lend(), q.lend(), size, calls::length(p.lend(), q.lend(), size));
-            count += 1;
-        }
+        count += pair(&mut r, p.lend(), q.lend());
     }
     report("check, length, show, verify on long pairs", count);
 }
