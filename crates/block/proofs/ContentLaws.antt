@@ -6,11 +6,11 @@ use mathlib.Core.Bool.{Bool, true, false, not, _||_}
 use mathlib.Core.List.{List, _++_, append-assoc}
 use Prim.Native.Nat.{ℕ, suc, _+_, _-_, _<_, _≤_}
 use native.Mathlib.Omega.{arith}
-use lib.ListN.{length, set, drop, length-drop}
+use lib.ListN.{length, set, drop, replicate, length-drop}
 use lib.Seq.{length-take-le}
 use Rattle.strand.specs.Vocabulary.{nth, choose}
 use Rattle.strand.specs.Strands.{Strand, moleculeSide, motifSide, Proper}
-use Rattle.strand.proofs.ListLaws.{every-at, never, zeros-at, zeros-not, zeros-zero}
+use Rattle.strand.proofs.ListLaws.{every-at, never, zeros-at, zeros-not, zeros-zero, zeros-are}
 use Rattle.octets.specs.Checksum.{checked, checksumOk}
 use Rattle.octets.specs.Maps.{mapBytes, without}
 use Rattle.block.specs.Content.{Kind, moleculeKind, entryKind, emptyBlock, isEmpty, lengthIn, strandIn, moleculeIn, motifIn, searchedIn, hitIn, contentOf, moleculeBlock, entryBlock, encodeMolecule, encodeEntry}
@@ -31,6 +31,10 @@ empty-length = refl
 pub empty-empty : isEmpty emptyBlock ≡ true
 unfolding emptyBlock isEmpty
 empty-empty = zeros-zero 512
+
+pub empty-is : (s : List ℕ) → length s ≡ 512 → isEmpty s ≡ true → s ≡ emptyBlock
+unfolding isEmpty emptyBlock
+empty-is s l e = zeros-are s e ∙ ap (λ (n : ℕ). replicate n 0) l
 
 pub empty-molecule : soundMolecule emptyBlock ≡ true
 empty-molecule = sym (molecule-zero emptyBlock empty-length (unfold isEmpty in empty-empty))
@@ -76,13 +80,16 @@ module _ (q : Strand) (ok : Proper motifSide 1 120 (q .bases) (q .mates)) (s h :
   unfolding encodeEntry
   entry-length = unfold entry.kept in (entry.entry-length (q .bases) (q .mates) ok s h)
 
-  pub entry-sound : ((d : ℕ) → h d ≡ true → s d ≡ true) → soundEntry (encodeEntry q s h) ≡ true
+  pub entry-sound-below : ((d : ℕ) → d < 512 → h d ≡ true → s d ≡ true) → soundEntry (encodeEntry q s h) ≡ true
   unfolding encodeEntry
-  entry-sound sub = entry.entry-sound (q .bases) (q .mates) ok s h (λ d l. needed d (h d) (s d) (sub d))
+  entry-sound-below sub = entry.entry-sound (q .bases) (q .mates) ok s h (λ d l. needed d (h d) (s d) (sub d l))
     where
       needed : (d : ℕ) (a b : Bool) → (a ≡ true → b ≡ true) → not a || b ≡ true
       needed d true b f = f refl
       needed d false b f = refl
+
+  pub entry-sound : ((d : ℕ) → h d ≡ true → s d ≡ true) → soundEntry (encodeEntry q s h) ≡ true
+  entry-sound sub = entry-sound-below (λ d l. sub d)
 
   pub entry-full : isEmpty (encodeEntry q s h) ≡ false
   entry-full =

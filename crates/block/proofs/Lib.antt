@@ -10,3 +10,4 @@ pub mod WriteLaws
 pub mod ContentLaws
 pub mod OutcomeLaws
 pub mod Examples
+pub mod Claims

@@ -8,9 +8,9 @@ use mathlib.Core.Bool.{Bool, true, false, not, _&&_, _||_, and-false}
 use mathlib.Core.List.{List}
 use lib.Dec.{ltb, leb, eqb}
 use lib.ListN.{length, drop, replicate, length-replicate, getD-replicate, List·getD-eq-default}
-use lib.Seq.{getD-drop, getD-take, ext-getD}
+use lib.Seq.{getD-drop, getD-take}
 use borrow.Author.Tests.{eqb-true, eq-eqb, lt-ltb, leb-true, leb-false, ltb-true, ltb-false}
-use Rattle.strand.specs.Vocabulary.{nth, choose}
+use Rattle.strand.specs.Vocabulary.{choose}
 use Rattle.strand.specs.Strands.{Strand, key, noSide}
 use Rattle.strand.specs.Refusals.{notWholeBlocks, numberTooLarge, row}
 use Rattle.strand.proofs.ListLaws.{and-true, not-not, every-at}
@@ -21,6 +21,7 @@ use Rattle.octets.specs.Bits.{bitOf, mapBit}
 use Rattle.block.specs.Block.{blockOf, hitOk, hitsOk, soundEntry}
 use Rattle.block.specs.Buffer.{cleaned, eachBlock, forgot, putBlock}
 use Rattle.block.specs.Content.{searchedAt, hitAt, emptyBlock, isEmpty, motifIn, searchedIn, hitIn, keepsMotif, encodeEntry}
+use Rattle.block.specs.Statements.{Bytes}
 use Rattle.block.proofs.BlockLaws.{length-block}
 use Rattle.octets.proofs.MapLaws.{map-ext}
 use Rattle.block.proofs.SoundLaws.{entry-hits-ok}
@@ -29,7 +30,7 @@ use Rattle.block.proofs.ContentLaws as law
 use Rattle.catalog.specs.Limits.{mostCatalogBlocks, mostCacheBlocks, motifVerdict}
 use Rattle.catalog.specs.Buffers.{blockCount, isWhole, areWhole, held, moleculeAt, buffersVerdict, slotOf, cleanCache}
 use Rattle.catalog.specs.Calls.{updateUnless, addVerdict, addOutcome, removeVerdict, removeOutcome, queryUnless, queryVerdict, isKnown, toSearch, isHit, queryEntry, queryOutcome}
-use Rattle.catalog.specs.Claims.{AllSound, Forgotten, Bytes, Claims}
+use Rattle.catalog.specs.Claims.{AllSound, Forgotten, Claims}
 use Rattle.catalog.proofs.BlockUse as leaf
 use Rattle.catalog.proofs.ReadingLaws as read
 
@@ -166,18 +167,11 @@ empty-bits : (d : ℕ) → d < mostCatalogBlocks → (searchedIn emptyBlock d �
 unfolding searchedIn hitIn
 empty-bits d l = (empty-bit searchedAt d (omega arith), empty-bit hitAt d (omega arith))
 
--- a block of zeros is the empty block
-empty-is : (b : List ℕ) → length b ≡ blockSize → isEmpty b ≡ true → b ≡ emptyBlock
-unfolding isEmpty emptyBlock
-empty-is b l e =
-    ext-getD 0 b (replicate blockSize 0) (l ∙ sym (length-replicate {A = ℕ} blockSize 0))
-    (λ i h. eqb-true _ 0 (every-at (λ i. eqb (nth b i) 0) (length b) i e h) ∙ sym (getD-replicate {A = ℕ} blockSize i 0 0 (omega (arith, l))))
-
 forgot-bits : (b : List ℕ) (d : ℕ) → soundEntry b ≡ true → Bytes b → d < mostCatalogBlocks
     → (searchedIn (forgot d b) d ≡ false) × (hitIn (forgot d b) d ≡ false)
 forgot-bits b d ok small l =
     ⊎-elim
-    (λ (e : isEmpty b ≡ true). rw (empty-is b (law.entry-512 b ok) e, leaf.empty-forgot d) (empty-bits d l))
+    (λ (e : isEmpty b ≡ true). rw (law.empty-is b (law.entry-512 b ok) e, leaf.empty-forgot d) (empty-bits d l))
     (λ (e : isEmpty b ≡ false).
     let k : forgot d b ≡ encodeEntry (motifIn b) (without d (searchedIn b)) (without d (hitIn b))
     = ap (forgot d) (sym (law.entry-again b ok e small)) ∙ law.entry-forgot (motifIn b) (law.entry-proper b ok e) (searchedIn b) (hitIn b) d l in
@@ -216,7 +210,7 @@ forgot-sound : (b : List ℕ) (d : ℕ) → soundEntry b ≡ true → Bytes b �
 unfolding below
 forgot-sound b d ok small l =
     ⊎-elim
-    (λ (e : isEmpty b ≡ true). rw (empty-is b (law.entry-512 b ok) e, leaf.empty-forgot d) leaf.empty-entry)
+    (λ (e : isEmpty b ≡ true). rw (law.empty-is b (law.entry-512 b ok) e, leaf.empty-forgot d) leaf.empty-entry)
     (λ (e : isEmpty b ≡ false).
     let P = law.entry-proper b ok e in
     let k : forgot d b ≡ encodeEntry (motifIn b) (without d (below (searchedIn b))) (without d (below (hitIn b)))

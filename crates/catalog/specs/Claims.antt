@@ -4,10 +4,10 @@ use mathlib.Core.Path.{_≡_}
 use mathlib.Core.List.{List}
 use mathlib.Core.Bool.{Bool, true, false, _&&_}
 use lib.ListN.{length}
-use Rattle.strand.specs.Vocabulary.{nth}
 use Rattle.strand.specs.Strands.{Strand}
 use Rattle.block.specs.Block.{blockOf, soundEntry}
 use Rattle.block.specs.Content.{keepsMotif, searchedIn, hitIn}
+use Rattle.block.specs.Statements.{Bytes}
 use Rattle.strand.specs.declared.Verdict.the-variants.{Accepted}
 use Rattle.catalog.specs.Buffers.{blockCount, held, moleculeAt}
 use Rattle.catalog.specs.Calls.{addVerdict, addOutcome, removeVerdict, removeOutcome, queryVerdict, toSearch, isHit, queryOutcome}
@@ -19,10 +19,6 @@ AllSound cache = (s : ℕ) → s < blockCount cache → soundEntry (blockOf s ca
 -- No block of the cache has bit d in either map.
 abbrev pub Forgotten : ℕ → List ℕ → Type 0
 Forgotten d cache = (s : ℕ) → s < blockCount cache → (searchedIn (blockOf s cache) d ≡ false) × (hitIn (blockOf s cache) d ≡ false)
-
--- The buffer holds bytes.
-abbrev pub Bytes : List ℕ → Type 0
-Bytes buf = (i : ℕ) → nth buf i < 256
 
 pub record Claims (embeds : Strand → Strand → Bool) : Type 0 where
   -- an accepted call leaves no unsound cache block: else one later alteration could put it right

@@ -5,22 +5,24 @@ use mathlib.Core.Path.{_≡_, refl, sym, ap, _∙_}
 use mathlib.Core.Logic.{inr}
 use mathlib.Core.Bool.{true, false, not}
 use mathlib.Core.List.{List, [], _∷_}
-use lib.ListN.{length, replicate, length-replicate, length-set}
+use lib.ListN.{length, replicate, set, length-replicate, length-set}
+use lib.Seq.{length-sets, getD-set-same}
 use Rattle.strand.specs.Vocabulary.{nth, choose, some, lowestFrom, lowest}
 use Rattle.strand.specs.Strands.{noSide, isLetter, notLetter, mateOutside, notMutual, crosses, crossedAt}
 use Rattle.strand.specs.Refusals.{refusal, first, row, rowAt, strandVerdict}
 use Rattle.strand.specs.declared.Verdict.the-variants.{Accepted}
-use Rattle.strand.proofs.ListLaws.{lowest-all, lowest-found}
-use Rattle.octets.specs.Checksum.{blockSize, checked}
+use Rattle.strand.proofs.ListLaws.{zeros-not, lowest-all, lowest-found}
+use Rattle.octets.specs.Numbers.{bytes32}
+use Rattle.octets.specs.Checksum.{blockSize, checksumAt, checksumOf, rechecked}
 use Rattle.block.specs.Block.{blockOf, soundMolecule}
 use Rattle.block.specs.Buffer.{putBlock}
-use Rattle.block.specs.Content.{emptyBlock, contentOf, moleculeBlock, encodeMolecule}
-use Rattle.block.proofs.ContentLaws.{molecule-changed}
+use Rattle.block.specs.Content.{moleculeKind, emptyBlock, isEmpty, encodeMolecule}
+use Rattle.block.proofs.SoundLaws.{content-1, molecule-content}
 use Rattle.catalog.specs.Limits.{moleculeVerdict}
 use Rattle.catalog.specs.Motifs.{embeds}
 use Rattle.catalog.specs.Buffers.{blockCount, unsoundAt, buffersVerdict}
 use Rattle.catalog.specs.Answers.{refused, refusedBy}
-use Rattle.catalog.proofs.BlockUse.{empty-molecule, molecule-length, molecule-sound}
+use Rattle.catalog.proofs.BlockUse.{empty-molecule, molecule-length}
 use Rattle.catalog.proofs.ReadingLaws.{count-is, whole-is, put-length, put-block}
 use Rattle.catalog.proofs.JudgeLaws.{buffers-3, add-1, remove-1, query-1}
 use Rattle.history.specs.Events.{Call, add, remove, query, call}
@@ -42,14 +44,26 @@ pub a-accepted : moleculeVerdict a ≡ Accepted
 unfolding moleculeVerdict strandVerdict first row rowAt choose some lowestFrom lowest isLetter notLetter mateOutside notMutual crosses crossedAt
 a-accepted = refl
 
-nine-length : length nine ≡ blockSize
-nine-length = length-set (encodeMolecule a) 0 9 ∙ molecule-length a a-accepted
+rechecked-length : (s : List ℕ) → length (rechecked s) ≡ length s
+unfolding rechecked
+rechecked-length s = length-sets s checksumAt (bytes32 (checksumOf s))
 
+rechecked-first : (s : List ℕ) → nth (rechecked s) 0 ≡ nth s 0
+unfolding rechecked
+rechecked-first [] = refl
+rechecked-first (x ∷ s) = refl
+
+nine-length : length nine ≡ blockSize
+nine-length = rechecked-length (set (encodeMolecule a) 0 9) ∙ length-set (encodeMolecule a) 0 9 ∙ molecule-length a a-accepted
+
+nine-first : nth nine 0 ≡ 9
+nine-first = rechecked-first (set (encodeMolecule a) 0 9) ∙ getD-set-same (encodeMolecule a) 0 9 0 (omega (arith, molecule-length a a-accepted))
+
+-- By its kind: the first byte of a sound block is 0 or 1.
 nine-unsound : soundMolecule nine ≡ false
-nine-unsound = molecule-changed (encodeMolecule a) 0 9 (molecule-sound a a-accepted) (omega arith) other
-  where
-    other : nth (encodeMolecule a) 0 ≡ 9 → ⊥
-    other e = let z : _≡_ {A = ℕ} 1 9 = unfold encodeMolecule moleculeBlock checked contentOf in e in omega arith
+nine-unsound =
+    sym (molecule-content nine nine-length (unfold isEmpty in (zeros-not nine 0 (omega (arith, nine-length)) (λ e. omega (arith, nine-first))))
+    (sym (content-1 moleculeKind (nth nine 1) nine (λ e. omega (arith, nine-first)))))
 
 zeros : List ℕ
 zeros = replicate (blockSize * 3) 0

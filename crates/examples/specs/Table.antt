@@ -19,7 +19,7 @@ use Rattle.matcher.specs.declared.Matched.{Matched}
 use Rattle.matcher.specs.declared.Matched.the-variants as matched
 use Rattle.matcher.specs.Answers.{lengthAnswer, showAnswer}
 use Rattle.octets.specs.Numbers.{word32}
-use Rattle.octets.specs.Checksum.{blockSize, checksumAt}
+use Rattle.octets.specs.Checksum.{blockSize, checksumAt, rechecked}
 use Rattle.block.specs.Content.{emptyBlock, encodeMolecule}
 use Rattle.block.specs.Buffer.{putBlock}
 use Rattle.catalog.specs.Limits.{motifVerdict}
@@ -116,9 +116,9 @@ ask = query bonded 1472 (0 ∷ 0 ∷ [])
 abbrev pub uneven : Buffers
 uneven = record { catalog = replicate blockSize 0; cache = replicate 513 0 }
 
--- A block with byte 0 = 9, under the numbers 1 and 2 of three.
+-- A block with byte 0 = 9, under the numbers 1 and 2 of three. Its checksum is the right one: nothing but its kind is wrong.
 abbrev pub nine : List ℕ
-nine = set (encodeMolecule a) 0 9
+nine = rechecked (set (encodeMolecule a) 0 9)
 
 abbrev pub unsound : Buffers
 unsound = record { catalog = putBlock 1 nine (putBlock 2 nine (zeroed 3 1 .catalog)); cache = zeroed 3 1 .cache }
