@@ -1,3 +1,4 @@
 pub mod Top
 pub mod Turning
 pub mod CallLaws
+pub mod Claims
