@@ -9,8 +9,8 @@ use lib.Seq.{take-at}
 use lib.Dec.{eqb}
 use Rattle.strand.specs.Strands.{strandOf, lettersMatch, motifSide, moleculeSide, Proper}
 use Rattle.embedding.specs.Longest.{longest}
-use Rattle.rows.specs.Rows.{Setting}
-use Rattle.matcher.specs.Answers.{workSize}
+use Rattle.matcher.specs.Answers.{workSize, Searchable}
+use Rattle.matcher.proofs.CallLaws.{searchable-of}
 use Rattle.block.specs.Block.{soundMolecule}
 use Rattle.block.specs.Content.{isEmpty, moleculeIn}
 use Rattle.block.proofs.ContentLaws.{molecule-fits, molecule-count, molecule-proper}
@@ -35,16 +35,8 @@ module _ (b bases mates : List ℕ) (sound : soundMolecule b ≡ true) (full : i
   bonds-are : take n y ≡ moleculeIn b .mates
   bonds-are = first-part y (moleculeIn b .mates) u n ey (count ∙ sym (proper .same))
 
-  pub setting : Setting bases mates (take n x) (take n y) 0 (length bases)
-  setting =
-      rw (letters-are, bonds-are)
-      (record {
-        window = record { same = ok .same; small = (let z = ok .small in omega arith); order = omega arith; ends = omega arith };
-        motif = ok .nested;
-        equal = proper .same;
-        short = (let z = proper .small in omega arith);
-        molecule = proper .nested;
-      })
+  pub searchable : Searchable bases mates (take n x) (take n y)
+  searchable = rw (letters-are, bonds-are) (searchable-of {a = 1} {c = 1} (omega arith) (omega arith) ok proper)
 
   pub room : (work : ℕ) → workSize (length bases) mostMoleculeBases ≤ work → workSize (length bases) (length (take n x)) ≤ work
   room work h = rw letters-are (let z = proper .small in omega arith)

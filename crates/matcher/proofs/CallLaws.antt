@@ -9,12 +9,13 @@ use borrow.Author.Tests.{lt-ltb, le-ltb, ltb-false}
 use Rattle.strand.specs.declared.Refusal.{Refusal}
 use Rattle.strand.specs.declared.Verdict.{Verdict}
 use Rattle.strand.specs.declared.Verdict.the-variants as verdict
+use Rattle.strand.specs.Strands.{Proper}
 use Rattle.strand.specs.Refusals.{refusal, row, first, pairVerdict}
 use Rattle.strand.proofs.VerdictLaws.{row-yes, row-no, row-pass, first-pass, pair-proper}
 use Rattle.matcher.specs.declared.Matched.the-variants.{Prefix, Refused}
 use Rattle.rows.specs.Rows.{Setting}
 use Rattle.matcher.specs.Trace.{Laid}
-use Rattle.matcher.specs.Answers.{Shown, workSize, workRow, placesRow, answerOf, lengthVerdict, showVerdict}
+use Rattle.matcher.specs.Answers.{Shown, Searchable, workSize, workRow, placesRow, answerOf, lengthVerdict, showVerdict}
 use Rattle.matcher.proofs.Top.{setting-of}
 
 -- The answer by a verdict v.
@@ -27,9 +28,24 @@ module _ (v : Verdict) (L : ℕ) where
   unfolding answerOf
   answer-prefix k e h = rw (e, h)
 
+-- Accepted strands can be searched.
+pub searchable-of : {p pm q qm : List ℕ} {a b c d s t : ℕ} → b ≤ 4096 → d ≤ 4096 → Proper s a b p pm → Proper t c d q qm → Searchable p pm q qm
+searchable-of hb hd P Q =
+    record {
+      same = P .same;
+      small = (let z = P .small in omega arith);
+      motif = P .nested;
+      equal = Q .same;
+      short = (let z = Q .small in omega arith);
+      molecule = Q .nested;
+    }
+
 module _ (p pm q qm : List ℕ) where
+  pub pair-searchable : pairVerdict p pm q qm ≡ verdict.Accepted → Searchable p pm q qm
+  pair-searchable e = let P = pair-proper p pm q qm e in searchable-of {a = 1} {c = 1} (omega arith) (omega arith) (P .motif) (P .molecule)
+
   pub pair-setting : pairVerdict p pm q qm ≡ verdict.Accepted → Setting p pm q qm 0 (length p)
-  pair-setting e = let P = pair-proper p pm q qm e in setting-of {a = 1} {c = 1} (omega arith) (omega arith) (P .motif) (P .molecule)
+  pair-setting e = setting-of (pair-searchable e)
 
   module _ (work : ℕ) where
     work-no : workSize (length p) (length q) ≤ work → workRow (length p) (length q) work ≡ verdict.Accepted
@@ -54,11 +70,14 @@ module _ (p pm q qm : List ℕ) where
     work-of : first (workRow (length p) (length q) work ∷ []) ≡ verdict.Accepted → workSize (length p) (length q) ≤ work
     work-of e = ltb-false _ _ (row-pass 8 2 _ (first-pass (workRow (length p) (length q) work) [] e .0))
 
-    pub length-facts : lengthVerdict p pm q qm work ≡ verdict.Accepted → Setting p pm q qm 0 (length p) × (workSize (length p) (length q) ≤ work)
+    pub length-rows : lengthVerdict p pm q qm work ≡ verdict.Accepted → (pairVerdict p pm q qm ≡ verdict.Accepted) × (workSize (length p) (length q) ≤ work)
     unfolding lengthVerdict
-    length-facts e =
+    length-rows e =
         let a = first-pass (pairVerdict p pm q qm) (workRow (length p) (length q) work ∷ []) e in
-        (pair-setting (a .0), work-of (a .1))
+        (a .0, work-of (a .1))
+
+    pub length-facts : lengthVerdict p pm q qm work ≡ verdict.Accepted → Searchable p pm q qm × (workSize (length p) (length q) ≤ work)
+    length-facts e = let a = length-rows e in (pair-searchable (a .0), a .1)
 
     module _ (places : ℕ) where
       pub show-pair : (x : Refusal) → pairVerdict p pm q qm ≡ verdict.Refused x → verdict.Refused x ≡ showVerdict p pm q qm places work

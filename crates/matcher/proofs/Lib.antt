@@ -3,3 +3,4 @@ pub mod Turning
 pub mod Descent
 pub mod Levels
 pub mod CallLaws
+pub mod Claims

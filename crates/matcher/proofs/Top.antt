@@ -7,7 +7,7 @@ use native.Mathlib.Numerals.{add-one}
 use native.Mathlib.Omega.{arith}
 use lib.ListN.{length}
 use Rattle.strand.specs.Vocabulary.{nth}
-use Rattle.strand.specs.Strands.{Nested, lettersMatch, Proper}
+use Rattle.strand.specs.Strands.{Nested, lettersMatch}
 use Rattle.embedding.specs.Embedding.{letters}
 use Rattle.embedding.specs.Row.{Best, IsRow, unitAt, arcAt}
 use Rattle.embedding.specs.Longest.{longest}
@@ -16,7 +16,7 @@ use Rattle.embedding.proofs.Computed.{longest-best}
 use Rattle.embedding.proofs.Window.{widen}
 use Rattle.embedding.proofs.Rows.{unit-best, arc-best}
 use Rattle.rows.specs.Rows.{Setting, Sealed, Room, matches}
-use Rattle.matcher.specs.Answers.{workSize}
+use Rattle.matcher.specs.Answers.{workSize, Searchable}
 use Rattle.rows.proofs.Arcs.{seal-on, room-any}
 
 -- A window within a window.
@@ -117,13 +117,13 @@ module _ {p pm q qm : List ℕ} {to from lo hi : ℕ} where
 pub walked-longest : (p pm q qm : List ℕ) {k : ℕ} → Best (letters p q) (nth pm) (nth qm) (length p) 0 k 0 (length q) → k ≡ longest lettersMatch p pm q qm
 walked-longest p pm q qm B = unique B (longest-best lettersMatch p pm q qm)
 
--- An accepted motif and an accepted molecule.
-pub setting-of : {p pm q qm : List ℕ} {a b c d s t : ℕ} → b ≤ 4096 → d ≤ 4096 → Proper s a b p pm → Proper t c d q qm → Setting p pm q qm 0 (length p)
-setting-of hb hd P Q =
+-- Strands that can be searched, with the whole motif as the window.
+pub setting-of : {p pm q qm : List ℕ} → Searchable p pm q qm → Setting p pm q qm 0 (length p)
+setting-of A =
     record {
-      window = record { same = P .same; small = (let z = P .small in omega arith); order = omega arith; ends = omega arith };
-      motif = P .nested;
-      equal = Q .same;
-      short = (let z = Q .small in omega arith);
-      molecule = Q .nested;
+      window = record { same = A .same; small = A .small; order = omega arith; ends = omega arith };
+      motif = A .motif;
+      equal = A .equal;
+      short = A .short;
+      molecule = A .molecule;
     }

@@ -1,16 +1,18 @@
 -- The calls length and show: what they answer. Assumes nothing.
 use Prim.Native.Nat.{ℕ, _+_, _*_, _≤_}
 use mathlib.Core.Path.{_≡_}
+use mathlib.Core.Logic.{_↔_}
 use mathlib.Core.List.{List, [], _∷_}
 use lib.Dec.{ltb}
 use lib.ListN.{length}
 use Rattle.strand.specs.declared.Verdict.{Verdict}
 use Rattle.strand.specs.declared.Verdict.the-variants as verdict
 use Rattle.strand.specs.Vocabulary.{nth}
-use Rattle.strand.specs.Strands.{lettersMatch, noSide}
-use Rattle.strand.specs.Refusals.{workTooShort, wrongSlice, row, first, pairVerdict}
+use Rattle.strand.specs.Strands.{Nested, lettersMatch, noSide}
+use Rattle.strand.specs.Refusals.{workTooShort, wrongSlice, row, first, greatestLength, pairVerdict}
 use Rattle.embedding.specs.Embedding.{letters, Emb}
 use Rattle.embedding.specs.Longest.{longest}
+use Rattle.embedding.specs.Statements.{IsLongest}
 use Rattle.matcher.specs.declared.Matched.{Matched}
 use Rattle.matcher.specs.declared.Matched.the-variants.{Prefix, Refused}
 
@@ -37,6 +39,12 @@ lengthVerdict p pm q qm work = first (pairVerdict p pm q qm ∷ workRow (length 
 unfoldable pub lengthAnswer : List ℕ → List ℕ → List ℕ → List ℕ → ℕ → Matched
 lengthAnswer p pm q qm work = answerOf (lengthVerdict p pm q qm work) (longest lettersMatch p pm q qm)
 
+-- 01, Length: an accepted call answers L exactly when the closed prefix of L bases embeds and no longer one does.
+abbrev pub LengthSays : List ℕ → List ℕ → List ℕ → List ℕ → ℕ → ℕ → Type 0
+LengthSays p pm q qm work L =
+    (lengthAnswer p pm q qm work ≡ Prefix L)
+    ↔ ((pairVerdict p pm q qm ≡ verdict.Accepted) × (workSize (length p) (length q) ≤ work) × IsLongest lettersMatch p pm q qm L)
+
 -- The call show, with a slice of so many places: motif, molecule, 9, then 8; else L.
 unfoldable pub showVerdict : List ℕ → List ℕ → List ℕ → List ℕ → ℕ → ℕ → Verdict
 showVerdict p pm q qm places work =
@@ -50,6 +58,15 @@ pub record Shown (p pm q qm : List ℕ) (L : ℕ) (old new : List ℕ) : Type 0 
   pub long : length new ≡ length old
   pub embeds : Emb (letters p q) (nth pm) (nth qm) 0 L 0 (length q) (nth new)
   pub kept : (k : ℕ) → L ≤ k → nth new k ≡ nth old k
+
+-- For proofs: what the search asks of the two strands. Accepted strands meet it, and so do the strands of a query.
+pub record Searchable (p pm q qm : List ℕ) : Type 0 where
+  pub same : length pm ≡ length p
+  pub small : length p ≤ greatestLength
+  pub motif : Nested (nth pm) (length p)
+  pub equal : length qm ≡ length q
+  pub short : length q ≤ greatestLength
+  pub molecule : Nested (nth qm) (length q)
 
 -- After a refusal the work slice and the places are as before. After an accepted call the work slice keeps its length, and the places are
 -- as `Shown` says.

@@ -10,7 +10,7 @@ ghost use Rattle.embedding.specs.Row.{Best};
 ghost use Rattle.embedding.specs.Embedding.{letters};
 ghost use Rattle.embedding.specs.Longest.{longest};
 ghost use Rattle.rows.specs.Rows.{Setting, Partners};
-ghost use Rattle.matcher.specs.Answers.{workSize};
+ghost use Rattle.matcher.specs.Answers.{workSize, Searchable};
 
 pub fn smaller(a: usize, b: usize) -> usize
     ensures { λ r. ⌜ r ≡ min a b ⌝ }
@@ -100,7 +100,7 @@ fn prepared_end(
 // The length of the longest closed prefix of the motif that embeds in the molecule. What it asks of its inputs holds where both strands are accepted:
 // the call length checks them before, and a query finds every catalog block sound before it searches one.
 pub fn prefix_length(p: &[u8], pm: &[u16], q: &[u8], qm: &[u16], work: &mut [u16]) -> usize
-    requires { ⌜ Setting (now p) (now pm) (now q) (now qm) 0 (length (now p)) ⌝ }
+    requires { ⌜ Searchable (now p) (now pm) (now q) (now qm) ⌝ }
     requires { ⌜ workSize (length (now p)) (length (now q)) ≤ length (now work) ⌝ }
     ensures { λ k. ⌜ k ≡ longest lettersMatch (now (p .entry)) (now (pm .entry)) (now (q .entry)) (now (qm .entry)) ⌝ }
 {
