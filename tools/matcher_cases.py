@@ -303,7 +303,7 @@ def long_pairs():
     group('strands of 1000 in themselves')
     for a in range(6):
         s = by_rule(a, LIMIT, 14, 4)
-        exact(s, s, SHAPES[a] + ' in itself', 'l' if a == 1 else 'ls')
+        exact(s, s, SHAPES[a] + ' in itself')
     group('strands of 4096 in themselves')
     for a in range(6):
         exact(by_rule(a, 1000, 15, 1), by_rule(4, LIMIT, 16, 1), SHAPES[a] + ' in fold')

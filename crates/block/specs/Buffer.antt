@@ -23,7 +23,7 @@ eachBlock f s = blocksTo f (length s / blockSize) s ++ drop (blockSize * (length
 unfoldable pub cleaned : List ℕ → List ℕ
 cleaned s = choose (soundEntry s) s (replicate (length s) 0)
 
--- Bit d is cleared in both maps of a cache entry; an empty block stays.
+-- Bit d is cleared in both maps of a cache entry; an empty block stays. (A sound block is empty exactly when its byte 0 is 0.)
 unfoldable pub forgot : ℕ → List ℕ → List ℕ
 forgot d s =
     choose (eqb (length s) blockSize && ltb 0 (nth s 0)) (rechecked (clearMap (clearMap s searchedAt d) hitAt d)) s

@@ -1,4 +1,4 @@
--- The catalog and the cache as buffers of blocks: all that the calls read of them, and rows 10 and 11. Assumes nothing.
+-- The catalog and the cache (01: catalogue and shelf) as buffers of blocks: all that the calls read of them, and rows 10 and 11. Assumes nothing.
 use Prim.Native.Nat.{ℕ, _/_, _%_}
 use mathlib.Core.List.{List, [], _∷_}
 use mathlib.Core.Bool.{Bool, not, _&&_}

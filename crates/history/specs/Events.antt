@@ -1,4 +1,4 @@
--- What happens in a history: calls, with their arguments apart from catalog and cache, and alterations of the cache. Assumes nothing.
+-- What happens in a history (01: the list of demand 3): calls, with their arguments apart from catalog and cache, and alterations of the cache. Assumes nothing.
 use Prim.Native.Nat.{ℕ}
 use mathlib.Core.List.{List}
 use Rattle.strand.specs.Strands.{Strand}

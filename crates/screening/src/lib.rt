@@ -1,5 +1,5 @@
 // Screening: from the bytes of an input to the text that the screen program prints.
-pub mod text;
+mod text;
 
 use catalog::Queried;
 ghost use mathlib.Core.Path.{_≡_};

@@ -33,7 +33,7 @@ moleculeSide = 1
 abbrev pub noSide : ℕ
 noSide = 2
 
--- A letter is A, C, G or U, on either side.
+-- A letter is A, C, G or U. 01 has one alphabet for both sides: the side is not read.
 unfoldable pub isLetter : ℕ → ℕ → Bool
 isLetter side b = eqb b 65 || eqb b 67 || eqb b 71 || eqb b 85
 

@@ -7,7 +7,7 @@ ghost use Rattle.strand.specs.Vocabulary.{nth, some, lowest, Tells};
 ghost use Rattle.strand.specs.Strands.{mateOutside, notMutual, crosses, crossedAt, isNested, Mutual, Closes};
 
 // The lowest position whose mate is at or above the length, or the length.
-pub fn lowest_outside(mates: &[u16]) -> usize
+pub(crate) fn lowest_outside(mates: &[u16]) -> usize
     ensures { λ r. ⌜ r ≡ lowest (length (now (mates .entry))) (mateOutside (now (mates .entry))) ⌝ }
 {
     let mut i = 0;
@@ -21,7 +21,7 @@ pub fn lowest_outside(mates: &[u16]) -> usize
 }
 
 // The lowest position whose mate's mate is another position, or the length. Callers have found the mates in range.
-pub fn lowest_not_mutual(mates: &[u16]) -> usize
+pub(crate) fn lowest_not_mutual(mates: &[u16]) -> usize
     requires { ⌜ ((i : ℕ) → i < length (now mates) → nth (now mates) i < length (now mates)) ⌝ }
     ensures { λ r. ⌜ r ≡ lowest (length (now (mates .entry))) (notMutual (now (mates .entry))) ⌝ }
 {
@@ -60,7 +60,7 @@ fn closes(mates: &[u16], i: usize) -> bool
 }
 
 // Whether no two arcs cross, in linear time. Callers have found the mates in range and mutual.
-pub fn arcs_close(mates: &[u16]) -> bool
+pub(crate) fn arcs_close(mates: &[u16]) -> bool
     requires { ⌜ Mutual (nth (now mates)) (length (now mates)) ⌝ }
     ensures { λ r. ⌜ r ≡ not (some (length (now (mates .entry))) (crossedAt (now (mates .entry)))) ⌝ }
 {
@@ -117,7 +117,7 @@ fn crossed(mates: &[u16], i: usize) -> bool
 }
 
 // The lowest left end of an arc that an earlier arc crosses, or the length: quadratic, for refused strands only.
-pub fn lowest_crossed(mates: &[u16]) -> usize
+pub(crate) fn lowest_crossed(mates: &[u16]) -> usize
     ensures { λ r. ⌜ r ≡ lowest (length (now (mates .entry))) (crossedAt (now (mates .entry))) ⌝ }
 {
     let mut i = 0;
