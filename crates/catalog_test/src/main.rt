@@ -1,15 +1,15 @@
 // Tests of the calls add, remove and query: each call is made and compared with a plain model (`model`), in its answer and in every byte
 // of catalog, cache and hits, and where it is refused in every entry of the work slice.
 //
-// The input has lines of 128 bytes. Columns, numbers of seven digits each: 2 number d, 10 bytes of the catalog, 18 bytes of the cache, 26 entries
-// of the work slice, 34 entries of the hits, 42 how often, 50 the answer; then 58 bases and 69 mates, a digit each (a letter means 65535), or `-`
-// or `=` and three digits: so many bases, repeated, without bonds or each bonded with the one as far from the other end; from 80 on a remark.
-// Letters: `A` add, `R` remove, `Q` query; in each further turn d is one more. `N` empties all buffers. `S`, `T` and `F` set byte d to the value of column 26:
-// `S` one of the cache, as an alteration; `T` one of the catalog, whose block is unsound then; `F` one of the cache, whose block gets its
-// checksum: a foreign entry. With a seed in column 26, `a` adds random molecules from 0 on, `q` asks for random motifs, and `H` is a history. `G` ends
-// a group: its name and its counts are written.
-// The answer is 0 for an accepted add or remove, row (two digits), side (one) and place (three) of a refusal, and for an accepted query 9,
-// the count and the searched number, three digits each.
+// The input, which `tools/catalog_cases.py` writes, has lines of 128 bytes. Columns, numbers of seven digits each: 2 number d, 10 bytes of the
+// catalog, 18 bytes of the cache, 26 entries of the work slice, 34 entries of the hits, 42 how often, 50 the answer; then 58 bases and 69 mates, a
+// digit each (a letter means 65535), or `-` or `=` and three digits: so many bases, repeated, without bonds or each bonded with the one as far from
+// the other end; from 80 on a remark. Letters: `A` add, `R` remove, `Q` query; in each further turn d is one more. `N` empties all buffers. `S`,
+// `T` and `F` set byte d to the value of column 26: `S` one of the cache, as an alteration; `T` one of the catalog, whose block is unsound then;
+// `F` one of the cache, whose block gets its checksum: a foreign entry. `U` and `V` are `F` and `T` of a block that is unsound with its right
+// checksum. With a seed in column 26, `a` adds random molecules from 0 on, `q` asks for random motifs, and `H` is a history. `G` ends a group: its
+// name and its counts are written. The answer is 0 for an accepted add or remove, row (two digits), side (one) and place (three) of a refusal, and
+// for an accepted query 9, the count and the searched number, three digits each.
 mod bytes;
 mod lines;
 mod matching;
