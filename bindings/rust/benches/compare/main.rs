@@ -145,8 +145,9 @@ fn shows() {
     println!(
         "\n### Show\n\nMicroseconds; no buffer is cleared before a call. The library works in its work slice of 64 (m + 1) + 8 n numbers; the C and Rust versions keep a table of"
     );
-    println!("all rows, (n + 1) (m + 1) numbers, which C is lent and Rust allocates. C's length is document 003's, without places.");
-    print_head("shape | n | m | motif | L | library | C, table | Rust, table | C, length | / C table | / Rust table | / C length");
+    println!("all rows, (n + 1) (m + 1) numbers, which C is lent and Rust allocates. The last column of times is the library's length, timed in the same turns.");
+    print_head("shape | n | m | motif | L | library | C, table | Rust, table | length | / C table | / Rust table | / length");
+    let mut goal = Goal::new("show / length", 6.0);
     for Case { shape, motif, p, q } in cases(&SIZES) {
         let (p, q) = (p.lend(), q.lend());
         let size = lakhido::work_size(p.len(), q.len());
@@ -157,11 +158,13 @@ fn shows() {
             Box::new(move || lakhido::show(lent(p), lent(q), &mut ours, &mut work).expect("accepted")),
             Box::new(move || peers::show(p, q, &mut table, &mut of_c)),
             Box::new(move || plain::table::Table::new(p, q).show(&mut of_rust)),
-            Box::new(move || peers::length(By::Rows, p, q, &mut other)),
+            Box::new(move || lakhido::length(lent(p), lent(q), &mut other).expect("accepted")),
         ];
         let (found, times) = least(&format!("show, {shape} ({}, {}) {motif}", q.len(), p.len()), versions);
         print_row(&[shape.into(), q.len().to_string(), p.len().to_string(), motif.into(), found.to_string()], &times);
+        goal.hold(&format!("{shape} ({}, {}) {motif}", q.len(), p.len()), times[0] / times[3]);
     }
+    goal.told();
 }
 
 /// A catalog of molecules of one shape.
