@@ -27,7 +27,7 @@ use Rattle.catalog.specs.Motifs.{embeds}
 use Rattle.catalog.specs.Answers.{Result, refused, done}
 use Rattle.history.specs.Events.{Call, add, remove, query, Event, call}
 use Rattle.history.specs.History.{Buffers, zeroed, bytesResult}
-use Rattle.history.specs.Examples.{Story, storyOk, Told, bonded, unbonded, settledStory, reusedStory}
+use Rattle.history.specs.Examples.{Story, storyOk, Told, gac, bonded, unbonded, settledStory, reusedStory}
 use Rattle.screening.specs.Screen.{screenOutput}
 
 -- The kinds of example, each with what it should come to.
@@ -72,18 +72,15 @@ AllHold [] = Unit
 AllHold (r ∷ rs) = Holds r × AllHold rs
 
 -- A refusal by a direct call: side 2, place 0.
-abbrev pub refusedBy : ℕ → Refusal
-refusedBy number = record { number = number; side = noSide; place = 0 }
+abbrev pub directRefusal : ℕ → Refusal
+directRefusal number = record { number = number; side = noSide; place = 0 }
 
 abbrev pub notMatched : ℕ → Matched
-notMatched number = matched.Refused (refusedBy number)
+notMatched number = matched.Refused (directRefusal number)
 
 -- A 65, C 67, G 71, U 85, X 88
 abbrev pub a : Strand
 a = strandOf (65 ∷ []) (0 ∷ [])
-
-abbrev pub gac : Strand
-gac = strandOf (71 ∷ 65 ∷ 67 ∷ []) (2 ∷ 1 ∷ 0 ∷ [])
 
 -- 121 bases A, each without a bond.
 abbrev long : Strand
@@ -153,7 +150,7 @@ refusals =
     ∷ showCall a a 1 135 (notMatched 8)
     -- 9: m = 2, 1 entry
     ∷ showCall bonded gac 1 216 (notMatched 9)
-    ∷ verifyCall bonded gac (0 ∷ []) (verified.Refused (refusedBy 9))
+    ∷ verifyCall bonded gac (0 ∷ []) (verified.Refused (directRefusal 9))
     ∷ story fewHits
     -- 10: shelf of 513 bytes
     ∷ bufferCall uneven (add 0 a) (refused 10 noSide 0)

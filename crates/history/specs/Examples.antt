@@ -48,7 +48,7 @@ storyOk t =
     && sameResults (resultsOf (modelLog embeds (t .blocks) (t .slots) start (t .events))) (t .results)
 
 -- G 71, A 65, C 67
-abbrev gac : Strand
+abbrev pub gac : Strand
 gac = strandOf (71 ∷ 65 ∷ 67 ∷ []) (2 ∷ 1 ∷ 0 ∷ [])
 
 abbrev ggc : Strand
