@@ -45,7 +45,7 @@ extern "C" {
 #define LAKHIDO_WORK(m, n) ((size_t)64 * ((size_t)(m) + 1) + (size_t)8 * (size_t)(n))
 #define LAKHIDO_QUERY_WORK(m) LAKHIDO_WORK(m, LAKHIDO_MOLECULE_MOST)
 
-/* Bytes of stack that are enough for any call (measured, not proved). */
+/* Bytes of stack that are enough for any call (measured by a test of bindings/rust, not proved). */
 #define LAKHIDO_STACK 1048576
 
 /* The number of a refusal. The place is 0 where none is named. */

@@ -121,10 +121,10 @@ class Cases:
         self.line('C', n, m)
 
     def mark(self, d, which):
-        for s, yes in ((self.searched, which & 1), (self.hits, which & 2)):
-            if yes:
+        for k, s in enumerate((self.searched, self.hits)):
+            if which >> k & 1:
                 s[d // 8] |= 1 << d % 8
-        self.line('P', d, which)
+                self.line('P', d, k)
 
     # one block
     def store(self, i, v):
@@ -224,7 +224,8 @@ class Cases:
         self.line('f', d, 0, total(self.image), name)
 
     def sums(self, name=''):
-        self.line('W', total(self.image), total(self.bases), total(self.mates), name)
+        for which, entries in enumerate((self.image, self.bases, self.mates)):
+            self.line('W', which, 0, total(entries), name)
 
     def end(self, name):
         self.line('G', name=name)

@@ -2,19 +2,28 @@
 """Writes the input of the test program catalog_test: `python3 tools/catalog_cases.py > crates/catalog_test/stdin`.
 
 The columns of a line are described in crates/catalog_test/src/main.rt. The answers of the cases are written here by hand, from the table of
-refusals and its order; for random calls none is written, since the program compares each call with its own plain model.
+refusals and its order; those of random calls come from the plain model of `Random`.
 """
 
 LARGEST = 9999999
+CACHE = 513 * 512
 
 
-def line(kind, d=0, cat=0, cache=0, work=0, hits=0, times=1, answer=0, bases='', mates='', note=''):
-    text = kind + ''.join(' %07d' % n for n in (d, cat, cache, work, hits, times, answer)) + ' %-10s %-10s %s' % (bases, mates, note)
-    print('%-127s' % text)
+def say(text):
+    print('%-79s' % text)
+
+
+def line(kind, d=0, cat=0, cache=0, work=0, hits=0, answer=0, bases='', mates='', note=''):
+    if note:
+        say('# ' + note)
+    long = mates[:1] in ('-', '=')
+    n, k = (int(mates[1:]),) * 2 if long else (len(bases), len(mates))
+    say('%s %07d %06d %05d %05d %03d %07d %-13s %-13s %02d %03d %03d'
+        % (kind, d, cat, cache, work, hits, answer, bases, mates[0] if long else mates, len(bases), n, k))
 
 
 def group(name):
-    print('%-127s' % ('G %s:' % name))
+    say('G %s:' % name)
 
 
 def refused(row, side, place=0):
@@ -32,8 +41,8 @@ class World:
         self.b, self.cat, self.cache = b, 512 * b, 512 * s
         line('N')
 
-    def add(self, d, bases, mates, answer=0, note='', times=1, cat=None, cache=None):
-        line('A', d, self.cat if cat is None else cat, self.cache if cache is None else cache, times=times, answer=answer, bases=bases, mates=mates, note=note)
+    def add(self, d, bases, mates, answer=0, note='', cat=None, cache=None):
+        line('A', d, self.cat if cat is None else cat, self.cache if cache is None else cache, answer=answer, bases=bases, mates=mates, note=note)
 
     def remove(self, d, answer=0, note='', cat=None, cache=None):
         line('R', d, self.cat if cat is None else cat, self.cache if cache is None else cache, answer=answer, note=note)
@@ -43,12 +52,11 @@ class World:
         line('Q', 0, self.cat if cat is None else cat, self.cache if cache is None else cache,
              64 * (n + 1) + 1280 if work is None else work, self.b if hits is None else hits, answer=answer, bases=bases, mates=mates, note=note)
 
-    def random(self, kind, seed, times):
-        line(kind, 0, self.cat, self.cache, seed, times=times)
 
-
-def set_byte(kind, i, v, note=''):
-    line(kind, i, work=v, note=note)
+# A byte of the catalog, or one of the cache: an alteration (S), one of a block that is unsound with its right checksum (U), or one of a
+# foreign entry (F).
+def set_byte(kind, i, v, note='', unsound=True):
+    line('S' if kind == 'S' else 'C', i, work=v, hits=0 if kind == 'F' else int(unsound), note=note)
 
 
 # Rows 1 to 7 of a strand of a side, and each two neighbours that can apply at once. Rows 2 and 3 cannot.
@@ -87,12 +95,12 @@ def rows_of_add():
     w.add(0, 'GC', '10', refused(13, 2), 'row 13')
     w.add(0, 'AC', '0', refused(13, 2), 'rows 13 and 1')
     strands(lambda bases, mates, answer, note: w.add(1, bases, mates, answer, note), 1, 161)
-    set_byte('T', 512, 9, 'block 1 is unsound')
+    set_byte('S', 512, 9, 'block 1 is unsound')
     w.add(1, 'GC', '10', refused(11, 2, 1), 'row 11')
     w.add(0, 'GC', '10', refused(11, 2, 1), 'rows 11 and 13')
     w.add(2, 'GC', '10', refused(11, 2, 1), 'rows 11 and 12')
     w.add(1, 'GC', '10', refused(10, 2), 'rows 10 and 11', cache=513)
-    set_byte('T', 30, 9, 'block 0 too')
+    set_byte('S', 30, 9, 'block 0 too')
     w.add(1, 'GC', '10', refused(11, 2, 0), 'row 11, the lowest')
     group('rows of add')
 
@@ -106,7 +114,7 @@ def rows_of_remove():
     w.remove(1, refused(14, 2), 'row 14')
     w.remove(2, refused(12, 2), 'rows 12 and 14')
     w.remove(LARGEST, refused(12, 2), 'row 12, the largest number')
-    set_byte('T', 512, 9, 'block 1 is unsound')
+    set_byte('S', 512, 9, 'block 1 is unsound')
     w.remove(0, refused(11, 2, 1), 'row 11')
     w.remove(1, refused(11, 2, 1), 'rows 11 and 14')
     w.remove(2, refused(11, 2, 1), 'rows 11 and 12')
@@ -128,7 +136,7 @@ def rows_of_query():
     w.query('A', '0', refused(8, 2), 'row 8', work=1407)
     w.query('A', '0', found(1, 0), 'enough work, the entry is still there', work=1408)
     w.query('GC', '10', found(0, 1), 'enough work, and more hits than blocks', work=1472, hits=5)
-    set_byte('T', 512, 9, 'block 1 is unsound')
+    set_byte('S', 512, 9, 'block 1 is unsound')
     w.query('GC', '10', refused(11, 2, 1), 'row 11')
     w.query('AC', '0', refused(11, 2, 1), 'rows 11 and 1')
     w.query('GC', '10', refused(10, 2), 'rows 10 and 11', cache=513)
@@ -141,7 +149,7 @@ def unsound_blocks():
                        (187, 1, 'base 159'), (188, 9, 'a mate too large'), (188, 1, 'not mutual'), (196, 1, 'mate 4'), (507, 1, 'byte 507')):
         w = World(2, 1)
         w.add(1, 'ACGU', '3210')
-        set_byte('V', 512 + i, v, note)
+        set_byte('U', 512 + i, v, note)
         w.query('A', '0', refused(11, 2, 1), note)
         w.remove(1, refused(11, 2, 1), note)
         w.add(0, 'A', '0', refused(11, 2, 1), note)
@@ -190,14 +198,14 @@ def altered():
         w.add(1, 'GGC', '210')
         w.query('AGC', '021', found(0, 2), 'slot 0')
         w.query('GC', '10', found(2, 2), 'slot 1')
-        set_byte('S', 512 + i, v, note)
+        set_byte('S', CACHE + 512 + i, v, note)
         w.query('GC', '11', refused(6, 0), 'a refused call leaves the altered block')
         w.query('AGC', '021', found(0, 0), 'the other entry stays')
         w.query('GC', '10', found(2, 2), 'all is searched again')
-        set_byte('S', 512 + i, v, note)
+        set_byte('S', CACHE + 512 + i, v, note)
         w.remove(0)
         w.query('GC', '10', found(1, 1), 'remove emptied the block')
-        set_byte('S', 512 + i, v, note)
+        set_byte('S', CACHE + 512 + i, v, note)
         w.add(0, 'GAC', '210')
         w.query('GC', '10', found(2, 2), 'add emptied the block')
     group('one byte altered')
@@ -211,7 +219,7 @@ def unsound_entries():
         w.add(0, 'GAC', '210')
         w.add(1, 'GGC', '210')
         w.query('GC', '10', found(2, 2))
-        set_byte('U', i, v, note)
+        set_byte('U', CACHE + i, v, note)
         w.query('GC', '10', found(2, 2), 'all is searched again')
     group('unsound entries')
 
@@ -222,26 +230,26 @@ def foreign():
     w.add(0, 'GAC', '210')
     w.add(1, 'GGC', '210')
     w.query('GC', '10', found(2, 2))
-    set_byte('F', 444, 0, 'no hits')
+    set_byte('F', CACHE + 444, 0, 'no hits')
     w.query('GC', '10', found(0, 0), 'the entry is trusted')
-    set_byte('F', 444, 1, 'hit 0')
+    set_byte('F', CACHE + 444, 1, 'hit 0')
     w.query('GC', '10', found(1, 0), 'the entry is trusted')
-    set_byte('F', 444, 0)
-    set_byte('F', 380, 2, '0 was not searched, 1 is no hit')
+    set_byte('F', CACHE + 444, 0)
+    set_byte('F', CACHE + 380, 2, '0 was not searched, 1 is no hit')
     w.query('GC', '10', found(1, 1), '0 is searched')
-    set_byte('F', 380, 255, 'searched numbers 2 to 7')
-    set_byte('F', 443, 128, 'and number 511')
-    set_byte('F', 444, 254, 'hits 1 to 7')
+    set_byte('F', CACHE + 380, 255, 'searched numbers 2 to 7')
+    set_byte('F', CACHE + 443, 128, 'and number 511')
+    set_byte('F', CACHE + 444, 254, 'hits 1 to 7')
     w.query('GC', '10', found(1, 0), 'numbers that are not held are left out')
-    set_byte('F', 380, 255)
-    set_byte('F', 444, 255)
+    set_byte('F', CACHE + 380, 255)
+    set_byte('F', CACHE + 444, 255)
     w.remove(1, note='takes 1 out, and leaves 2 to 7')
     w.add(1, 'A', '0')
     w.query('GC', '10', found(1, 1), '1 is searched')
-    set_byte('F', 20, 67, 'the motif CC')
+    set_byte('F', CACHE + 20, 67, 'the motif CC')
     w.query('GC', '10', found(1, 2), 'another motif')
-    set_byte('F', 380, 0, 'nothing was searched')
-    set_byte('F', 444, 0)
+    set_byte('F', CACHE + 380, 0, 'nothing was searched')
+    set_byte('F', CACHE + 444, 0)
     w.query('GC', '10', found(1, 2), 'all is searched')
     group('foreign entries')
 
@@ -291,7 +299,8 @@ def long_strands():
 
 def largest_buffers():
     w = World(512, 64)
-    w.add(0, 'GAC', '210', times=512)
+    for d in range(512):
+        w.add(d, 'GAC', '210')
     w.add(511, 'A', '0', refused(13, 2))
     w.add(512, 'A', '0', refused(12, 2))
     w.query('GC', '10', refused(9, 2), hits=511)
@@ -304,13 +313,190 @@ def largest_buffers():
     w.query('GC', '10', found(511, 0))
     w.add(511, 'A', '0')
     w.query('GC', '10', found(511, 1))
-    set_byte('S', 512 * (139 % 64) + 400, 1)
+    set_byte('S', CACHE + 512 * (139 % 64) + 400, 1)
     w.query('A', '0', found(512, 1), 'another slot stays')
     w.query('GC', '10', found(511, 512))
-    set_byte('T', 512 * 511, 9)
+    set_byte('S', 512 * 511, 9)
     w.query('GC', '10', refused(11, 2, 511))
     group('512 blocks of one molecule, 64 slots')
-    w = World(512, 64)
+
+
+def after(x):
+    return x % 2147483647 * 48271 % 2147483647
+
+
+# A number below n from the digits of x beyond a divisor.
+def below(x, by, n):
+    return x // by % 65536 % n
+
+
+# No bond leaves j to i, and j has none.
+def closed(mates, j, i):
+    return mates[j] == j and all(j <= mates[z] <= i for z in range(j, i))
+
+
+# A nested strand of n bases, each bonded with an earlier one where that may be.
+def nested(x, n):
+    bases, mates = [], []
+    for i in range(n):
+        bases.append('GGGCCCAU'[below(x, 8, 8)])
+        mates.append(i)
+        j = below(x, 64, i + 1)
+        if closed(mates, j, i):
+            mates[i], mates[j] = j, i
+        x = after(x)
+    return bases, mates
+
+
+# For 0, 1 and 2: a base that is no letter, any mate, a bond that may cross another.
+def spoil(how, x, bases, mates):
+    i, j = below(x, 4, len(bases)), below(x, 64, len(bases))
+    if how == 0:
+        bases[i] = 'X'
+    if how == 1:
+        mates[i] = j + i % 2
+    if how == 2 and mates[i] == i and mates[j] == j:
+        mates[i], mates[j] = j, i
+
+
+# The first refusal of a strand.
+def strand_refusal(bases, mates, side, greatest):
+    n = len(bases)
+    if n != len(mates):
+        return refused(1, side)
+    if n == 0:
+        return refused(2, side)
+    if greatest < n:
+        return refused(3, side)
+    rules = (lambda i: bases[i] not in 'ACGU', lambda i: n <= mates[i], lambda i: mates[mates[i]] != i,
+             lambda i: any(i < mates[a] < mates[i] for a in range(i)))
+    return next((refused(4 + k, side, i) for k, rule in enumerate(rules) for i in range(n) if rule(i)), 0)
+
+
+# The motif from position len(places) on has places in the molecule from y on.
+def embeds(motif, molecule, places=(), y=0):
+    (p, pm), (q, qm), x = motif, molecule, len(places)
+    if x == len(p):
+        return True
+    return any(p[x] == q[j] and all((pm[z] == x) == (places[z] == qm[j]) for z in range(x)) and embeds(motif, molecule, places + (j,), j + 1)
+               for j in range(y, len(q) - (len(p) - x) + 1))
+
+
+class Random(World):
+    """Random calls, with their answers from a plain model: the molecules that are held, and the entries of the cache."""
+
+    def __init__(self, b, s):
+        super().__init__(b, s)
+        self.held, self.entries, self.altered = {}, [None] * s, {}
+
+    # The bytes of cache block k.
+    def block(self, k):
+        out = bytearray(512)
+        if self.entries[k]:
+            (bases, mates), searched, hits = self.entries[k]
+            out[0:2] = 2, len(bases)
+            for i, base in enumerate(bases):
+                out[20 + i], out[140 + 2 * i] = ord(base), mates[i]
+            for start, numbers in ((380, searched), (444, hits)):
+                for d in numbers:
+                    out[start + d // 8] |= 1 << d % 8
+            out[508:512] = sum((i + 1) * v for i, v in enumerate(out[:508])).to_bytes(4, 'little')
+        for i, v in self.altered.get(k, {}).items():
+            out[i] = v
+        return out
+
+    # An accepted call empties altered blocks.
+    def tidy(self):
+        for k in self.altered:
+            self.entries[k] = None
+        self.altered = {}
+
+    def update(self, kind, d, bases, mates):
+        if self.b <= d:
+            return refused(12, 2)
+        if kind == 'A' and d in self.held:
+            return refused(13, 2)
+        if kind == 'A' and strand_refusal(bases, mates, 1, 160):
+            return strand_refusal(bases, mates, 1, 160)
+        if kind == 'R' and d not in self.held:
+            return refused(14, 2)
+        self.tidy()
+        if kind == 'A':
+            self.held[d] = bases, mates
+            return 0
+        del self.held[d]
+        for entry in filter(None, self.entries):
+            entry[1].discard(d)
+            entry[2].discard(d)
+        return 0
+
+    def ask(self, bases, mates, work, hits):
+        v = strand_refusal(bases, mates, 0, 120)
+        if v or hits < self.b:
+            return v or refused(9, 2)
+        if work < 64 * (len(bases) + 1) + 1280:
+            return refused(8, 2)
+        self.tidy()
+        k = (sum(map(ord, bases)) + sum(mates)) % len(self.entries)
+        if not self.entries[k] or self.entries[k][0] != (bases, mates):
+            self.entries[k] = (bases, mates), set(), set()
+        searched, hit = self.entries[k][1:]
+        fresh = set(self.held) - searched
+        hit.update(d for d in fresh if embeds((bases, mates), self.held[d]))
+        searched.update(fresh)
+        return found(len(hit), len(fresh))
+
+    # A byte of one of the eight regions of a cache block: kind, length, zeros, bases, mates, the two maps, checksum; at most three from the
+    # region's start half of the time. Another value, or the same where the block has been altered since the last accepted call and now and then else.
+    def alter(self, x):
+        r, y = below(x, 16, 8), after(x)
+        k = below(x, 256, len(self.entries))
+        width = 1 if r < 2 else 4 if below(y, 2, 2) == 0 else (18, 120, 240, 64, 64, 4)[r - 2]
+        i = (0, 1, 2, 20, 140, 380, 444, 508)[r] + below(y, 32, width)
+        old = self.block(k)[i]
+        v = old if k in self.altered or below(y, 8, 16) == 0 else (old + 1) % 256 if below(y, 128, 2) == 0 else below(y, 256, 256)
+        if v != old:
+            self.altered[k] = {i: v}
+        set_byte('S', CACHE + 512 * k + i, v, unsound=k in self.altered)
+
+    # A call, with one of the ways in which it may be refused: what `spoil` does, lengths that differ, none, too many bases, buffers that are too
+    # short or not whole blocks.
+    def call(self, kind, d, how, n, seed):
+        bases, mates = nested(seed, n)
+        spoil(how, after(seed), bases, mates)
+        if how == 3:
+            mates.append(0)
+        if how == 4:
+            bases, mates = [], []
+        long = how == 5
+        work, hits, cat, cache = 64 * (n + 1) + 1280, self.b, self.cat, self.cache
+        work, hits = work // 2 if how == 6 else work, hits // 2 if how == 7 else hits
+        cat, cache = cat // 2 + 1 if how == 9 else cat, cache + 1 if how == 8 else cache
+        strand = (['A'] * 161, list(range(161))) if long else (bases, mates)
+        if how in (8, 9):
+            answer = refused(10, 2)
+        else:
+            answer = self.ask(*strand, work, hits) if kind == 'Q' else self.update(kind, d, *strand)
+        line(kind, d, cat, cache, work, hits, answer, 'A' if long else ''.join(bases), '-161' if long else ''.join('0123456789abc'[m] for m in mates))
+
+    # So many turns from a seed: molecules from 0 on (a), queries (q), or a history (H): of 16 turns five add, three remove, six ask and two alter a
+    # byte of the cache. Motifs are drawn from twelve for each seed, molecules from all.
+    def random(self, given, first, times):
+        x = first
+        for i in range(times):
+            kind = {'a': 'A', 'q': 'Q'}.get(given, 'AAAAARRRQQQQQQSS'[below(x, 1, 16)])
+            how = below(after(x), 16, 40) if given == 'H' else 99
+            if kind == 'S':
+                self.alter(x)
+            else:
+                seed = after(after(below(x, 32, 12) * 1000 + first % 1000)) if kind == 'Q' else after(x)
+                d = i if given == 'a' else below(x, 512, self.b + 1)
+                self.call(kind, d, how, below(seed, 4, 5 if kind == 'Q' else 12) + 1, seed)
+            x = after(x)
+
+
+def random_molecules():
+    w = Random(512, 64)
     w.random('a', 4711, 512)
     w.random('q', 1, 40)
     w.random('H', 815, 200)
@@ -320,7 +506,7 @@ def largest_buffers():
 
 def histories():
     for b, s, seed in ((1, 1, 11), (2, 1, 22), (3, 1, 33), (3, 2, 44), (4, 2, 55), (8, 3, 66), (9, 5, 77), (17, 2, 88)):
-        w = World(b, s)
+        w = Random(b, s)
         w.random('H', seed * 1000 + 7, 500)
         group('history of %d blocks and %d slots' % (b, s))
 
@@ -337,4 +523,5 @@ foreign()
 other_slots()
 long_strands()
 largest_buffers()
+random_molecules()
 histories()

@@ -4,7 +4,7 @@
 
 typedef struct {
     const uint8_t *p, *partner, *q;
-    const uint16_t *pm, *qm;
+    const uint16_t *pm, *qm, *steps;
     int m;
 } Pair;
 
@@ -18,7 +18,7 @@ static void identity(uint16_t *row, int from, int to) {
 
 // The bodies of the vector loops are functions of values: the compiler may then load every value in each turn. c and k are the base and the mate of j,
 // d the base of k; `here` and `next` are the row's entries for j and j + 1.
-static uint16_t extend_entry(uint8_t c, uint8_t b, uint16_t k, uint16_t j, uint16_t here, uint16_t next) { return k <= j && c == b ? next : here; }
+static uint16_t extend_entry(uint16_t step, uint16_t j, uint16_t here, uint16_t next) { return step == j ? here : next; }
 static uint16_t unit_entry(uint8_t c, uint8_t b, uint16_t k, uint16_t j) { return k <= j && c == b ? j + 1 : j; }
 static uint16_t over_entry(uint8_t c, uint8_t x, uint16_t k, uint16_t j, uint16_t to, uint8_t d, uint8_t y, uint16_t next) {
     if (c != x) return 0;
@@ -26,11 +26,13 @@ static uint16_t over_entry(uint8_t c, uint8_t x, uint16_t k, uint16_t j, uint16_
     return k < to && d == y && k <= next ? k + 1 : 0;
 }
 
+// The steps of the letter y: for each k where an unbonded base y takes the motif from k on.
+static const uint16_t *steps_of(const Pair *s, uint8_t y) { return s->steps + (y >> 1 & 3) * (s->m + 1); }
+
 // Puts the unbonded base b in front of the row's stretch.
 static void extend(const Pair *s, uint16_t *row, int from, int to, uint8_t b) {
-    const uint8_t *p = s->p;
-    const uint16_t *pm = s->pm;
-    for (int j = from; j < to; j++) row[j] = extend_entry(p[j], b, pm[j], j, row[j], row[j + 1]);
+    const uint16_t *steps = steps_of(s, b);
+    for (int j = from; j < to; j++) row[j] = extend_entry(steps[j], j, row[j], row[j + 1]);
 }
 
 // Puts the stretch of the row `front` in front.
@@ -47,8 +49,8 @@ static void combine_into(uint16_t *row, const uint16_t *back, int from, int to) 
 static int unit(const Pair *s, int to, int k, uint8_t y) { return k < to && s->pm[k] <= k && s->p[k] == y ? k + 1 : k; }
 
 // The entry for j of an arc with the letters x, y, from its inner row's entries for j and j + 1.
-static uint16_t arc_entry(const Pair *s, int to, int j, uint8_t x, uint8_t y, uint16_t here, uint16_t next) {
-    uint16_t best = unit(s, to, here, y);
+static uint16_t arc_entry(const Pair *s, const uint16_t *steps, int to, int j, uint8_t x, uint8_t y, uint16_t here, uint16_t next) {
+    uint16_t best = smaller(steps[here], to);
     if (s->p[j] != x) return best;
     int k = s->pm[j];
     if (k <= j) return larger(best, next);
@@ -56,20 +58,19 @@ static uint16_t arc_entry(const Pair *s, int to, int j, uint8_t x, uint8_t y, ui
     return larger(best, k + 1);
 }
 
-// The row of an arc with the letters x, y, in the place of its inner row; the next two rows are written too.
+// The row of an arc with the letters x, y, in the place of its inner row; the next row is written too.
 static void close_arc(const Pair *s, uint16_t *row, int from, int to, uint8_t x, uint8_t y) {
+    const uint16_t *steps = steps_of(s, y);
     if (to < from + 40) {
-        for (int j = from; j < to; j++) row[j] = arc_entry(s, to, j, x, y, row[j], row[j + 1]);
+        for (int j = from; j < to; j++) row[j] = arc_entry(s, steps, to, j, x, y, row[j], row[j + 1]);
         return;
     }
     const uint8_t *p = s->p, *partner = s->partner;
     const uint16_t *pm = s->pm;
-    uint16_t *over = row + s->m + 1, *units = over + s->m + 1;
+    uint16_t *over = row + s->m + 1;
     for (int j = from; j < to; j++) over[j] = over_entry(p[j], x, pm[j], j, to, partner[j], y, row[j + 1]);
-    for (int j = from; j < to; j++) units[j] = unit_entry(p[j], y, pm[j], j);
-    units[to] = to;
-    combine_into(row, units, from, to);
-    for (int j = from; j < to; j++) row[j] = larger(row[j], over[j]);
+    for (int j = from; j < to; j++) row[j] = steps[row[j]];
+    for (int j = from; j < to; j++) row[j] = larger(smaller(row[j], to), over[j]);
 }
 
 // The left end of the longest arc directly in lo..hi, or hi.
@@ -83,6 +84,18 @@ static int heaviest(const Pair *s, int lo, int hi) {
         }
     }
     return best;
+}
+
+// Leaves the row of lo..hi, which has no arc, as the first row of work.
+static void flat_row(const Pair *s, int from, int to, int lo, int hi, uint16_t *work) {
+    if (hi <= lo) {
+        identity(work, from, to);
+        return;
+    }
+    const uint16_t *steps = steps_of(s, s->q[hi - 1]);
+    for (int j = from; j < to; j++) work[j] = steps[j];
+    work[to] = to;
+    for (int i = hi - 1; lo < i; i--) extend(s, work, from, to, s->q[i - 1]);
 }
 
 static void inner_row(const Pair *s, int from, int to, int l, int r, uint16_t *work);
@@ -107,8 +120,7 @@ static void prepend(const Pair *s, int from, int to, int lo, int hi, uint16_t *w
 static void inner_row(const Pair *s, int from, int to, int l, int r, uint16_t *work) {
     int heavy = heaviest(s, l + 1, r);
     if (r <= heavy) {
-        identity(work, from, to);
-        prepend(s, from, to, l + 1, r, work);
+        flat_row(s, from, to, l + 1, r, work);
         return;
     }
     int e = s->qm[heavy];
@@ -120,20 +132,27 @@ static void inner_row(const Pair *s, int from, int to, int l, int r, uint16_t *w
         prepend(s, from, to, e + 1, r, part);
         combine_into(work, part, from, to);
     }
-    prepend(s, from, to, l + 1, heavy, work);
+    if (l + 1 < heavy) prepend(s, from, to, l + 1, heavy, work);
 }
 
 size_t windows_length(const uint8_t *p, const uint16_t *pm, size_t m, const uint8_t *q, const uint16_t *qm, size_t length, uint16_t *work) {
     uint8_t partner[4096];
-    Pair s = {p, partner, q, pm, qm, m};
+    uint16_t steps[4 * 4097];
+    Pair s = {p, partner, q, pm, qm, steps, m};
     int cur = 0, n = length;
     for (int j = 0; j < s.m; j++) partner[j] = p[pm[j]];
+    for (int c = 0; c < 4; c++) {
+        uint8_t y = "ACUG"[c];
+        uint16_t *row = steps + c * (s.m + 1);
+        for (int j = 0; j < s.m; j++) row[j] = unit_entry(p[j], y, pm[j], j);
+        row[s.m] = s.m;
+    }
     for (int i = 0; i < n && cur < s.m; i++) {
         int r = qm[i];
         if (i < r) {
             int to = smaller(s.m, cur + r + 1 - i);
             inner_row(&s, cur, to, i, r, work);
-            cur = arc_entry(&s, to, cur, q[i], q[r], work[cur], work[cur + 1]);
+            cur = arc_entry(&s, steps_of(&s, q[r]), to, cur, q[i], q[r], work[cur], work[cur + 1]);
         } else {
             cur = unit(&s, s.m, cur, q[i]);
         }

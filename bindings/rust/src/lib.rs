@@ -48,7 +48,7 @@
 //! To build: `rt staticlib capi` in the repository proves the library and writes `target/staticlib/libcapi.a` (x86-64), which this crate links. Another
 //! folder is named by the variable `LAKHIDO_LIB_DIR`.
 //!
-//! A call may use up to 1 MiB of stack (measured, not proved).
+//! A call may use up to 1 MiB of stack (measured by a test, not proved).
 
 mod ffi;
 mod refusal;

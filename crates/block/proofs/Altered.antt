@@ -107,29 +107,17 @@ module _ (k : Kind) (hk : 1 ≤ k .mark) (s : List ℕ) (i v : ℕ) (hs : length
       go (yes q) = zeros-not (set s i v) 1 (long 1 (omega arith)) (λ e. omega (arith, c .enough, getD-set-other s i 1 v 0 (omega arith)))
       go (no q) = zeros-not (set s i v) 0 (long 0 (omega arith)) (λ e. omega (arith, c .marked, getD-set-other s i 0 v 0 (λ x. q (sym x))))
 
-module _ (s : List ℕ) (i v : ℕ) (hi : i < 512) (n : v ≡ nth s i → ⊥) where
-  pub molecule-altered : soundMolecule s ≡ true → soundMolecule (set s i v) ≡ false
+  changed : Sound k s → (isEmpty (set s i v) ≡ false) × (checksumOk (set s i v) ≡ false)
+  changed x = (filled-now x, check-altered s i v hs hi n (right x))
+
+-- For readers, and for the histories: a sound block with one byte changed to another value is unsound.
+module _ (s : List ℕ) (i v : ℕ) where
+  pub molecule-changed : soundMolecule s ≡ true → i < 512 → (nth s i ≡ v → ⊥) → soundMolecule (set s i v) ≡ false
   unfolding soundMolecule moleculeRules
-  molecule-altered e = rw (now, wrong, and-false, and-false)
-    where
-      len : length s ≡ 512
-      len = molecule-size s e
+  molecule-changed e h n =
+      let x = changed moleculeKind (omega arith) s i v (molecule-size s e) h (λ q. n (sym q)) (molecule-is s e) in rw (x .0, x .1, and-false, and-false)
 
-      now : isEmpty (set s i v) ≡ false
-      now = filled-now moleculeKind (omega arith) s i v len hi n (molecule-is s e)
-
-      wrong : checksumOk (set s i v) ≡ false
-      wrong = check-altered s i v len hi n (right moleculeKind (omega arith) s i v len hi n (molecule-is s e))
-
-  pub entry-altered : soundEntry s ≡ true → soundEntry (set s i v) ≡ false
+  pub entry-changed : soundEntry s ≡ true → i < 512 → (nth s i ≡ v → ⊥) → soundEntry (set s i v) ≡ false
   unfolding soundEntry entryRules
-  entry-altered e = rw (now, wrong, and-false, and-false)
-    where
-      len : length s ≡ 512
-      len = entry-size s e
-
-      now : isEmpty (set s i v) ≡ false
-      now = filled-now entryKind (omega arith) s i v len hi n (entry-is s e)
-
-      wrong : checksumOk (set s i v) ≡ false
-      wrong = check-altered s i v len hi n (right entryKind (omega arith) s i v len hi n (entry-is s e))
+  entry-changed e h n =
+      let x = changed entryKind (omega arith) s i v (entry-size s e) h (λ q. n (sym q)) (entry-is s e) in rw (x .0, x .1, and-false, and-false)

@@ -27,6 +27,9 @@ length-block d s h = length-take-le (512 * d + 512 - 512 * d) (drop (512 * d) s)
 
 -- ---- each block mapped
 
+pub regroup : (a b c e : List ℕ) → a ++ (b ++ c) ++ e ≡ a ++ (b ++ (c ++ e))
+regroup a b c e = simp append-assoc
+
 module _ (f : List ℕ → List ℕ) (same : (b : List ℕ) → length (f b) ≡ length b) where
   split : (n d : ℕ) (s : List ℕ) → d < n → (r : List ℕ) × (blocksTo f n s ≡ blocksTo f d s ++ (f (blockOf d s) ++ r))
   unfolding blocksTo
@@ -36,9 +39,6 @@ module _ (f : List ℕ → List ℕ) (same : (b : List ℕ) → length (f b) ≡
       (λ l. let i = split n d s l in
       (i .0 ++ f (blockOf n s), ap (λ (x : List ℕ). x ++ f (blockOf n s)) (i .1) ∙ regroup (blocksTo f d s) (f (blockOf d s)) (i .0) (f (blockOf n s))))
       (eq-or-lt-of-le (le-of-suc-le-suc h))
-    where
-      regroup : (a b c e : List ℕ) → a ++ (b ++ c) ++ e ≡ a ++ (b ++ (c ++ e))
-      regroup a b c e = simp append-assoc
 
   pub block-each : (d : ℕ) (s : List ℕ) → d < length s / 512 → blockOf d (eachBlock f s) ≡ f (blockOf d s)
   unfolding eachBlock
@@ -52,9 +52,6 @@ module _ (f : List ℕ → List ℕ) (same : (b : List ℕ) → length (f b) ≡
 
       cut : (r : List ℕ) × (blocksTo f (length s / 512) s ≡ blocksTo f d s ++ (f (blockOf d s) ++ r))
       cut = split (length s / 512) d s h
-
-      regroup : (a b c e : List ℕ) → a ++ (b ++ c) ++ e ≡ a ++ (b ++ (c ++ e))
-      regroup a b c e = simp append-assoc
 
   pub length-each : (s : List ℕ) → length (eachBlock f s) ≡ length s
   unfolding eachBlock

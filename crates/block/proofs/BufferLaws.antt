@@ -3,14 +3,14 @@
 use mathlib.Core.Path.{_≡_, refl, sym, ap, ap₂, _∙_}
 use mathlib.Core.Bool.{Bool, true, false, _&&_}
 use mathlib.Core.List.{List, _++_, append-assoc}
-use Prim.Native.Nat.{ℕ, zero, suc, _+_, _-_, _*_, _/_, _<_, _≤_}
+use Prim.Native.Nat.{ℕ, zero, suc, _+_, _-_, _*_, _/_, _≤_}
 use native.Mathlib.Omega.{arith}
 use native.Mathlib.Numerals.{add-one}
 use borrow.Rule.Slice.PartMut.{putMid}
 use lib.ListN.{length, take, drop, replicate, length-append, length-drop, length-set, length-replicate}
 use lib.Seq.{drop-at, drop-drop, length-take-le}
-use lib.Dec.{eqb, ltb}
-use borrow.Author.Tests.{eq-eqb, ne-eqb, lt-ltb, le-ltb}
+use lib.Dec.{eqb}
+use borrow.Author.Tests.{eq-eqb, ne-eqb}
 use Rattle.strand.specs.Vocabulary.{nth, choose}
 use Rattle.octets.specs.Checksum.{rechecked}
 use Rattle.octets.specs.Bits.{clearMap}
@@ -90,7 +90,7 @@ length-cleaned s = go (soundEntry s)
 
 pub length-forgot : (d : ℕ) (s : List ℕ) → length (forgot d s) ≡ length s
 unfolding forgot rechecked clearMap choose
-length-forgot d s = go (eqb (length s) 512 && ltb 0 (nth s 0))
+length-forgot d s = go (eqb (length s) 512 && eqb (nth s 0) 2)
   where
     go : (b : Bool) → length (choose b (rechecked (clearMap (clearMap s 380 d) 444 d)) s) ≡ length s
     go true = simp length-set
@@ -109,14 +109,14 @@ module _ (d : ℕ) (s : List ℕ) where
   unfolding forgot choose
   forget-1 h = rw (ne-eqb (length s) 512 h)
 
-  pub forget-2 : length s ≡ 512 → nth s 0 ≤ 0 → s ≡ forgot d s
+  pub forget-2 : length s ≡ 512 → (nth s 0 ≡ 2 → ⊥) → s ≡ forgot d s
   unfolding forgot choose
-  forget-2 h k = rw (eq-eqb (length s) 512 h, le-ltb 0 (nth s 0) k)
+  forget-2 h k = rw (eq-eqb (length s) 512 h, ne-eqb (nth s 0) 2 k)
 
-  pub forget-3 : (u v r : List ℕ) → length s ≡ 512 → 0 < nth s 0 → u ≡ clearMap s 380 d → v ≡ clearMap u 444 d
+  pub forget-3 : (u v r : List ℕ) → length s ≡ 512 → nth s 0 ≡ 2 → u ≡ clearMap s 380 d → v ≡ clearMap u 444 d
       → r ≡ rechecked v → r ≡ forgot d s
   unfolding forgot choose
-  forget-3 u v r h k eu ev er = rw (eq-eqb (length s) 512 h, lt-ltb 0 (nth s 0) k, ← eu, ← ev) er
+  forget-3 u v r h k eu ev er = rw (eq-eqb (length s) 512 h, eq-eqb (nth s 0) 2 k, ← eu, ← ev) er
 
 -- ---- block d written
 

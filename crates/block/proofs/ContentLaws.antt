@@ -6,18 +6,20 @@ use mathlib.Core.Bool.{Bool, true, false, not, _||_}
 use mathlib.Core.List.{List, _++_, append-assoc}
 use Prim.Native.Nat.{ℕ, suc, _+_, _-_, _<_, _≤_}
 use native.Mathlib.Omega.{arith}
-use lib.ListN.{length, set, drop, replicate, length-drop}
+use lib.ListN.{length, drop, replicate, length-drop}
 use lib.Seq.{length-take-le}
 use Rattle.strand.specs.Vocabulary.{nth, choose}
 use Rattle.strand.specs.Strands.{Strand, moleculeSide, motifSide, Proper}
 use Rattle.strand.proofs.ListLaws.{every-at, never, zeros-at, zeros-not, zeros-zero, zeros-are}
+use Rattle.octets.specs.Numbers.{Bytes}
 use Rattle.octets.specs.Checksum.{checked, checksumOk}
 use Rattle.octets.specs.Maps.{mapBytes, without}
 use Rattle.block.specs.Content.{Kind, moleculeKind, entryKind, emptyBlock, isEmpty, lengthIn, strandIn, moleculeIn, motifIn, searchedIn, hitIn, contentOf, moleculeBlock, entryBlock, encodeMolecule, encodeEntry}
 use Rattle.block.specs.Block.{hitOk, hitsOk, soundMolecule, soundEntry}
 use Rattle.block.specs.Buffer.{forgot}
-use Rattle.block.proofs.SoundLaws.{Content, Sound, blank, filled, molecule-zero, entry-zero, molecule-size, molecule-is, entry-size, entry-is, entry-hits-ok}
-use Rattle.block.proofs.Altered.{molecule-altered, entry-altered}
+use Rattle.block.proofs.SoundLaws.{Content, Sound, blank, filled, molecule-zero, entry-zero, molecule-is, entry-is, entry-hits-ok}
+pub use Rattle.block.proofs.SoundLaws.{molecule-size, entry-size}
+pub use Rattle.block.proofs.Altered.{molecule-changed, entry-changed}
 use Rattle.block.proofs.RoundTrip as trip
 use Rattle.block.proofs.EntryLaws as entry
 use Rattle.block.proofs.EncodedLaws.{strand-proper, molecule-same, entry-same}
@@ -116,14 +118,6 @@ module _ (q : Strand) (ok : Proper motifSide 1 120 (q .bases) (q .mates)) (s h :
   unfolding encodeEntry
   entry-forgot d l = entry.entry-forget (q .bases) (q .mates) ok s h d l
 
--- ---- a sound block with one byte changed to another value
-
-pub molecule-changed : (b : List ℕ) (i v : ℕ) → soundMolecule b ≡ true → i < 512 → (nth b i ≡ v → ⊥) → soundMolecule (set b i v) ≡ false
-molecule-changed b i v ok l ne = molecule-altered b i v l (λ e. ne (sym e)) ok
-
-pub entry-changed : (b : List ℕ) (i v : ℕ) → soundEntry b ≡ true → i < 512 → (nth b i ≡ v → ⊥) → soundEntry (set b i v) ≡ false
-entry-changed b i v ok l ne = entry-altered b i v l (λ e. ne (sym e)) ok
-
 -- ---- what soundness gives
 
 fits-in : (k : Kind) (s : List ℕ) → Sound k s → lengthIn s ≤ k .most
@@ -142,29 +136,23 @@ bases-count s x y =
     sym (length-take-le (28 + lengthIn s - 28) (drop 28 s) (omega (arith, length-drop 28 s)) ∙ e)
 
 module _ (s : List ℕ) (ok : soundMolecule s ≡ true) where
-  pub molecule-512 : length s ≡ 512
-  molecule-512 = molecule-size s ok
-
   pub molecule-fits : lengthIn s ≤ 160
   molecule-fits = fits-in moleculeKind s (molecule-is s ok)
 
   pub molecule-count : lengthIn s ≡ length (moleculeIn s .bases)
-  molecule-count = bases-count s molecule-512 molecule-fits
+  molecule-count = bases-count s (molecule-size s ok) molecule-fits
 
   -- The molecule held is a proper one, and the block is its encoding.
   module _ (full : isEmpty s ≡ false) where
     pub molecule-proper : Proper moleculeSide 1 160 (moleculeIn s .bases) (moleculeIn s .mates)
     unfolding moleculeIn
-    molecule-proper = strand-proper moleculeKind s (omega arith) (omega (arith, molecule-512)) (content-of moleculeKind s full (molecule-is s ok) .0)
+    molecule-proper = strand-proper moleculeKind s (omega arith) (omega (arith, molecule-size s ok)) (content-of moleculeKind s full (molecule-is s ok) .0)
 
-    pub molecule-again : ((i : ℕ) → nth s i < 256) → encodeMolecule (moleculeIn s) ≡ s
+    pub molecule-again : Bytes s → encodeMolecule (moleculeIn s) ≡ s
     unfolding encodeMolecule moleculeIn
-    molecule-again bytes = let r = content-of moleculeKind s full (molecule-is s ok) in molecule-same s bytes molecule-512 (r .1) (r .0)
+    molecule-again bytes = let r = content-of moleculeKind s full (molecule-is s ok) in molecule-same s bytes (molecule-size s ok) (r .1) (r .0)
 
 module _ (s : List ℕ) (ok : soundEntry s ≡ true) where
-  pub entry-512 : length s ≡ 512
-  entry-512 = entry-size s ok
-
   pub entry-fits : lengthIn s ≤ 120
   entry-fits = fits-in entryKind s (entry-is s ok)
 
@@ -172,11 +160,11 @@ module _ (s : List ℕ) (ok : soundEntry s ≡ true) where
   module _ (full : isEmpty s ≡ false) where
     pub entry-proper : Proper motifSide 1 120 (motifIn s .bases) (motifIn s .mates)
     unfolding motifIn
-    entry-proper = strand-proper entryKind s (omega arith) (omega (arith, entry-512)) (content-of entryKind s full (entry-is s ok) .0)
+    entry-proper = strand-proper entryKind s (omega arith) (omega (arith, entry-size s ok)) (content-of entryKind s full (entry-is s ok) .0)
 
-    pub entry-again : ((i : ℕ) → nth s i < 256) → encodeEntry (motifIn s) (searchedIn s) (hitIn s) ≡ s
+    pub entry-again : Bytes s → encodeEntry (motifIn s) (searchedIn s) (hitIn s) ≡ s
     unfolding encodeEntry motifIn searchedIn hitIn
-    entry-again bytes = let r = content-of entryKind s full (entry-is s ok) in entry-same s bytes entry-512 (r .1) (r .0)
+    entry-again bytes = let r = content-of entryKind s full (entry-is s ok) in entry-same s bytes (entry-size s ok) (r .1) (r .0)
 
     pub entry-hit-searched : (d : ℕ) → d < 512 → hitIn s d ≡ true → searchedIn s d ≡ true
     unfolding hitIn searchedIn hitsOk hitOk

@@ -5,25 +5,23 @@ use mathlib.Core.Bool.{true}
 use mathlib.Core.List.{List, [], _∷_, _++_}
 use Prim.Native.Nat.{ℕ, zero, suc, _+_, _-_, _*_, _/_, _%_, _<_, _≤_}
 use native.Mathlib.Omega.{arith}
-use native.Mathlib.Decide.{decLt}
-use lib.Dec.{lit<}
-use lib.ListN.{length, take, drop, replicate, length-drop, take-append-drop, drop-of-length-le, List·getD-eq-default}
+use lib.ListN.{length, take, drop, replicate, length-drop, take-append-drop, drop-of-length-le}
 use lib.Seq.{take-add, drop-cons, drop-drop, length-take-le, getD-take, getD-drop}
 use borrow.Author.Tests.{eqb-true}
 use Rattle.strand.specs.Vocabulary.{nth, between, all, tab}
 use Rattle.strand.specs.Strands.{Proper}
 use Rattle.strand.proofs.ListLaws.{length-tab, zeros-are}
 use Rattle.strand.proofs.VerdictLaws.{nested-yes}
-use Rattle.octets.specs.Numbers.{isZero, word16, word32, bytes32, words, bytesOf}
+use Rattle.octets.specs.Numbers.{Bytes, isZero, word16, word32, bytes32, words, bytesOf}
 use Rattle.octets.specs.Checksum.{sumTo, checksumOf, checksumOk, checked}
 use Rattle.octets.specs.Bits.{bitOf, mapBit}
 use Rattle.octets.specs.Maps.{mapBytes}
 use Rattle.block.specs.Content.{Kind, moleculeKind, entryKind, matesAt, matesEnd, lengthIn, strandIn, padded, headOf, contentOf, moleculeBlock, entryBlock}
+use Rattle.octets.proofs.ByteLaws.{small-drop, small-between}
 use Rattle.octets.proofs.SumLaws.{sum-append}
 use Rattle.octets.proofs.MapLaws.{map-is, map-ext}
 use Rattle.octets.proofs.ScanLaws.{bytes-append, length-bytes}
 use Rattle.block.proofs.SoundLaws.{Content}
-use Rattle.block.proofs.RoundTrip.{Small}
 
 -- ---- parts that lie side by side
 
@@ -55,9 +53,6 @@ take-two [] h = absurd (omega arith)
 take-two (x ∷ []) h = absurd (omega arith)
 take-two (x ∷ y ∷ s) h = refl
 
-small-drop : (a : ℕ) (s : List ℕ) → Small s → Small (drop a s)
-small-drop a s h i = rw (getD-drop a s i 0) (h (a + i))
-
 two-bytes : (x y : ℕ) → x < 256 → y < 256 → (x + 256 * y) % 256 ∷ (x + 256 * y) / 256 % 256 ∷ [] ≡ x ∷ y ∷ []
 two-bytes x y hx hy = ap₂ (λ (a b : ℕ). a ∷ b ∷ []) low high
   where
@@ -68,7 +63,7 @@ two-bytes x y hx hy = ap₂ (λ (a b : ℕ). a ∷ b ∷ []) low high
     high = omega arith
 
 -- The bytes of the first n two-byte numbers.
-bytes-words : (n : ℕ) (l : List ℕ) → Small l → 2 * n ≤ length l → bytesOf (words n l) ≡ take (2 * n) l
+bytes-words : (n : ℕ) (l : List ℕ) → Bytes l → 2 * n ≤ length l → bytesOf (words n l) ≡ take (2 * n) l
 unfolding bytesOf tab word16
 bytes-words zero l small h = refl
 bytes-words (suc n) l small h =
@@ -141,7 +136,7 @@ module _ (k : Kind) (s : List ℕ) (ha : 2 ≤ k .start) (he : matesEnd k ≤ le
         nested = rw (len-W ∙ sym len-B) at (nested-yes (words n (drop (matesAt k) s)) (c .nested));
       }
 
-  module _ (small : Small s) where
+  module _ (small : Bytes s) where
     mates-part : padded (2 * k .most) (bytesOf W) ≡ between (matesAt k) (matesEnd k) s
     unfolding n W
     mates-part =
@@ -169,7 +164,7 @@ module _ (k : Kind) (s : List ℕ) (ha : 2 ≤ k .start) (he : matesEnd k ≤ le
 
 -- ---- the checksum
 
-module _ (s : List ℕ) (small : Small s) (hs : length s ≡ 512) (ok : checksumOk s ≡ true) where
+module _ (s : List ℕ) (small : Bytes s) (hs : length s ≡ 512) (ok : checksumOk s ≡ true) where
   four-bytes : (a b c d : ℕ) → a < 256 → b < 256 → c < 256 → d < 256 → bytes32 (a + 256 * b + 65536 * c + 16777216 * d) ≡ a ∷ b ∷ c ∷ d ∷ []
   four-bytes a b c d ha hb hc hd =
       ap₂ (λ (x y : ℕ). x ∷ y ∷ (x₃ ∷ x₄ ∷ [])) e₁ e₂ ∙ ap₂ (λ (x y : ℕ). a ∷ b ∷ x ∷ y ∷ []) e₃ e₄
@@ -215,8 +210,8 @@ module _ (s : List ℕ) (small : Small s) (hs : length s ≡ 512) (ok : checksum
 
 -- ---- a map
 
-pub map-again : (at : ℕ) (s : List ℕ) → Small s → at + 64 ≤ length s → mapBytes (mapBit s at) ≡ between at (at + 64) s
-map-again at s small h = sym (map-is m len part ∙ map-ext (mapBit m 0) (mapBit s at) same)
+pub map-again : (at : ℕ) (s : List ℕ) → Bytes s → at + 64 ≤ length s → mapBytes (mapBit s at) ≡ between at (at + 64) s
+map-again at s small h = sym (map-is m len (small-between at (at + 64) s small) ∙ map-ext (mapBit m 0) (mapBit s at) same)
   where
     m : List ℕ
     m = between at (at + 64) s
@@ -230,9 +225,6 @@ map-again at s small h = sym (map-is m len part ∙ map-ext (mapBit m 0) (mapBit
     there : (i : ℕ) → i < 64 → nth m i ≡ nth s (at + i)
     there i l = getD-take (at + 64 - at) (drop at s) i 0 (omega arith) ∙ getD-drop at s i 0
 
-    part : Small m
-    part i = elim (decLt i 64) [ yes l ↦ rw (there i l) (small (at + i)) | no l ↦ rw (List·getD-eq-default m 0 {n = i} (omega (arith, len))) (lit< tt) ]
-
     same : (d : ℕ) → d < 512 → mapBit m 0 d ≡ mapBit s at d
     same d l = unfold mapBit in (ap (λ (b : ℕ). bitOf b (d % 8)) (ap (nth m) zero-plus ∙ there (d / 8) (omega arith)))
       where
@@ -241,7 +233,7 @@ map-again at s small h = sym (map-is m len part ∙ map-ext (mapBit m 0) (mapBit
 
 -- ---- the whole block
 
-module _ (s : List ℕ) (small : Small s) (hs : length s ≡ 512) (ok : checksumOk s ≡ true) where
+module _ (s : List ℕ) (small : Bytes s) (hs : length s ≡ 512) (ok : checksumOk s ≡ true) where
   pub molecule-same : Content moleculeKind s → moleculeBlock (strandIn moleculeKind s .bases) (strandIn moleculeKind s .mates) ≡ s
   unfolding moleculeBlock
   molecule-same c = ap checked (content-again moleculeKind s (omega arith) (omega arith) c small) ∙ checked-again s small hs ok

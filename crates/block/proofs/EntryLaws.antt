@@ -19,7 +19,8 @@ use Rattle.block.specs.Block.{contentOk, hitOk, hitsOk, soundEntry}
 use Rattle.block.specs.Buffer.{forgot}
 use Rattle.block.proofs.CodeLaws.{length-content, check-put}
 use Rattle.octets.proofs.MapLaws.{length-map, map-in, map-bit, clear-in, map-clear, map-small, length-clear}
-use Rattle.block.proofs.RoundTrip.{small-append, small-content, kind-byte, strand-back, content-sound, check-sound}
+use Rattle.octets.proofs.ByteLaws.{small-append}
+use Rattle.block.proofs.RoundTrip.{small-content, kind-byte, strand-back, content-sound, check-sound}
 use Rattle.block.proofs.SoundLaws.{entry-rules}
 
 regroup : (a b c d : List ℕ) → a ++ b ++ c ++ d ≡ a ++ (b ++ (c ++ d))

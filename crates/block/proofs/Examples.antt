@@ -1,18 +1,18 @@
--- The settled example of a checksum: the block of A, 0 has 1888.
+-- The settled example of a checksum: the block of A, 0 has 1888. And where the bases and mates of GC lie, in a molecule block and in an entry.
 -- Assumes nothing.
 use mathlib.Core.Path.{_≡_, refl, sym, ap, _∙_}
-use mathlib.Core.Bool.{true}
+use mathlib.Core.Bool.{Bool, true}
 use mathlib.Core.List.{List, [], _∷_, _++_, append-assoc}
 use Prim.Native.Nat.{ℕ, _+_, _-_, _≤_}
 use native.Mathlib.Omega.{arith}
 use lib.ListN.{length, replicate, replicate-append-replicate}
 use lib.Seq.{getD-append-add}
 use borrow.Author.Tests.{eqb-true}
-use Rattle.strand.specs.Vocabulary.{nth, every}
-use Rattle.strand.specs.Strands.{strandOf, isLetter}
+use Rattle.strand.specs.Vocabulary.{nth, between, every}
+use Rattle.strand.specs.Strands.{Strand, strandOf, isLetter}
 use Rattle.octets.specs.Numbers.{word32, bytesOf}
 use Rattle.octets.specs.Checksum.{sumTo, checksumOf, checksumOk, checked}
-use Rattle.block.specs.Content.{moleculeKind, contentOf, moleculeBlock, encodeMolecule}
+use Rattle.block.specs.Content.{moleculeKind, contentOf, moleculeBlock, entryBlock, encodeMolecule, encodeEntry}
 use Rattle.strand.proofs.ListLaws.{zeros-at, zeros-zero}
 use Rattle.octets.proofs.SumLaws.{sum-append, sum-blank}
 use Rattle.block.proofs.CodeLaws.{length-content}
@@ -62,3 +62,25 @@ checksum-of-A =
     sym (eqb-true (sumTo (checked body) 508) (word32 (checked body) 508) right)
     ∙ sum-append body _ 508 (omega (arith, length-content moleculeKind (65 ∷ []) (0 ∷ []) (omega arith) (omega arith) refl))
     ∙ body-sum
+
+-- ---- where bases and mates lie: 28 and 188 in a molecule block, 20 and 140 in an entry
+
+abbrev GC : Strand
+GC = strandOf (71 ∷ 67 ∷ []) (1 ∷ 0 ∷ [])
+
+pub molecule-bases : between 28 30 (encodeMolecule GC) ≡ 71 ∷ 67 ∷ []
+unfolding encodeMolecule moleculeBlock checked contentOf bytesOf
+molecule-bases = refl
+
+pub molecule-mates : between 188 192 (encodeMolecule GC) ≡ 1 ∷ 0 ∷ 0 ∷ 0 ∷ []
+unfolding encodeMolecule moleculeBlock checked contentOf bytesOf
+molecule-mates = refl
+
+module _ (searched hits : ℕ → Bool) where
+  pub entry-bases : between 20 22 (encodeEntry GC searched hits) ≡ 71 ∷ 67 ∷ []
+  unfolding encodeEntry entryBlock checked contentOf bytesOf
+  entry-bases = refl
+
+  pub entry-mates : between 140 144 (encodeEntry GC searched hits) ≡ 1 ∷ 0 ∷ 0 ∷ 0 ∷ []
+  unfolding encodeEntry entryBlock checked contentOf bytesOf
+  entry-mates = refl

@@ -18,7 +18,7 @@ use Rattle.block.specs.Buffer.{putBlock}
 use Rattle.block.specs.Outcomes.{Wrote, wrote, wroteIf, strandFits, blockFits, moleculeWrote, moleculePut, zeroPut, entryWrote, Decoded, decoded, laidOver, decodes, moleculeDecoded, keepsTold}
 use Rattle.block.proofs.BlockLaws.{length-block}
 use Rattle.block.proofs.BufferLaws.{put-is}
-use Rattle.block.proofs.ContentLaws.{bases-count, molecule-512, molecule-fits, entry-512, entry-fits}
+use Rattle.block.proofs.ContentLaws.{bases-count, molecule-size, molecule-fits, entry-size, entry-fits}
 
 -- ---- any writer
 
@@ -38,23 +38,23 @@ module _ (new old : List ℕ) where
 -- ---- what fits, by lengths
 
 module _ (most size bases mates : ℕ) where
-  pub fits-size : (size ≡ 512 → ⊥) → false ≡ strandFits most size bases mates
+  pub fits-size : (size ≡ 512 → ⊥) → false ≡ strandFits size most bases mates
   unfolding strandFits
   fits-size h = rw (ne-eqb size 512 h)
 
-  pub fits-long : size ≡ 512 → most < bases → false ≡ strandFits most size bases mates
+  pub fits-long : size ≡ 512 → most < bases → false ≡ strandFits size most bases mates
   unfolding strandFits
   fits-long e h = rw (eq-eqb size 512 e, lt-leb bases most h)
 
-  pub fits-last : size ≡ 512 → bases ≤ most → eqb mates bases ≡ strandFits most size bases mates
+  pub fits-last : size ≡ 512 → bases ≤ most → eqb mates bases ≡ strandFits size most bases mates
   unfolding strandFits
   fits-last e h = rw (eq-eqb size 512 e, le-leb bases most h)
 
-  pub strand-fits : size ≡ 512 → bases ≤ most → mates ≡ bases → strandFits most size bases mates ≡ true
+  pub strand-fits : size ≡ 512 → bases ≤ most → mates ≡ bases → strandFits size most bases mates ≡ true
   unfolding strandFits
   strand-fits e h m = rw (eq-eqb size 512 e, le-leb bases most h, eq-eqb mates bases m)
 
-  pub fits-all : strandFits most size bases mates ≡ true → (size ≡ 512) × (bases ≤ most) × (mates ≡ bases)
+  pub fits-all : strandFits size most bases mates ≡ true → (size ≡ 512) × (bases ≤ most) × (mates ≡ bases)
   unfolding strandFits
   fits-all e =
       let x = and-true (eqb size 512 && leb bases most) (eqb mates bases) e in
@@ -64,11 +64,11 @@ module _ (most size bases mates : ℕ) where
 -- ---- encode_molecule
 
 module _ (s bases mates : List ℕ) where
-  pub molecule-not : strandFits 160 (length s) (length bases) (length mates) ≡ false → wrote false s ≡ moleculeWrote s bases mates
+  pub molecule-not : strandFits (length s) 160 (length bases) (length mates) ≡ false → wrote false s ≡ moleculeWrote s bases mates
   unfolding moleculeWrote
   molecule-not e = wrote-not (moleculeBlock bases mates) s _ e
 
-  pub molecule-done : (x : List ℕ) → strandFits 160 (length s) (length bases) (length mates) ≡ true → x ≡ moleculeBlock bases mates
+  pub molecule-done : (x : List ℕ) → strandFits (length s) 160 (length bases) (length mates) ≡ true → x ≡ moleculeBlock bases mates
       → wrote true x ≡ moleculeWrote s bases mates
   unfolding moleculeWrote
   molecule-done x e q = wrote-new (moleculeBlock bases mates) s _ x e q
@@ -76,11 +76,11 @@ module _ (s bases mates : List ℕ) where
 -- ---- encode_entry
 
 module _ (s bases mates m₁ m₂ : List ℕ) where
-  pub entry-not-1 : strandFits 120 (length s) (length bases) (length mates) ≡ false → wrote false s ≡ entryWrote s bases mates m₁ m₂
+  pub entry-not-1 : strandFits (length s) 120 (length bases) (length mates) ≡ false → wrote false s ≡ entryWrote s bases mates m₁ m₂
   unfolding entryWrote
   entry-not-1 e = wrote-not (entryBlock bases mates m₁ m₂) s _ (rw e)
 
-  module _ (fits : strandFits 120 (length s) (length bases) (length mates) ≡ true) where
+  module _ (fits : strandFits (length s) 120 (length bases) (length mates) ≡ true) where
     pub entry-not-2 : (length m₁ ≡ 64 → ⊥) → wrote false s ≡ entryWrote s bases mates m₁ m₂
     unfolding entryWrote
     entry-not-2 h = wrote-not (entryBlock bases mates m₁ m₂) s _ (rw (fits, ne-eqb (length m₁) 64 h))
@@ -126,7 +126,7 @@ module _ (d : ℕ) (bases mates buf : List ℕ) where
   unfolding moleculePut moleculeWrote blockFits encodeMolecule
   put-done r x h e =
       let l : length (blockOf d buf) ≡ 512 = length-block d buf (omega arith) in
-      rw (lt-ltb d (length buf / 512) h) (part-put d (moleculeBlock bases mates) buf x r (strandFits 160 512 (length bases) (length mates)) (rw l at e))
+      rw (lt-ltb d (length buf / 512) h) (part-put d (moleculeBlock bases mates) buf x r (strandFits 512 160 (length bases) (length mates)) (rw l at e))
 
   -- Where there is a block d and the molecule fits, its block is written.
   pub molecule-put-there : (r : Bool) (x : List ℕ) → d < length buf / 512 → length bases ≤ 160 → length mates ≡ length bases
@@ -200,7 +200,7 @@ module _ (s bases mates : List ℕ) where
   unfolding moleculeDecoded laidOver decodes choose
   decoded-there r x y ok hb hm q =
       let n : lengthIn s ≤ 160 = molecule-fits s ok in
-      let p = rw (eq-eqb (length s) 512 (molecule-512 s ok), le-leb (lengthIn s) 160 n, le-leb (lengthIn s) (length bases) (omega arith), le-leb (lengthIn s) (length mates) (omega arith)) at q in
+      let p = rw (eq-eqb (length s) 512 (molecule-size s ok), le-leb (lengthIn s) 160 n, le-leb (lengthIn s) (length bases) (omega arith), le-leb (lengthIn s) (length mates) (omega arith)) at q in
       let k : r ≡ length (moleculeIn s .bases) = ap (λ (w : Decoded). w .count) p in (
         k,
         ap (λ (w : Decoded). w .bases) p ∙ ap (λ (n : ℕ). moleculeIn s .bases ++ drop n bases) (sym k),
@@ -225,4 +225,4 @@ module _ (s : List ℕ) (q : Strand) where
 
   -- Of a sound entry the test is whether it keeps the motif.
   pub told-sound : soundEntry s ≡ true → keepsTold s q ≡ keepsMotif s q
-  told-sound ok = sym (told-3 (lengthIn s) refl (entry-512 s ok) (entry-fits s ok))
+  told-sound ok = sym (told-3 (lengthIn s) refl (entry-size s ok) (entry-fits s ok))

@@ -16,12 +16,14 @@ use Rattle.strand.specs.Vocabulary.{nth, all, between}
 use Rattle.strand.specs.Strands.{strandOf, isLetter, isNested, Proper}
 use Rattle.strand.proofs.ListLaws.{length-tab, nth-tab, every-at, never, zeros-zero}
 use Rattle.strand.proofs.VerdictLaws.{nested-test}
-use Rattle.octets.specs.Numbers.{isZero, word16, word32, bytes32, words, bytesOf}
+use Rattle.octets.specs.Numbers.{Bytes, isZero, word16, word32, bytes32, words, bytesOf}
 use Rattle.octets.specs.Checksum.{sumTo, checksumOf, checksumOk, checked}
 use Rattle.block.specs.Content.{Kind, moleculeKind, matesAt, matesEnd, lengthIn, strandIn, padded, headOf, contentOf, moleculeBlock}
 use Rattle.block.specs.Block.{contentWith, contentOk, soundMolecule}
+use Rattle.octets.proofs.ByteLaws.{small-append, small-zeros, small-bytes}
 use Rattle.octets.proofs.SumLaws.{sum-append, sum-small}
 use Rattle.octets.proofs.ScanLaws.{length-bytes}
+use Rattle.block.proofs.BlockLaws.{regroup}
 use Rattle.block.proofs.CodeLaws.{length-content, length-padded, length-head}
 use Rattle.block.proofs.SoundLaws.{content-8, molecule-rules}
 
@@ -68,9 +70,6 @@ regroup₀ a z b m t = simp append-assoc
 regroup₁ : (h b z m t : List ℕ) → h ++ (b ++ z) ++ m ++ t ≡ h ++ (b ++ (z ++ (m ++ t)))
 regroup₁ h b z m t = simp append-assoc
 
-regroup₃ : (h w z t : List ℕ) → h ++ (w ++ z) ++ t ≡ h ++ (w ++ (z ++ t))
-regroup₃ h w z t = simp append-assoc
-
 module _ (k : Kind) (bases mates t : List ℕ) (ha : 2 ≤ k .start) (hk : k .most ≤ 160)
     (P : Proper (k .side) 1 (k .most) bases mates) where
   hb : length bases ≤ k .most
@@ -109,7 +108,7 @@ module _ (k : Kind) (bases mates t : List ℕ) (ha : 2 ≤ k .start) (hk : k .mo
 
   cut-3 : block ≡ headOf (k .start) (k .mark) (length bases) ++ padded (k .most) bases ++ (bytesOf mates ++ (Z₂ ++ t))
   unfolding contentOf Z₂
-  cut-3 = regroup₃ (headOf (k .start) (k .mark) (length bases) ++ padded (k .most) bases) (bytesOf mates) _ t
+  cut-3 = regroup (headOf (k .start) (k .mark) (length bases) ++ padded (k .most) bases) (bytesOf mates) _ t
 
   cut-4 : block ≡ headOf (k .start) (k .mark) (length bases) ++ padded (k .most) bases ++ bytesOf mates ++ (Z₂ ++ t)
   cut-4 = cut-3 ∙ sym (append-assoc (headOf (k .start) (k .mark) (length bases) ++ padded (k .most) bases) (bytesOf mates) _)
@@ -189,26 +188,6 @@ module _ (k : Kind) (bases mates t : List ℕ) (ha : 2 ≤ k .start) (hk : k .mo
 
 -- ---- bytes
 
-abbrev pub Small : List ℕ → Type 0
-Small l = (i : ℕ) → nth l i < 256
-
-pub small-append : (a b : List ℕ) → Small a → Small b → Small (a ++ b)
-small-append [] b ha hb i = hb i
-small-append (x ∷ a) b ha hb zero = ha 0
-small-append (x ∷ a) b ha hb (suc i) = small-append a b (λ j. ha (suc j)) hb i
-
-small-zeros : (n : ℕ) → Small (replicate n 0)
-small-zeros zero i = lit< tt
-small-zeros (suc n) zero = lit< tt
-small-zeros (suc n) (suc i) = small-zeros n i
-
-small-bytes : (m : List ℕ) → Small (bytesOf m)
-unfolding bytesOf
-small-bytes [] i = lit< tt
-small-bytes (x ∷ m) zero = omega arith
-small-bytes (x ∷ m) (suc zero) = omega arith
-small-bytes (x ∷ m) (suc (suc i)) = small-bytes m i
-
 letter-small : (side x : ℕ) → isLetter side x ≡ true → x < 256
 unfolding isLetter
 letter-small side x e = elim (decLt x 256) [ yes h ↦ h | no h ↦ never (sym (other h) ∙ e) ]
@@ -216,7 +195,7 @@ letter-small side x e = elim (decLt x 256) [ yes h ↦ h | no h ↦ never (sym (
     other : (x < 256 → ⊥) → isLetter side x ≡ false
     other h = simp (ne-eqb x 65 (λ q. omega arith), ne-eqb x 67 (λ q. omega arith), ne-eqb x 71 (λ q. omega arith), ne-eqb x 85 (λ q. omega arith))
 
-small-letters : (side : ℕ) (l : List ℕ) → all (isLetter side) l ≡ true → Small l
+small-letters : (side : ℕ) (l : List ℕ) → all (isLetter side) l ≡ true → Bytes l
 small-letters side l e i =
     elim (decLt i (length l)) [
       | yes h ↦ letter-small side (nth l i) (every-at (λ j. isLetter side (nth l j)) (length l) i e h)
@@ -224,7 +203,7 @@ small-letters side l e i =
     ]
 
 pub small-content : (k : Kind) (bases mates : List ℕ) → k .mark < 256 → length bases < 256 → all (isLetter (k .side)) bases ≡ true
-    → Small (contentOf k bases mates)
+    → Bytes (contentOf k bases mates)
 unfolding contentOf
 small-content k bases mates hk hn letters =
     small-append (headOf (k .start) (k .mark) (length bases) ++ padded (k .most) bases) (padded (2 * k .most) (bytesOf mates))
@@ -232,7 +211,7 @@ small-content k bases mates hk hn letters =
     (small-append bases _ (small-letters (k .side) bases letters) (small-zeros (k .most - length bases))))
     (small-append (bytesOf mates) _ (small-bytes mates) (small-zeros (2 * k .most - length (bytesOf mates))))
   where
-    head : Small (headOf (k .start) (k .mark) (length bases))
+    head : Bytes (headOf (k .start) (k .mark) (length bases))
     head zero = hk
     head (suc zero) = hn
     head (suc (suc i)) = small-zeros (k .start - 2) i
@@ -242,7 +221,7 @@ small-content k bases mates hk hn letters =
 getD-after : (p q : List ℕ) (j k : ℕ) → j ≡ length p + k → nth (p ++ q) j ≡ nth q k
 getD-after p q j k e = rw e (getD-append-add p q k 0)
 
-pub check-sound : (p : List ℕ) → length p ≡ 508 → Small p → checksumOk (checked p) ≡ true
+pub check-sound : (p : List ℕ) → length p ≡ 508 → Bytes p → checksumOk (checked p) ≡ true
 unfolding checksumOk checked checksumOf word32
 check-sound p hp small =
     eq-eqb _ _ (sum-append p _ 508 (omega arith)

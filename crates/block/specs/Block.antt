@@ -26,10 +26,11 @@ contentWith k n s =
     && all isZero (between (matesAt k + 2 * n) (matesEnd k) s)
     && isNested (words n (drop (matesAt k) s))
 
+-- The same with the length that the block names.
 abbrev pub contentOk : Kind → List ℕ → Bool
 contentOk k s = contentWith k (lengthIn s) s
 
--- A hit bit needs its searched bit.
+-- A hit bit needs its searched bit: bit d, and every bit.
 unfoldable pub hitOk : List ℕ → ℕ → Bool
 hitOk s d = not (mapBit s hitAt d) || mapBit s searchedAt d
 

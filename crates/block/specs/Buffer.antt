@@ -3,11 +3,11 @@ use Prim.Native.Nat.{ℕ, zero, suc, _+_, _*_, _/_}
 use mathlib.Core.List.{List, [], _++_}
 use mathlib.Core.Bool.{_&&_}
 use lib.ListN.{length, take, drop, replicate}
-use lib.Dec.{eqb, ltb}
+use lib.Dec.{eqb}
 use Rattle.strand.specs.Vocabulary.{nth, choose}
 use Rattle.octets.specs.Bits.{clearMap}
 use Rattle.octets.specs.Checksum.{blockSize, rechecked}
-use Rattle.block.specs.Content.{searchedAt, hitAt}
+use Rattle.block.specs.Content.{entryKind, searchedAt, hitAt}
 use Rattle.block.specs.Block.{soundEntry, blockOf}
 
 -- f of each of the first n blocks, one after the other.
@@ -23,10 +23,10 @@ eachBlock f s = blocksTo f (length s / blockSize) s ++ drop (blockSize * (length
 unfoldable pub cleaned : List ℕ → List ℕ
 cleaned s = choose (soundEntry s) s (replicate (length s) 0)
 
--- Bit d is cleared in both maps of a cache entry; an empty block stays. (A sound block is empty exactly when its byte 0 is 0.)
+-- Bit d is cleared in both maps of a kept block: a block whose byte 0 is 2. Any other stays.
 unfoldable pub forgot : ℕ → List ℕ → List ℕ
 forgot d s =
-    choose (eqb (length s) blockSize && ltb 0 (nth s 0)) (rechecked (clearMap (clearMap s searchedAt d) hitAt d)) s
+    choose (eqb (length s) blockSize && eqb (nth s 0) (entryKind .mark)) (rechecked (clearMap (clearMap s searchedAt d) hitAt d)) s
 
 -- Block d of the buffer replaced by b.
 unfoldable pub putBlock : ℕ → List ℕ → List ℕ → List ℕ

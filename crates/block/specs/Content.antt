@@ -96,6 +96,7 @@ moleculeBlock bases mates = checked (contentOf moleculeKind bases mates)
 unfoldable pub entryBlock : List ℕ → List ℕ → List ℕ → List ℕ → List ℕ
 entryBlock bases mates searched hits = checked (contentOf entryKind bases mates ++ searched ++ hits)
 
+-- The same of strands, with the maps as sets of numbers.
 unfoldable pub encodeMolecule : Strand → List ℕ
 encodeMolecule q = moleculeBlock (q .bases) (q .mates)
 

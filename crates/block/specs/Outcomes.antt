@@ -28,7 +28,7 @@ wroteIf fits new old = wrote fits (choose fits new old)
 
 -- By lengths alone: a place of one block, at most so many bases, and as many mates as bases.
 unfoldable pub strandFits : ℕ → ℕ → ℕ → ℕ → Bool
-strandFits most size bases mates = eqb size blockSize && leb bases most && eqb mates bases
+strandFits size most bases mates = eqb size blockSize && leb bases most && eqb mates bases
 
 -- Number d is a block of a buffer of n bytes.
 unfoldable pub blockFits : ℕ → ℕ → Bool
@@ -36,18 +36,18 @@ blockFits d n = ltb d (n / blockSize)
 
 -- A molecule written into s, and as block d of a buffer; block d zeroed; an entry written into s.
 unfoldable pub moleculeWrote : List ℕ → List ℕ → List ℕ → Wrote
-moleculeWrote s bases mates = wroteIf (strandFits (moleculeKind .most) (length s) (length bases) (length mates)) (moleculeBlock bases mates) s
+moleculeWrote s bases mates = wroteIf (strandFits (length s) (moleculeKind .most) (length bases) (length mates)) (moleculeBlock bases mates) s
 
 unfoldable pub moleculePut : ℕ → Strand → List ℕ → Wrote
 moleculePut d q buf =
-    wroteIf (blockFits d (length buf) && strandFits (moleculeKind .most) blockSize (length (q .bases)) (length (q .mates))) (putBlock d (encodeMolecule q) buf) buf
+    wroteIf (blockFits d (length buf) && strandFits blockSize (moleculeKind .most) (length (q .bases)) (length (q .mates))) (putBlock d (encodeMolecule q) buf) buf
 
 unfoldable pub zeroPut : ℕ → List ℕ → Wrote
 zeroPut d buf = wroteIf (blockFits d (length buf)) (putBlock d emptyBlock buf) buf
 
 unfoldable pub entryWrote : List ℕ → List ℕ → List ℕ → List ℕ → List ℕ → Wrote
 entryWrote s bases mates searched hits =
-    wroteIf (strandFits (entryKind .most) (length s) (length bases) (length mates) && eqb (length searched) mapSize && eqb (length hits) mapSize)
+    wroteIf (strandFits (length s) (entryKind .most) (length bases) (length mates) && eqb (length searched) mapSize && eqb (length hits) mapSize)
     (entryBlock bases mates searched hits) s
 
 -- ---- the decoder
@@ -69,6 +69,7 @@ laidOver q bases mates = decoded (length (q .bases)) (q .bases ++ drop (length (
 unfoldable pub decodes : List ℕ → ℕ → ℕ → Bool
 decodes s bases mates = eqb (length s) blockSize && leb (lengthIn s) (moleculeKind .most) && leb (lengthIn s) bases && leb (lengthIn s) mates
 
+-- The molecule of s; 0, and the slices as they were, where it cannot be decoded.
 unfoldable pub moleculeDecoded : List ℕ → List ℕ → List ℕ → Decoded
 moleculeDecoded s bases mates =
     choose (decodes s (length bases) (length mates)) (laidOver (moleculeIn s) bases mates) (decoded 0 bases mates)

@@ -1,18 +1,15 @@
--- What is claimed of sound blocks (01: Blocks), for all lists of bytes; `claims`, in proofs/Claims, proves it. Assumes nothing.
+-- What is claimed of blocks (01: Blocks): sound blocks for all lists of bytes, decode and encode for all proper strands; `claims`, in proofs/Claims, proves it. Assumes nothing.
 use Prim.Native.Nat.{ℕ, _<_}
 use mathlib.Core.Path.{_≡_}
 use mathlib.Core.Bool.{Bool, true}
 use mathlib.Core.Logic.{_⊎_, _↔_}
 use mathlib.Core.List.{List}
-use Rattle.strand.specs.Vocabulary.{nth}
 use Rattle.strand.specs.Strands.{Strand, motifSide, moleculeSide, Proper}
-use Rattle.octets.specs.Maps.{mapBits}
-use Rattle.block.specs.Content.{emptyBlock, encodeMolecule, encodeEntry}
+use Rattle.octets.specs.Numbers.{Bytes}
+use Rattle.octets.specs.Maps.{mapBits, without}
+use Rattle.block.specs.Content.{emptyBlock, moleculeIn, motifIn, searchedIn, hitIn, encodeMolecule, encodeEntry}
 use Rattle.block.specs.Block.{soundMolecule, soundEntry}
-
--- Every entry is a byte.
-abbrev pub Bytes : List ℕ → Type 0
-Bytes s = (i : ℕ) → nth s i < 256
+use Rattle.block.specs.Buffer.{forgot}
 
 -- The block holds a proper molecule of 1 to 160 bases, and is its encoding.
 pub record HoldsMolecule (s : List ℕ) (q : Strand) : Type 0 where
@@ -34,7 +31,21 @@ EntrySound s =
     (soundEntry s ≡ true)
     ↔ ((s ≡ emptyBlock) ⊎ ((q : Strand) × ((searched : ℕ → Bool) × ((hits : ℕ → Bool) × HoldsEntry s q searched hits))))
 
+-- 01, Molecule block: the block gives back its molecule.
+abbrev pub MoleculeBack : Strand → Type 0
+MoleculeBack q = moleculeIn (encodeMolecule q) ≡ q
+
+-- 01, Kept block: the entry gives back its motif, and of each number whether it was searched and whether it is a hit. 01, Remove: with bit d
+-- cleared in both maps it is the entry of the two sets without d.
+pub record EntryBack (q : Strand) (searched hits : ℕ → Bool) : Type 0 where
+  pub motif : motifIn (encodeEntry q searched hits) ≡ q
+  pub searched-bit : (d : ℕ) → d < mapBits → searchedIn (encodeEntry q searched hits) d ≡ searched d
+  pub hit-bit : (d : ℕ) → d < mapBits → hitIn (encodeEntry q searched hits) d ≡ hits d
+  pub forgotten : (d : ℕ) → d < mapBits → forgot d (encodeEntry q searched hits) ≡ encodeEntry q (without d searched) (without d hits)
+
 -- All the claims.
 pub record Claims : Type 0 where
   pub molecule-sound : (s : List ℕ) → Bytes s → MoleculeSound s
   pub entry-sound : (s : List ℕ) → Bytes s → EntrySound s
+  pub molecule-back : (q : Strand) → Proper moleculeSide 1 160 (q .bases) (q .mates) → MoleculeBack q
+  pub entry-back : (q : Strand) → Proper motifSide 1 120 (q .bases) (q .mates) → (searched hits : ℕ → Bool) → EntryBack q searched hits

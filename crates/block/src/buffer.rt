@@ -5,7 +5,7 @@ ghost use Rattle.block.specs.Buffer.{eachBlock, cleaned, forgot};
 ghost use Rattle.block.specs.Outcomes.{wrote, moleculePut, zeroPut};
 
 // Zero a cache block that is not sound.
-pub fn clean(s: &mut [u8])
+fn clean(s: &mut [u8])
     ensures { λ _. ⌜ now (s .exit) ≡ cleaned (now (s .entry)) ⌝ }
 {
     if !crate::sound::sound_entry(s) {
@@ -27,7 +27,7 @@ pub fn clean_all(s: &mut [u8])
     }
 }
 
-// Take number d out of both maps of a cache entry; an empty block stays.
+// Take number d out of both maps of a cache entry, whose byte 0 is 2; any other block stays.
 pub fn forget(s: &mut [u8], d: usize)
     ensures { λ _. ⌜ now (s .exit) ≡ forgot d (now (s .entry)) ⌝ }
 {
@@ -35,7 +35,7 @@ pub fn forget(s: &mut [u8], d: usize)
         return;
     }
     let k = s[0];
-    if k <= 0 {
+    if k != 2 {
         return;
     }
     octets::bits::clear(s, 380, d);

@@ -1,6 +1,6 @@
 // Decode a block into borrowed slices, and encode one into a borrowed block.
 ghost use mathlib.Core.Path.{_≡_};
-ghost use Prim.Native.Nat.{_+_, _*_, _-_, _≤_};
+ghost use Prim.Native.Nat.{_+_, _*_, _≤_};
 ghost use mathlib.Core.List.{_++_};
 ghost use lib.ListN.{length, drop};
 ghost use Rattle.strand.specs.Vocabulary.{between};
@@ -9,6 +9,7 @@ ghost use Rattle.octets.specs.Checksum.{blockSize, checksumAt};
 ghost use Rattle.block.specs.Content.{lengthIn, padded, headOf};
 ghost use Rattle.block.specs.Outcomes.{wrote, strandFits, moleculeWrote, decoded, decodes, moleculeDecoded};
 
+// The parts of a block, each over the whole of its slice, zeros where nothing stands: byte 0 and the length; the bases; the mates.
 fn put_head(s: &mut [u8], mark: u8, n: u8)
     requires { ⌜ 2 ≤ length (now s) ⌝ }
     ensures { λ _. ⌜ now (s .exit) ≡ headOf (length (now (s .entry))) mark n ⌝ }
@@ -37,7 +38,7 @@ fn put_mates(s: &mut [u8], src: &[u16])
 
 // Whether a place of `size` bytes is a block, and it has room for so many bases and mates.
 pub(crate) fn strand_fits(size: usize, most: usize, bases: usize, mates: usize) -> bool
-    ensures { λ r. ⌜ r ≡ strandFits most size bases mates ⌝ }
+    ensures { λ r. ⌜ r ≡ strandFits size most bases mates ⌝ }
 {
     if size != 512 {
         return false;

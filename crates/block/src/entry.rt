@@ -7,6 +7,7 @@ ghost use Rattle.octets.specs.Checksum.{blockSize};
 ghost use Rattle.block.specs.Content.{lengthIn, motifIn, searchedIn, hitIn};
 ghost use Rattle.block.specs.Outcomes.{keepsTold, wrote, entryWrote};
 
+// Whether the motif of an entry is this one; its mates are read into the start of `out`, which the next function makes.
 fn keeps_in(s: &[u8], bases: &[u8], mates: &[u16], out: &mut [u16]) -> bool
     requires { ⌜ (length (now s) ≡ blockSize) × (lengthIn (now s) ≤ 120) × (length (now out) ≡ 120) ⌝ }
     ensures { λ r. ⌜ r ≡ sameStrand (motifIn (now (s .entry))) (strandOf (now (bases .entry)) (now (mates .entry))) ⌝ }

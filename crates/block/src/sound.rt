@@ -9,12 +9,14 @@ ghost use Rattle.octets.specs.Checksum.{blockSize, checksumAt};
 ghost use Rattle.block.specs.Content.{kindOf};
 ghost use Rattle.block.specs.Block.{contentOk, hitsOk, soundMolecule, soundEntry, blockOf};
 
+// A byte as a number.
 pub(crate) fn wide(x: u8) -> usize
     ensures { λ r. ⌜ (r ≡ x) × (r < 256) ⌝ }
 {
     x as usize
 }
 
+// Whether every byte is a letter of the side.
 fn all_letters(side: u8, s: &[u8]) -> bool
     ensures { λ r. ⌜ r ≡ all (isLetter side) (now (s .entry)) ⌝ }
 {
@@ -30,6 +32,7 @@ fn mates_in(s: &[u8], at: usize, n: usize, out: &mut [u16]) -> bool
     strand::nesting::is_nested(&out[..n])
 }
 
+// The same with a slice of its own.
 fn mates_ok(s: &[u8], at: usize, n: usize) -> bool
     requires { ⌜ (n ≤ 160) × (at + 2 * n ≤ length (now s)) ⌝ }
     ensures { λ r. ⌜ r ≡ isNested (words n (drop at (now (s .entry)))) ⌝ }

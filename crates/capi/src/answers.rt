@@ -8,7 +8,8 @@ use strand::Verdict;
 ghost use mathlib.Core.Path.{_≡_};
 ghost use Rattle.capi.specs.Interface.{accepted, refused, checkTold, matchTold, verifyTold, updateTold, queryTold};
 
-pub fn accept(value: usize, searched: usize) -> crate::Answer
+// An accepted call, and a refused one.
+fn accept(value: usize, searched: usize) -> crate::Answer
     ensures { λ r. ⌜ r ≡ accepted value searched ⌝ }
 {
     crate::Answer {
@@ -20,7 +21,7 @@ pub fn accept(value: usize, searched: usize) -> crate::Answer
     }
 }
 
-pub fn refuse(x: Refusal) -> crate::Answer
+fn refuse(x: Refusal) -> crate::Answer
     ensures { λ r. ⌜ r ≡ refused x ⌝ }
 {
     crate::Answer {
@@ -32,6 +33,7 @@ pub fn refuse(x: Refusal) -> crate::Answer
     }
 }
 
+// The struct for the answer of each call: check; length and show; verify; add and remove; query.
 pub fn tell_check(a: Verdict) -> crate::Answer
     ensures { λ r. ⌜ r ≡ checkTold a ⌝ }
 {

@@ -1,11 +1,12 @@
--- What the catalog and its histories take from crate block: laws of empty blocks, of encoded molecules and of cache entries. Assumes nothing.
+-- What the catalog and its histories take from crate block: laws of empty blocks, of encoded molecules and of cache entries,
+-- with the rows of a molecule or a motif in place of the facts that they give. Assumes nothing.
 use Prim.Native.Nat.{ℕ, _<_}
 use mathlib.Core.Path.{_≡_, sym, _∙_, ap}
 use mathlib.Core.Bool.{Bool, true, false}
 use mathlib.Core.List.{List}
-use lib.ListN.{length, set, replicate}
-use Rattle.strand.specs.Vocabulary.{nth}
+use lib.ListN.{length, replicate}
 use Rattle.strand.specs.Strands.{Strand, motifSide, moleculeSide, Proper}
+use Rattle.strand.specs.Refusals.{leastLength}
 use Rattle.strand.proofs.VerdictLaws.{accepted-proper}
 use Rattle.octets.specs.Checksum.{blockSize}
 use Rattle.block.specs.Block.{soundMolecule, soundEntry}
@@ -14,28 +15,14 @@ use Rattle.octets.specs.Maps.{without}
 use Rattle.block.specs.Content.{emptyBlock, isEmpty, moleculeIn, encodeMolecule, encodeEntry, motifIn, searchedIn, hitIn}
 use Rattle.strand.specs.declared.Verdict.the-variants.{Accepted}
 use Rattle.block.proofs.ContentLaws as law
+pub use Rattle.block.proofs.ContentLaws.{empty-length, empty-empty, empty-molecule, empty-entry, empty-forgot, entry-changed}
 use Rattle.block.proofs.BufferLaws as buffers
-use Rattle.catalog.specs.Limits.{leastBases, mostMoleculeBases, mostMotifBases, mostCatalogBlocks, moleculeVerdict, motifVerdict}
-
-pub empty-length : length emptyBlock ≡ blockSize
-empty-length = law.empty-length
-
-pub empty-empty : isEmpty emptyBlock ≡ true
-empty-empty = law.empty-empty
-
-pub empty-molecule : soundMolecule emptyBlock ≡ true
-empty-molecule = law.empty-molecule
-
-pub empty-entry : soundEntry emptyBlock ≡ true
-empty-entry = law.empty-entry
-
-pub empty-forgot : (d : ℕ) → forgot d emptyBlock ≡ emptyBlock
-empty-forgot = law.empty-forgot
+use Rattle.catalog.specs.Limits.{mostMoleculeBases, mostMotifBases, mostCatalogBlocks, moleculeVerdict, motifVerdict}
 
 module _ (q : Strand) (ok : moleculeVerdict q ≡ Accepted) where
-  good : Proper moleculeSide leastBases mostMoleculeBases (q .bases) (q .mates)
+  good : Proper moleculeSide leastLength mostMoleculeBases (q .bases) (q .mates)
   unfolding moleculeVerdict
-  good = accepted-proper moleculeSide leastBases mostMoleculeBases (q .bases) (q .mates) ok
+  good = accepted-proper moleculeSide leastLength mostMoleculeBases (q .bases) (q .mates) ok
 
   pub molecule-length : length (encodeMolecule q) ≡ blockSize
   molecule-length = law.molecule-length q good
@@ -50,9 +37,9 @@ module _ (q : Strand) (ok : moleculeVerdict q ≡ Accepted) where
   molecule-full = law.molecule-full q good
 
 module _ (p : Strand) (ok : motifVerdict p ≡ Accepted) (searched hits : ℕ → Bool) where
-  good′ : Proper motifSide leastBases mostMotifBases (p .bases) (p .mates)
+  good′ : Proper motifSide leastLength mostMotifBases (p .bases) (p .mates)
   unfolding motifVerdict
-  good′ = accepted-proper motifSide leastBases mostMotifBases (p .bases) (p .mates) ok
+  good′ = accepted-proper motifSide leastLength mostMotifBases (p .bases) (p .mates) ok
 
   pub entry-length : length (encodeEntry p searched hits) ≡ blockSize
   entry-length = law.entry-length p good′ searched hits
@@ -82,7 +69,3 @@ sound-clean b e = sym (buffers.clean-yes b e)
 pub unsound-clean : (b : List ℕ) → length b ≡ blockSize → soundEntry b ≡ false → cleaned b ≡ emptyBlock
 unfolding emptyBlock
 unsound-clean b l e = sym (buffers.clean-no b e) ∙ ap (λ (n : ℕ). replicate n 0) l
-
--- One changed byte makes a sound entry unsound.
-pub entry-changed : (b : List ℕ) (i v : ℕ) → soundEntry b ≡ true → i < blockSize → (nth b i ≡ v → ⊥) → soundEntry (set b i v) ≡ false
-entry-changed = law.entry-changed

@@ -1,71 +1,39 @@
 -- The claims about add, remove and query for all contents of the buffers. Assumes nothing.
-use Prim.Native.Nat.{ℕ, _+_, _*_, _-_, _/_, _%_, _^_, _<_, _≤_}
+use Prim.Native.Nat.{ℕ, _+_, _*_, _/_, _%_, _<_}
 use native.Mathlib.Omega.{arith}
-use native.Mathlib.Nat.{mod-lt, zero-div}
+use native.Mathlib.Nat.{mod-lt}
 use mathlib.Core.Path.{_≡_, refl, sym, _∙_, ap}
-use mathlib.Core.Logic.{_⊎_, inl, inr, ⊎-elim}
-use mathlib.Core.Bool.{Bool, true, false, not, _&&_, _||_, and-false}
+use mathlib.Core.Logic.{⊎-elim}
+use mathlib.Core.Bool.{Bool, true, false, not, _&&_, _||_, and-true as and-true-right, and-false}
 use mathlib.Core.List.{List}
-use lib.Dec.{ltb, leb, eqb}
-use lib.ListN.{length, drop, replicate, length-replicate, getD-replicate, List·getD-eq-default}
-use lib.Seq.{getD-drop, getD-take}
-use borrow.Author.Tests.{eqb-true, eq-eqb, lt-ltb, leb-true, leb-false, ltb-true, ltb-false}
+use lib.Dec.{ltb, eqb}
+use lib.ListN.{length, getD-replicate}
+use borrow.Author.Tests.{eq-eqb, lt-ltb, ltb-true}
 use Rattle.strand.specs.Vocabulary.{choose}
-use Rattle.strand.specs.Strands.{Strand, key, noSide}
-use Rattle.strand.specs.Refusals.{notWholeBlocks, numberTooLarge, row}
-use Rattle.strand.proofs.ListLaws.{and-true, not-not, every-at}
-use Rattle.strand.proofs.VerdictLaws.{first-pass, row-pass}
+use Rattle.strand.specs.Strands.{Strand, key}
+use Rattle.strand.proofs.ListLaws.{and-true, by-bool, every-at}
+use Rattle.strand.proofs.VerdictLaws.{first-pass}
 use Rattle.octets.specs.Checksum.{blockSize}
 use Rattle.octets.specs.Maps.{mapBits, without}
-use Rattle.octets.specs.Bits.{bitOf, mapBit}
+use Rattle.octets.specs.Bits.{mapBit}
 use Rattle.block.specs.Block.{blockOf, hitOk, hitsOk, soundEntry}
 use Rattle.block.specs.Buffer.{cleaned, eachBlock, forgot, putBlock}
 use Rattle.block.specs.Content.{searchedAt, hitAt, emptyBlock, isEmpty, motifIn, searchedIn, hitIn, keepsMotif, encodeEntry}
-use Rattle.block.specs.Statements.{Bytes}
+use Rattle.octets.specs.Numbers.{Bytes}
 use Rattle.block.proofs.BlockLaws.{length-block}
+use Rattle.octets.proofs.ByteLaws.{small-zeros, small-between}
+use Rattle.octets.proofs.BitLaws.{zero-bit}
 use Rattle.octets.proofs.MapLaws.{map-ext}
 use Rattle.block.proofs.SoundLaws.{entry-hits-ok}
 use Rattle.strand.specs.declared.Verdict.the-variants.{Accepted}
 use Rattle.block.proofs.ContentLaws as law
-use Rattle.catalog.specs.Limits.{mostCatalogBlocks, mostCacheBlocks, motifVerdict}
-use Rattle.catalog.specs.Buffers.{blockCount, isWhole, areWhole, held, moleculeAt, buffersVerdict, slotOf, cleanCache}
+use Rattle.catalog.specs.Limits.{mostCatalogBlocks, motifVerdict}
+use Rattle.catalog.specs.Buffers.{blockCount, held, moleculeAt, buffersVerdict, slotOf, cleanCache}
 use Rattle.catalog.specs.Calls.{updateUnless, addVerdict, addOutcome, removeVerdict, removeOutcome, queryUnless, queryVerdict, isKnown, toSearch, isHit, queryEntry, queryOutcome}
 use Rattle.catalog.specs.Claims.{AllSound, Forgotten, Claims}
 use Rattle.catalog.proofs.BlockUse as leaf
 use Rattle.catalog.proofs.ReadingLaws as read
-
-by-bool : (b : Bool) → (b ≡ true) ⊎ (b ≡ false)
-by-bool true = inl refl
-by-bool false = inr refl
-
-and-true-right : (b : Bool) → (b && true) ≡ b
-and-true-right true = refl
-and-true-right false = refl
-
--- What buffers that row 10 lets pass have
-
-pub whole-facts : (most : ℕ) (s : List ℕ) → isWhole most s ≡ true → (length s ≡ blockSize * blockCount s) × (1 ≤ blockCount s) × (blockCount s ≤ most)
-unfolding isWhole
-whole-facts most s e =
-    let x = and-true _ (leb (blockCount s) most) e in
-    let y = and-true (eqb (length s % blockSize) 0) (leb 1 (blockCount s)) (x .0) in
-    let z : length s % blockSize ≡ 0 = eqb-true _ 0 (y .0) in
-    (omega arith, leb-true 1 _ (y .1), leb-true _ most (x .1))
-
-pub record Sized (catalog cache : List ℕ) : Type 0 where
-  pub catalog-whole : length catalog ≡ blockSize * blockCount catalog
-  pub catalog-most : blockCount catalog ≤ mostCatalogBlocks
-  pub cache-whole : length cache ≡ blockSize * blockCount cache
-  pub cache-some : 1 ≤ blockCount cache
-
-pub sized : (catalog cache : List ℕ) → buffersVerdict catalog cache ≡ Accepted → Sized catalog cache
-unfolding buffersVerdict areWhole
-sized catalog cache e =
-    let a = first-pass (row notWholeBlocks noSide (not (isWhole mostCatalogBlocks catalog && isWhole mostCacheBlocks cache))) _ e in
-    let w = and-true (isWhole mostCatalogBlocks catalog) (isWhole mostCacheBlocks cache) (not-not _ (row-pass notWholeBlocks noSide _ (a .0))) in
-    let x = whole-facts mostCatalogBlocks catalog (w .0) in
-    let y = whole-facts mostCacheBlocks cache (w .1) in
-    record { catalog-whole = x .0; catalog-most = x .2; cache-whole = y .0; cache-some = y .1 }
+use Rattle.catalog.proofs.JudgeLaws.{Sized, sized, remove-facts}
 
 -- A cleaned block is sound
 
@@ -89,7 +57,7 @@ module _ (embeds : Strand → Strand → Bool) where
   unfolding addOutcome updateUnless
   add-sound catalog cache d q e =
       let z = sized catalog cache (unfold addVerdict in (first-pass (buffersVerdict catalog cache) _ e .0)) in
-      rw e (all-clean cache (blockCount cache) (z .cache-whole))
+      rw e (all-clean cache (blockCount cache) (z .whole))
 
   -- the slot written anew
 
@@ -109,7 +77,7 @@ module _ (embeds : Strand → Strand → Bool) where
 
     slot-below : slot < blockCount cache
     unfolding slot slotOf
-    slot-below = let h = facts .0 .cache-some in mod-lt (key p) h
+    slot-below = let h = facts .0 .slots in mod-lt (key p) h
 
     entry : List ℕ
     entry = encodeEntry p (held catalog) (isHit embeds catalog (blockOf slot (cleanCache cache)) p)
@@ -118,7 +86,7 @@ module _ (embeds : Strand → Strand → Bool) where
     new-cache = putBlock slot entry (cleanCache cache)
 
     clean-length : length (cleanCache cache) ≡ blockSize * blockCount cache
-    clean-length = read.clean-length cache (blockCount cache) (facts .0 .cache-whole)
+    clean-length = read.clean-length cache (blockCount cache) (facts .0 .whole)
 
     entry-length : length entry ≡ blockSize
     unfolding entry
@@ -140,7 +108,7 @@ module _ (embeds : Strand → Strand → Bool) where
       where
         go : (t : Bool) → soundEntry (choose t entry (blockOf s (cleanCache cache))) ≡ true
         go true = unfold choose in entry-sound
-        go false = unfold choose in (clean-sound cache (blockCount cache) (facts .0 .cache-whole) s l)
+        go false = unfold choose in (clean-sound cache (blockCount cache) (facts .0 .whole) s l)
 
     new-all : AllSound new-cache
     new-all s l = new-sound s (omega (arith, read.count-is new-cache (blockCount cache) new-length))
@@ -155,10 +123,6 @@ without-same : (d : ℕ) (p : ℕ → Bool) → without d p d ≡ false
 unfolding without
 without-same d p = rw (eq-eqb d d refl, and-false)
 
-zero-bit : (k : ℕ) → bitOf 0 k ≡ false
-unfolding bitOf
-zero-bit k = ap (λ (q : ℕ). eqb (q % 2) 1) (zero-div (2 ^ k))
-
 empty-bit : (at d : ℕ) → at + d / 8 < blockSize → mapBit emptyBlock at d ≡ false
 unfolding mapBit emptyBlock
 empty-bit at d l = rw (getD-replicate {A = ℕ} blockSize (at + d / 8) 0 0 l) (zero-bit (d % 8))
@@ -171,7 +135,7 @@ forgot-bits : (b : List ℕ) (d : ℕ) → soundEntry b ≡ true → Bytes b →
     → (searchedIn (forgot d b) d ≡ false) × (hitIn (forgot d b) d ≡ false)
 forgot-bits b d ok small l =
     ⊎-elim
-    (λ (e : isEmpty b ≡ true). rw (law.empty-is b (law.entry-512 b ok) e, leaf.empty-forgot d) (empty-bits d l))
+    (λ (e : isEmpty b ≡ true). rw (law.empty-is b (law.entry-size b ok) e, leaf.empty-forgot d) (empty-bits d l))
     (λ (e : isEmpty b ≡ false).
     let k : forgot d b ≡ encodeEntry (motifIn b) (without d (searchedIn b)) (without d (hitIn b))
     = ap (forgot d) (sym (law.entry-again b ok e small)) ∙ law.entry-forgot (motifIn b) (law.entry-proper b ok e) (searchedIn b) (hitIn b) d l in
@@ -210,7 +174,7 @@ forgot-sound : (b : List ℕ) (d : ℕ) → soundEntry b ≡ true → Bytes b �
 unfolding below
 forgot-sound b d ok small l =
     ⊎-elim
-    (λ (e : isEmpty b ≡ true). rw (law.empty-is b (law.entry-512 b ok) e, leaf.empty-forgot d) leaf.empty-entry)
+    (λ (e : isEmpty b ≡ true). rw (law.empty-is b (law.entry-size b ok) e, leaf.empty-forgot d) leaf.empty-entry)
     (λ (e : isEmpty b ≡ false).
     let P = law.entry-proper b ok e in
     let k : forgot d b ≡ encodeEntry (motifIn b) (without d (below (searchedIn b))) (without d (below (hitIn b)))
@@ -222,29 +186,10 @@ forgot-sound b d ok small l =
     (λ y. let z = and-true (ltb x mapBits) (hitIn b x) y in rw (z .0) (hit-searched b ok e x (ltb-true x mapBits (z .0)) (z .1))) h)))
     (by-bool (isEmpty b))
 
--- a part of bytes is bytes, and so is a cleaned block
-part-bytes : (cache : List ℕ) (s : ℕ) → Bytes cache → blockSize * s + blockSize ≤ length cache → Bytes (blockOf s cache)
-part-bytes cache s h l i =
-    ⊎-elim
-    (λ (e : ltb i blockSize ≡ true).
-    let k : i < blockSize = ltb-true i blockSize e in
-    rw (getD-take (blockSize * s + blockSize - blockSize * s) (drop (blockSize * s) cache) i 0 (omega arith), getD-drop (blockSize * s) cache i 0) (h (blockSize * s + i)))
-    (λ (e : ltb i blockSize ≡ false).
-    let k : blockSize ≤ i = ltb-false i blockSize e in
-    let n : length (blockOf s cache) ≡ blockSize = length-block s cache l in
-    rw (List·getD-eq-default (blockOf s cache) 0 {n = i} (omega arith)) (omega arith))
-    (by-bool (ltb i blockSize))
-
+-- a cleaned block of bytes is bytes
 zero-bytes : Bytes emptyBlock
 unfolding emptyBlock
-zero-bytes i =
-    ⊎-elim
-    (λ (e : ltb i blockSize ≡ true). rw (getD-replicate {A = ℕ} blockSize i 0 0 (ltb-true i blockSize e)) (omega arith))
-    (λ (e : ltb i blockSize ≡ false).
-    let n : length {A = ℕ} (replicate blockSize 0) ≡ blockSize = length-replicate {A = ℕ} blockSize 0 in
-    let k : blockSize ≤ i = ltb-false i blockSize e in
-    rw (List·getD-eq-default {A = ℕ} (replicate blockSize 0) 0 {n = i} (omega arith)) (omega arith))
-    (by-bool (ltb i blockSize))
+zero-bytes = small-zeros blockSize
 
 clean-bytes : (b : List ℕ) → length b ≡ blockSize → Bytes b → Bytes (cleaned b)
 clean-bytes b l h =
@@ -254,40 +199,25 @@ clean-bytes b l h =
     (by-bool (soundEntry b))
 
 module _ (catalog cache : List ℕ) (d : ℕ) (small : Bytes cache) (e : removeVerdict catalog cache d ≡ Accepted) where
-  remove-facts : Sized catalog cache × (d < blockCount catalog)
-  unfolding removeVerdict
-  remove-facts =
-      let a = first-pass (buffersVerdict catalog cache) _ e in
-      let b = first-pass (row numberTooLarge noSide (leb (blockCount catalog) d)) _ (a .1) in
-      (sized catalog cache (a .0), leb-false _ d (row-pass numberTooLarge noSide _ (b .0)))
-
-  forgot-all : Forgotten d (eachBlock (forgot d) (cleanCache cache))
-  forgot-all s l =
-      let z = remove-facts .0 in
-      let len = z .cache-whole in
+  -- Every block of the cleaned cache, after the number is taken out.
+  remove-each : (P : List ℕ → Type 0) → ((b : List ℕ) → soundEntry b ≡ true → Bytes b → d < mostCatalogBlocks → P (forgot d b)) → (s : ℕ)
+      → s < blockCount (eachBlock (forgot d) (cleanCache cache)) → P (blockOf s (eachBlock (forgot d) (cleanCache cache)))
+  remove-each P holds s l =
+      let z = sized catalog cache (unfold removeVerdict in (first-pass (buffersVerdict catalog cache) _ e .0)) in
+      let len = z .whole in
       let k : s < blockCount cache = omega (arith, read.count-is (eachBlock (forgot d) (cleanCache cache)) (blockCount cache) (read.forgot-length cache (blockCount cache) len d)) in
       let n : length (blockOf s cache) ≡ blockSize = length-block s cache (omega arith) in
-      let i : d < mostCatalogBlocks = let x = remove-facts .1 in let y = z .catalog-most in omega arith in
+      let i : d < mostCatalogBlocks = omega (arith, remove-facts catalog cache d e, z .most) in
       rw (read.forgot-block cache (blockCount cache) len d s k)
-      (forgot-bits (cleaned (blockOf s cache)) d (cleaned-sound (blockOf s cache) n) (clean-bytes (blockOf s cache) n (part-bytes cache s small (omega arith))) i)
+      (holds (cleaned (blockOf s cache)) (cleaned-sound (blockOf s cache) n) (clean-bytes (blockOf s cache) n (small-between (blockSize * s) (blockSize * s + blockSize) cache small)) i)
 
   remove-forgets : Forgotten d (removeOutcome catalog cache d .cache)
   unfolding removeOutcome updateUnless
-  remove-forgets = rw e forgot-all
-
-  remove-all : AllSound (eachBlock (forgot d) (cleanCache cache))
-  remove-all s l =
-      let z = remove-facts .0 in
-      let len = z .cache-whole in
-      let k : s < blockCount cache = omega (arith, read.count-is (eachBlock (forgot d) (cleanCache cache)) (blockCount cache) (read.forgot-length cache (blockCount cache) len d)) in
-      let n : length (blockOf s cache) ≡ blockSize = length-block s cache (omega arith) in
-      let i : d < mostCatalogBlocks = let x = remove-facts .1 in let y = z .catalog-most in omega arith in
-      rw (read.forgot-block cache (blockCount cache) len d s k)
-      (forgot-sound (cleaned (blockOf s cache)) d (cleaned-sound (blockOf s cache) n) (clean-bytes (blockOf s cache) n (part-bytes cache s small (omega arith))) i)
+  remove-forgets = rw e (remove-each (λ b. (searchedIn b d ≡ false) × (hitIn b d ≡ false)) (λ b ok bs l. forgot-bits b d ok bs l))
 
   remove-sound : AllSound (removeOutcome catalog cache d .cache)
   unfolding removeOutcome updateUnless
-  remove-sound = rw e remove-all
+  remove-sound = rw e (remove-each (λ b. soundEntry b ≡ true) (λ b ok bs l. forgot-sound b d ok bs l))
 
 -- An entry of another motif
 

@@ -75,6 +75,7 @@ module _ (cat cache : List ℕ) where
 -- Buffers that rows 10 and 11 let pass.
 pub record Sized (cat cache : List ℕ) : Type 0 where
   pub most : length cat / 512 ≤ 512
+  pub whole : length cache ≡ 512 * (length cache / 512)
   pub slots : 1 ≤ length cache / 512
   pub blocks : SoundCatalog cat
 
@@ -90,6 +91,7 @@ sized cat cache e =
     let w = and-true (isWhole 512 cat) (isWhole 64 cache) (not-not _ (row-pass 10 2 _ (a .0))) in
     record {
       most = whole-facts 512 cat (w .0) .2;
+      whole = whole-facts 64 cache (w .1) .0;
       slots = whole-facts 64 cache (w .1) .1;
       blocks = record { sound = λ d l. sound-block cat d (row-at-pass 11 2 (length cat / 512) (unsoundAt cat) (b .0) d l) };
     }

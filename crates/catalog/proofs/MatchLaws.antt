@@ -9,7 +9,8 @@ use lib.Seq.{take-at}
 use lib.Dec.{eqb}
 use Rattle.strand.specs.Strands.{strandOf, lettersMatch, motifSide, moleculeSide, Proper}
 use Rattle.embedding.specs.Longest.{longest}
-use Rattle.matcher.specs.Answers.{workSize, Searchable}
+use Rattle.rows.specs.Rows.{workSize}
+use Rattle.matcher.specs.Answers.{Searchable}
 use Rattle.matcher.proofs.CallLaws.{searchable-of}
 use Rattle.block.specs.Block.{soundMolecule}
 use Rattle.block.specs.Content.{isEmpty, moleculeIn}

@@ -2,7 +2,7 @@
 use mathlib.Core.Path.{_≡_, refl, sym, ap, ap₂, _∙_}
 use mathlib.Core.Bool.{Bool, true, false, _&&_, _||_}
 use mathlib.Core.List.{List, [], _∷_, _++_, append-nil, append-assoc}
-use Prim.Native.Nat.{ℕ, zero, suc, _+_, _-_, _*_, _/_, _<_, _≤_}
+use Prim.Native.Nat.{ℕ, suc, _+_, _-_, _*_, _/_, _<_, _≤_}
 use native.Mathlib.Omega.{arith}
 use native.Mathlib.Numerals.{add-one}
 use native.Mathlib.Decide.{ℕ-discrete, decLt}
@@ -13,6 +13,7 @@ use borrow.Author.Tests.{eq-eqb, ne-eqb, lt-ltb, le-ltb}
 use borrow.Rule.Slice.PartMut.{putMid}
 use Rattle.strand.specs.Vocabulary.{choose, select}
 use Rattle.strand.specs.Strands.{Strand, strandOf}
+use Rattle.strand.proofs.ListLaws.{select-short}
 use Rattle.octets.specs.Bits.{setMap}
 use Rattle.octets.specs.Maps.{mapBytes}
 use Rattle.block.specs.Block.{blockOf}
@@ -117,15 +118,6 @@ select-yes p d h = rw (add-one, h)
 select-no : (p : ℕ → Bool) (d : ℕ) → p d ≡ false → select (d + 1) p ≡ select d p
 unfolding select choose
 select-no p d h = rw (add-one, h) (append-nil (select d p))
-
-pub select-short : (p : ℕ → Bool) (d : ℕ) → length (select d p) ≤ d
-unfolding select choose
-select-short p zero = omega arith
-select-short p (suc d) = go (p d) (select-short p d)
-  where
-    go : (b : Bool) → length (select d p) ≤ d → length (select d p ++ choose b (d ∷ []) []) ≤ suc d
-    go true i = omega (arith, length-append (select d p) (d ∷ []))
-    go false i = rw append-nil (omega arith)
 
 -- the hits so far stand at the start of the slice, and the rest is as it was
 pub count-next : (p : ℕ → Bool) (d : ℕ) (b : Bool) (c c′ : ℕ) → b ≡ p d → c ≡ length (select d p) → c′ ≡ choose b (c + 1) c → c′ ≡ length (select (d + 1) p)

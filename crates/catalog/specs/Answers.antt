@@ -10,6 +10,7 @@ use Rattle.catalog.specs.declared.Updated.the-variants.{Done, Refused as
 use Rattle.catalog.specs.declared.Queried.{Queried}
 use Rattle.catalog.specs.declared.Queried.the-variants.{Hits, Refused as NotQueried}
 
+-- What is compared of a call (01, demand 3).
 pub data Result : Type 0 where
   -- number, side and place of a refusal
   refused : ℕ → ℕ → ℕ → Result
@@ -18,6 +19,7 @@ pub data Result : Type 0 where
   -- an accepted query: the count, the hit list at the start of its slice, the searched number
   found : ℕ → List ℕ → ℕ → Result
 
+-- The result of a refusal, of an add or remove, and of a query.
 unfoldable pub refusedBy : Refusal → Result
 refusedBy r = refused (r .number) (r .side) (r .place)
 

@@ -7,7 +7,7 @@ use lib.ListN.{length}
 use Rattle.strand.specs.Strands.{Strand}
 use Rattle.block.specs.Block.{blockOf, soundEntry}
 use Rattle.block.specs.Content.{keepsMotif, searchedIn, hitIn}
-use Rattle.block.specs.Statements.{Bytes}
+use Rattle.octets.specs.Numbers.{Bytes}
 use Rattle.strand.specs.declared.Verdict.the-variants.{Accepted}
 use Rattle.catalog.specs.Buffers.{blockCount, held, moleculeAt}
 use Rattle.catalog.specs.Calls.{addVerdict, addOutcome, removeVerdict, removeOutcome, queryVerdict, toSearch, isHit, queryOutcome}
@@ -20,6 +20,7 @@ AllSound cache = (s : ℕ) → s < blockCount cache → soundEntry (blockOf s ca
 abbrev pub Forgotten : ℕ → List ℕ → Type 0
 Forgotten d cache = (s : ℕ) → s < blockCount cache → (searchedIn (blockOf s cache) d ≡ false) × (hitIn (blockOf s cache) d ≡ false)
 
+-- All the claims.
 pub record Claims (embeds : Strand → Strand → Bool) : Type 0 where
   -- an accepted call leaves no unsound cache block: else one later alteration could put it right
   pub add-sound : (catalog cache : List ℕ) (d : ℕ) (q : Strand) → addVerdict catalog cache d q ≡ Accepted

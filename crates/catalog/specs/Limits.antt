@@ -2,7 +2,7 @@
 use Prim.Native.Nat.{ℕ}
 use lib.ListN.{length}
 use Rattle.strand.specs.Strands.{Strand, motifSide, moleculeSide}
-use Rattle.strand.specs.Refusals.{strandVerdict}
+use Rattle.strand.specs.Refusals.{strandVerdict, leastLength}
 use Rattle.matcher.specs.Answers.{workRow}
 use Rattle.block.specs.Content.{moleculeKind, entryKind}
 use Rattle.strand.specs.declared.Verdict.{Verdict}
@@ -15,9 +15,6 @@ abbrev pub mostCacheBlocks : ℕ
 mostCacheBlocks = 64
 
 -- 01, lengths: molecules in the catalog 1 to 160, motifs of a query 1 to 120.
-abbrev pub leastBases : ℕ
-leastBases = 1
-
 abbrev pub mostMoleculeBases : ℕ
 mostMoleculeBases = moleculeKind .most
 
@@ -26,10 +23,10 @@ mostMotifBases = entryKind .most
 
 -- Rows 1 to 7 of a molecule for the catalog, and of the motif of a query.
 unfoldable pub moleculeVerdict : Strand → Verdict
-moleculeVerdict q = strandVerdict moleculeSide leastBases mostMoleculeBases (q .bases) (q .mates)
+moleculeVerdict q = strandVerdict moleculeSide leastLength mostMoleculeBases (q .bases) (q .mates)
 
 unfoldable pub motifVerdict : Strand → Verdict
-motifVerdict p = strandVerdict motifSide leastBases mostMotifBases (p .bases) (p .mates)
+motifVerdict p = strandVerdict motifSide leastLength mostMotifBases (p .bases) (p .mates)
 
 -- Row 8 of a query with a work slice of so many entries: n is 160, the most that a molecule of the catalog has.
 unfoldable pub workVerdict : Strand → ℕ → Verdict

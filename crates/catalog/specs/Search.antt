@@ -4,12 +4,13 @@ use mathlib.Core.Path.{_≡_}
 use mathlib.Core.Bool.{Bool, true}
 use mathlib.Core.List.{List, _++_}
 use lib.ListN.{length, drop}
+use Rattle.strand.specs.Refusals.{leastLength}
 use Rattle.strand.specs.Vocabulary.{select}
 use Rattle.strand.specs.Strands.{motifSide, Proper}
-use Rattle.matcher.specs.Answers.{workSize}
+use Rattle.rows.specs.Rows.{workSize}
 use Rattle.octets.specs.Maps.{mapBytes}
 use Rattle.block.specs.Block.{blockOf, soundMolecule}
-use Rattle.catalog.specs.Limits.{mostCatalogBlocks, leastBases, mostMoleculeBases, mostMotifBases}
+use Rattle.catalog.specs.Limits.{mostCatalogBlocks, mostMoleculeBases, mostMotifBases}
 use Rattle.catalog.specs.Buffers.{blockCount}
 
 -- Row 11 lets the catalog pass: each block is sound.
@@ -20,7 +21,7 @@ pub record SoundCatalog (catalog : List ℕ) : Type 0 where
 pub record Ready (catalog bases mates : List ℕ) (work : ℕ) : Type 0 where
   pub blocks : SoundCatalog catalog
   pub most : blockCount catalog ≤ mostCatalogBlocks
-  pub motif : Proper motifSide leastBases mostMotifBases bases mates
+  pub motif : Proper motifSide leastLength mostMotifBases bases mates
   pub room : workSize (length bases) mostMoleculeBases ≤ work
 
 -- What the search leaves: the hits p below n, counted, at the start of the slice and in the map; and how many molecules r it had to search.

@@ -54,7 +54,7 @@ fn judge_buffers(catalog: &[u8], cache: &[u8]) -> strand::Verdict
 }
 
 // Whether molecule d is held. A sound block is empty exactly when its byte 0 is 0. Rows 10 and 11 have let the catalog pass.
-pub fn is_held(catalog: &[u8], d: usize) -> bool
+pub(crate) fn is_held(catalog: &[u8], d: usize) -> bool
     requires { ⌜ SoundCatalog (now catalog) ⌝ }
     ensures { λ r. ⌜ r ≡ held (now (catalog .entry)) d ⌝ }
 {
@@ -65,6 +65,7 @@ pub fn is_held(catalog: &[u8], d: usize) -> bool
     catalog[a] != 0
 }
 
+// The rows of add, of remove and of query, in the table's order.
 pub fn judge_add(
     catalog: &[u8],
     cache: &[u8],

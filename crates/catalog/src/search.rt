@@ -2,11 +2,11 @@
 // has let catalog, motif, work and hits pass (`Ready`), and the cache is clean.
 ghost use mathlib.Core.Path.{_≡_};
 ghost use mathlib.Core.Bool.{true, false, _&&_};
-ghost use Prim.Native.Nat.{_+_, _-_, _<_, _≤_, _/_, _%_};
+ghost use Prim.Native.Nat.{_+_, _<_, _≤_, _/_, _%_};
 ghost use lib.ListN.{length, set};
 ghost use Rattle.strand.specs.Vocabulary.{choose, total};
 ghost use Rattle.strand.specs.Strands.{strandOf, motifSide, Proper};
-ghost use Rattle.matcher.specs.Answers.{workSize};
+ghost use Rattle.rows.specs.Rows.{workSize};
 ghost use Rattle.octets.specs.Bits.{setMap};
 ghost use Rattle.octets.specs.Maps.{mapSize, mapBytes};
 ghost use Rattle.block.specs.Block.{blockOf, soundMolecule, soundEntry};
@@ -29,6 +29,7 @@ pub struct Tally {
     pub searched: usize,
 }
 
+// The sum of bytes; of 16-bit numbers.
 fn sum_bytes(s: &[u8]) -> usize
     requires { ⌜ length (now s) ≤ 4096 ⌝ }
     ensures { λ r. ⌜ (r ≡ total (now (s .entry))) × (r ≤ 268435456) ⌝ }
@@ -56,7 +57,7 @@ fn sum_words(s: &[u16]) -> usize
 }
 
 // The slot of a motif in a cache of n blocks: its key mod n.
-pub fn slot(bases: &[u8], mates: &[u16], n: usize) -> usize
+pub(crate) fn slot(bases: &[u8], mates: &[u16], n: usize) -> usize
     requires { ⌜ (length (now bases) ≤ 120) × (length (now mates) ≤ 120) × (1 ≤ n) ⌝ }
     ensures { λ r. ⌜ (r ≡ slotOf n (strandOf (now (bases .entry)) (now (mates .entry)))) × (r < n) ⌝ }
 {
@@ -87,6 +88,7 @@ fn note(hit: bool, d: usize, count: usize, hits: &mut [u16], map: &mut [u8]) -> 
     count + 1
 }
 
+// Set bit d of the map if `yes`.
 fn mark(yes: bool, d: usize, map: &mut [u8])
     ensures { λ _. ⌜ now (map .exit) ≡ choose yes (setMap (now (map .entry)) 0 d) (now (map .entry)) ⌝ }
 {
@@ -127,6 +129,7 @@ fn embeds_with(
     prefix == bases.len()
 }
 
+// The same with slices of its own.
 fn embeds_in(b: &[u8], bases: &[u8], mates: &[u16], work: &mut [u16]) -> bool
     requires { ⌜ (soundMolecule (now b) ≡ true) × (isEmpty (now b) ≡ false) × Proper motifSide 1 120 (now bases) (now mates)
         × (workSize (length (now bases)) mostMoleculeBases ≤ length (now work)) ⌝ }
@@ -231,7 +234,8 @@ fn answer_with(
     crate::Queried::Hits { count, searched }
 }
 
-pub fn answer(
+// The same with maps of its own.
+pub(crate) fn answer(
     catalog: &[u8],
     cache: &mut [u8],
     s: usize,

@@ -1,4 +1,5 @@
-// Bytes, 16-bit entries and bits at any index: past the end a read gives 0, and a write changes nothing.
+// The buffer of the tests is a row of blocks of 512 bytes (`layout`). Bytes, 16-bit entries and bits are named by a block and a place from its
+// start on, which may lie in a later block: past the end of the buffer a read gives 0, and a write changes nothing.
 ghost use Prim.Native.Nat.{_<_};
 
 fn wide(x: u8) -> usize
@@ -7,133 +8,101 @@ fn wide(x: u8) -> usize
     x as usize
 }
 
-fn long(x: u16) -> usize {
-    x as usize
-}
-
-// The place b further on than a.
-pub fn off(a: usize, b: usize) -> usize {
-    a % 16777216 + b % 16777216
-}
-
-pub fn get(s: &[u8], i: usize) -> usize
+pub fn get(s: &[u8], b: usize, i: usize) -> usize
     ensures { λ r. ⌜ r < 256 ⌝ }
 {
-    if i < s.len() {
-        return wide(s[i]);
+    let at = b % 2048 * 512 + i % 1048576;
+    if at < s.len() {
+        return wide(s[at]);
     }
     0
 }
 
-pub fn put(s: &mut [u8], i: usize, v: usize) {
-    if i < s.len() {
-        s[i] = (v % 256) as u8;
+pub fn put(s: &mut [u8], b: usize, i: usize, v: usize) {
+    let at = b % 2048 * 512 + i % 1048576;
+    if at < s.len() {
+        s[at] = (v % 256) as u8;
     }
 }
 
-pub fn entry(s: &[u16], i: usize) -> usize {
-    if i < s.len() {
-        return long(s[i]);
+// Entry i, of two bytes, little-endian, of those from a place on.
+pub fn word(s: &[u8], b: usize, from: usize, i: usize) -> usize
+    ensures { λ r. ⌜ r < 65536 ⌝ }
+{
+    let at = from % 1024 + i % 1024 * 2;
+    get(s, b, at) + get(s, b, at + 1) * 256
+}
+
+pub fn put_word(s: &mut [u8], b: usize, from: usize, i: usize, v: usize) {
+    let at = from % 1024 + i % 1024 * 2;
+    put(s, b, at, v);
+    put(s, b, at + 1, v / 256);
+}
+
+// Bit d of the map from a place on, 0 or 1.
+pub fn bit(s: &[u8], b: usize, from: usize, d: usize) -> usize {
+    (get(s, b, from % 512 + d / 8 % 64) >> (d % 8)) % 2
+}
+
+// The byte with bit k set where `on` is not 0, else cleared.
+fn masked(old: usize, k: usize, on: usize) -> usize {
+    let one = 1usize << (k % 8);
+    if on != 0 {
+        return old | one;
     }
-    0
+    old & !one
 }
 
-pub fn put_entry(s: &mut [u16], i: usize, v: usize) {
-    if i < s.len() {
-        s[i] = (v % 65536) as u16;
-    }
+pub fn put_bit(s: &mut [u8], b: usize, from: usize, d: usize, on: usize) {
+    let at = from % 512 + d / 8 % 64;
+    put(s, b, at, masked(get(s, b, at), d, on));
 }
 
-// A number of two bytes, little-endian.
-pub fn word(s: &[u8], i: usize) -> usize {
-    get(s, i) + get(s, off(i, 1)) * 256
-}
-
-pub fn put_word(s: &mut [u8], i: usize, v: usize) {
-    put(s, i, v);
-    put(s, off(i, 1), v / 256);
-}
-
-// Bit d of the map from i on, 0 or 1.
-pub fn bit(s: &[u8], i: usize, d: usize) -> usize {
-    (get(s, off(i, d / 8)) >> (d % 8)) % 2
-}
-
-pub fn put_bit(s: &mut [u8], i: usize, d: usize, on: usize) {
-    let at = off(i, d / 8);
-    let old = get(s, at);
-    let one = 1usize << (d % 8);
-    if on == 1 {
-        return put(s, at, old | one);
-    }
-    put(s, at, old & !one);
-}
-
-pub fn clear(s: &mut [u8], from: usize, to: usize) {
-    let mut i = from;
-    while i < to {
-        put(s, i, 0);
+pub fn fill(s: &mut [u8], b: usize, n: usize, v: usize) {
+    let mut i = 0;
+    while i < n {
+        put(s, b, i, v);
         i += 1;
     }
 }
 
+// Writes n bytes from place i of block b on: those of block a from j on.
+pub fn copy(s: &mut [u8], b: usize, i: usize, a: usize, j: usize, n: usize) {
+    let mut k = 0;
+    while k < n {
+        put(s, b, i % 512 + k % 65536, get(s, a, j % 512 + k % 65536));
+        k += 1;
+    }
+}
+
+// The first n bytes of two blocks, and of those behind them, are the same.
+pub fn same(s: &[u8], a: usize, b: usize, n: usize) -> bool {
+    let mut i = 0;
+    while i < n {
+        if get(s, a, i) != get(s, b, i) {
+            return false;
+        }
+        i += 1;
+    }
+    true
+}
+
 // The sum of a block's checksum: byte i counts i + 1 times, once for each of the bytes up to it.
-fn sum(s: &[u8], at: usize) -> usize {
+fn sum(s: &[u8], b: usize) -> usize {
     let mut later: usize = 0;
     let mut total: usize = 0;
     let mut i = 508;
     while 0 < i {
         i -= 1;
-        later = later % 4294967296 + get(s, off(at, i));
+        later = later % 4294967296 + get(s, b, i);
         total = total % 4294967296 + later;
     }
     total
 }
 
-// Writes the checksum of the block at a place.
-pub fn seal(s: &mut [u8], at: usize) {
-    let n = sum(s, at);
-    put_word(s, off(at, 508), n);
-    put_word(s, off(at, 510), n / 65536);
-}
-
-// The second begins with the first.
-pub fn same(s: &[u8], t: &[u8]) -> bool {
-    let mut i = 0;
-    while i < s.len() {
-        if t.len() <= i {
-            return false;
-        }
-        if s[i] != t[i] {
-            return false;
-        }
-        i += 1;
-    }
-    true
-}
-
-pub fn same_entries(s: &[u16], t: &[u16]) -> bool {
-    let mut i = 0;
-    while i < s.len() {
-        if t.len() <= i {
-            return false;
-        }
-        if s[i] != t[i] {
-            return false;
-        }
-        i += 1;
-    }
-    true
-}
-
-// Every entry is 7, as before a call.
-pub fn untouched(s: &[u16]) -> bool {
-    let mut i = 0;
-    while i < s.len() {
-        if s[i] != 7 {
-            return false;
-        }
-        i += 1;
-    }
-    true
+// Writes the checksum of a block.
+pub fn seal(s: &mut [u8], b: usize) {
+    let n = sum(s, b);
+    put_word(s, b, 508, 0, n);
+    put_word(s, b, 508, 1, n / 65536);
 }

@@ -1,113 +1,88 @@
 // What a line of the input says.
 use super::bytes::get;
-use super::bytes::off;
 use super::bytes::put;
-use super::bytes::put_entry;
-use super::model::Request;
+use super::bytes::put_word;
+use super::layout::MATES;
+use super::layout::Request;
+use super::layout::STRAND;
 
-// A digit's value, 65535 for a letter, and 0 for a blank.
+// A digit's value: 10 and more for letters from `a` on, 65535 for `z`, and 0 for a blank.
 fn digit(b: usize) -> usize {
+    if b == 122 {
+        return 65535;
+    }
+    if 97 <= b {
+        return b - 87;
+    }
     if b < 48 {
         return 0;
-    }
-    if 57 < b {
-        return 65535;
     }
     b - 48
 }
 
-// The number of so many digits from column i.
-fn digits(line: &[u8], i: usize, n: usize) -> usize {
+// The number of n digits from column i.
+pub fn number(line: &[u8], i: usize, n: usize) -> usize {
     let mut v: usize = 0;
     let mut k = 0;
     while k < n {
-        v = v % 10000000 * 10 + digit(get(line, off(i, k))) % 10;
+        v = v % 10000000 * 10 + digit(get(line, 0, i % 128 + k % 128)) % 10;
         k += 1;
     }
     v
 }
 
-pub fn number(line: &[u8], i: usize) -> usize {
-    digits(line, i, 7)
-}
-
-// How many of the ten columns from i on come before the first blank.
-fn filled(line: &[u8], i: usize) -> usize {
-    let mut k = 0;
-    while k < 10 {
-        if get(line, off(i, k)) == 32 {
-            return k;
-        }
-        k += 1;
-    }
-    10
-}
-
-// A long strand has `-` (no bonds) or `=` (each base bonded with the one as far from the other end), and its length.
-fn long(line: &[u8]) -> bool {
-    if get(line, 69) == 45 {
-        return true;
-    }
-    get(line, 69) == 61
-}
-
-// How many bases, or mates, by the column where they are written.
-fn size(line: &[u8], i: usize) -> usize {
-    if long(line) {
-        return digits(line, 70, 3);
-    }
-    filled(line, i)
-}
-
 fn mate(line: &[u8], i: usize) -> usize {
-    if !long(line) {
-        return digit(get(line, off(69, i)));
+    let b = get(line, 0, 55);
+    if b == 45 {
+        return i;
     }
-    let n = digits(line, 70, 3);
-    if get(line, 69) == 61 {
-        if i < n {
-            return n - 1 - i;
-        }
+    let n = number(line, 72, 3);
+    if b != 61 {
+        return digit(get(line, 0, i % 128 + 55));
+    }
+    if i < n {
+        return n - 1 - i;
     }
     i
 }
 
 // The base at i: those written are repeated.
 fn base(line: &[u8], i: usize) -> usize {
-    let k = filled(line, 58);
+    let k = number(line, 69, 2);
     if k == 0 {
         return 0;
     }
-    get(line, off(58, i % k))
+    get(line, 0, i % k % 128 + 41)
 }
 
-pub fn strand(line: &[u8], bases: &mut [u8], mates: &mut [u16]) {
+// Puts the strand of a line into the buffer.
+pub fn strand(line: &[u8], s: &mut [u8]) {
     let mut i = 0;
     while i < 161 {
-        put(bases, i, base(line, i));
-        put_entry(mates, i, mate(line, i));
+        put(s, STRAND, i, base(line, i));
+        put_word(s, STRAND, MATES, i, mate(line, i));
         i += 1;
     }
 }
 
-// A number and i more; 9999999 is the largest of all.
-fn shifted(d: usize, i: usize) -> usize {
+// The number of a call; 9999999 is the largest of all.
+fn subject(line: &[u8]) -> usize {
+    let d = number(line, 2, 7);
     if d == 9999999 {
         return 18446744073709551615;
     }
-    off(d, i)
+    d
 }
 
-// The call of a line, in its turn i.
-pub fn call(line: &[u8], i: usize) -> Request {
-    let kind = (get(line, 0) % 256) as u8;
-    let d = shifted(number(line, 2), i);
-    let catalog = number(line, 10);
-    let cache = number(line, 18);
-    let work = number(line, 26);
-    let hits = number(line, 34);
-    let bases = size(line, 58);
-    let mates = size(line, 69);
+// The call of a line.
+pub fn call(line: &[u8], kind: u8) -> Request {
+    let d = subject(line);
+    let catalog = number(line, 10, 6);
+    let cache = number(line, 17, 5);
+    let work = number(line, 23, 5);
+    let hits = number(line, 29, 3);
+    let bases = number(line, 72, 3);
+    let mates = number(line, 76, 3);
     Request {
         kind,
         d,

@@ -1,19 +1,29 @@
-// Embeddings by trying all places. The molecule is a block: its length is byte 1, its bases start at 28 and its mates at 188.
-use super::bytes::entry;
+// Embeddings by trying all places, from the last position of the motif to the first. The motif is a cache entry e: its length is byte 1, its
+// bases start at 20 and its mates at 140. The molecule is a catalog block b: its bases start at 28 and its mates at 188.
 use super::bytes::get;
-use super::bytes::off;
-use super::bytes::put_entry;
+use super::bytes::put_word;
 use super::bytes::word;
+use super::layout::PLACES;
 
-// Position x may go to place y: the bases are equal, and x is an arc with an earlier position exactly when y is one with that one's place.
-fn fits(p: &[u8], pm: &[u16], q: &[u8], places: &[u16], x: usize, y: usize) -> bool {
-    if get(p, x) != get(q, off(28, y)) {
+fn equal(s: &[u8], e: usize, b: usize, x: usize, y: usize) -> bool {
+    get(s, e, x % 256 + 20) == get(s, b, y % 256 + 28)
+}
+
+// Position z is an arc with x exactly when its place is the mate of that of x.
+fn agree(s: &[u8], e: usize, z: usize, x: usize, mate: usize) -> bool {
+    (word(s, e, 140, z) == x) == (word(s, PLACES, 0, z) == mate)
+}
+
+// Position x may go to place y: the bases are equal, and x is an arc with a later position exactly when y is one with that one's place.
+fn fits(s: &[u8], e: usize, b: usize, x: usize, y: usize) -> bool {
+    if !equal(s, e, b, x, y) {
         return false;
     }
-    let mate = word(q, off(188, off(y, y)));
-    let mut z = 0;
-    while z < x {
-        if (entry(pm, z) == x) != (entry(places, z) == mate) {
+    let n = get(s, e, 1);
+    let mate = word(s, b, 188, y);
+    let mut z = x % 256 + 1;
+    while z < n {
+        if !agree(s, e, z, x, mate) {
             return false;
         }
         z += 1;
@@ -21,30 +31,27 @@ fn fits(p: &[u8], pm: &[u16], q: &[u8], places: &[u16], x: usize, y: usize) -> b
     true
 }
 
-// The positions from x on have places from y on.
-fn place(p: &[u8], pm: &[u16], q: &[u8], places: &mut [u16], x: usize, y: usize) -> bool {
-    if p.len() <= x {
+// The first x positions have places below y.
+fn place(s: &mut [u8], e: usize, b: usize, x: usize, y: usize) -> bool {
+    if x == 0 {
         return true;
     }
-    let n = get(q, 1);
-    if n <= y {
+    if y < x {
         return false;
     }
-    if n - y < p.len() - x {
-        return false;
+    let last = x - 1;
+    let top = y - 1;
+    if !fits(s, e, b, last, top) {
+        return place(s, e, b, x, top);
     }
-    if !fits(p, pm, q, places, x, y) {
-        return place(p, pm, q, places, x, y + 1);
-    }
-    put_entry(places, x, y);
-    if place(p, pm, q, places, x + 1, y + 1) {
+    put_word(s, PLACES, 0, last, top);
+    if place(s, e, b, last, top) {
         return true;
     }
-    place(p, pm, q, places, x, y + 1)
+    place(s, e, b, x, top)
 }
 
-// The motif embeds in the molecule of the block.
-pub fn embeds(p: &[u8], pm: &[u16], q: &[u8]) -> bool {
-    let mut places = [0u16; 160];
-    place(p, pm, q, &mut places, 0, 0)
+// The motif embeds in the molecule.
+pub fn embeds(s: &mut [u8], e: usize, b: usize) -> bool {
+    place(s, e, b, get(s, e, 1), get(s, b, 1))
 }

@@ -1,32 +1,25 @@
-// A plain model of the three calls, over bytes of its own: the catalog that should be, from 0; the cache, from CACHE; a mark for each
-// catalog block that was spoiled, from MARKS, and one for each cache block that was altered, from ALTERED. It never asks whether a block is
-// sound: the marks tell.
-use super::bytes;
+// A plain model of the three calls, over its own blocks of the buffer. It never asks whether a block is sound: the marks tell.
 use super::bytes::bit;
+use super::bytes::copy;
+use super::bytes::fill;
 use super::bytes::get;
-use super::bytes::off;
 use super::bytes::put;
+use super::bytes::put_bit;
+use super::bytes::put_word;
+use super::bytes::same;
+use super::bytes::seal;
+use super::layout::CACHE;
+use super::layout::ENTRY;
+use super::layout::HITS;
+use super::layout::MARKS;
+use super::layout::MATES;
+use super::layout::MODEL;
+use super::layout::MODEL_CACHE;
+use super::layout::Request;
+use super::layout::STRAND;
 use super::matching;
 use super::strands;
 use super::strands::code;
-
-pub const CACHE: usize = 262656;
-
-pub const MARKS: usize = 295936;
-
-pub const ALTERED: usize = 296449;
-
-// A call: its letter (A, R or Q) and number, and how many bytes and entries the slices have that it is lent.
-pub struct Request {
-    pub kind: u8,
-    pub d: usize,
-    pub catalog: usize,
-    pub cache: usize,
-    pub work: usize,
-    pub hits: usize,
-    pub bases: usize,
-    pub mates: usize,
-}
 
 // ---- which calls are refused
 
@@ -42,10 +35,10 @@ fn odd(n: usize, most: usize) -> bool {
 }
 
 // The lowest of the first n catalog blocks that is marked, or n.
-fn spoiled(m: &[u8], n: usize) -> usize {
+fn spoiled(s: &[u8], n: usize) -> usize {
     let mut i = 0;
     while i < n {
-        if get(m, off(MARKS, i)) != 0 {
+        if get(s, MARKS, i) != 0 {
             return i;
         }
         i += 1;
@@ -54,7 +47,7 @@ fn spoiled(m: &[u8], n: usize) -> usize {
 }
 
 // Rows 10 and 11.
-fn buffers(m: &[u8], catalog: usize, cache: usize) -> usize {
+fn buffers(s: &[u8], catalog: usize, cache: usize) -> usize {
     if odd(catalog, 262144) {
         return code(10, 2, 0);
     }
@@ -62,119 +55,97 @@ fn buffers(m: &[u8], catalog: usize, cache: usize) -> usize {
         return code(10, 2, 0);
     }
     let n = catalog / 512;
-    let k = spoiled(m, n);
+    let k = spoiled(s, n);
     if k < n {
         return code(11, 2, k);
     }
     0
 }
 
-fn held(m: &[u8], d: usize) -> bool {
-    get(m, d % 513 * 512) != 0
+fn held(s: &[u8], d: usize) -> bool {
+    get(s, MODEL + d % 513, 0) != 0
 }
 
 // Rows 12 and 14, or 12, 13 and 1 to 7.
-fn updates(m: &[u8], c: Request, bases: &[u8], mates: &[u16]) -> usize {
+fn updates(s: &[u8], c: Request) -> usize {
     if c.catalog / 512 <= c.d {
         return code(12, 2, 0);
     }
-    if c.kind == b'R' {
-        if held(m, c.d) {
-            return 0;
+    let there = held(s, c.d);
+    if c.kind == b'A' {
+        if there {
+            return code(13, 2, 0);
         }
-        return code(14, 2, 0);
+        return strands::answer(s, c.bases, c.mates, 1, 160);
     }
-    if held(m, c.d) {
-        return code(13, 2, 0);
+    if there {
+        return 0;
     }
-    strands::answer(bases, mates, 1, 160)
+    code(14, 2, 0)
 }
 
 // Rows 1 to 7, 9 and 8.
-fn queries(c: Request, bases: &[u8], mates: &[u16]) -> usize {
-    let v = strands::answer(bases, mates, 0, 120);
+fn queries(s: &[u8], c: Request) -> usize {
+    let v = strands::answer(s, c.bases, c.mates, 0, 120);
     if v != 0 {
         return v;
     }
     if c.hits < c.catalog / 512 {
         return code(9, 2, 0);
     }
-    if c.work < (bases.len() % 1000 + 1) * 64 + 1280 {
+    if c.work < (c.bases % 1000 + 1) * 64 + 1280 {
         return code(8, 2, 0);
     }
     0
 }
 
-fn verdict(m: &[u8], c: Request, bases: &[u8], mates: &[u16]) -> usize {
-    let v = buffers(m, c.catalog, c.cache);
+fn verdict(s: &[u8], c: Request) -> usize {
+    let v = buffers(s, c.catalog, c.cache);
     if v != 0 {
         return v;
     }
     if c.kind == b'Q' {
-        return queries(c, bases, mates);
+        return queries(s, c);
     }
-    updates(m, c, bases, mates)
+    updates(s, c)
 }
 
 // ---- what accepted calls write
 
-// A strand's bases and mates from two places on.
-fn write_strand(m: &mut [u8], i: usize, j: usize, bases: &[u8], mates: &[u16]) {
-    let mut k = 0;
-    while k < bases.len() {
-        put(m, off(i, k), get(bases, k));
-        bytes::put_word(m, off(j, off(k, k)), bytes::entry(mates, k));
-        k += 1;
-    }
+// A block of a kind with the call's strand of n bases: the bases from i on, the mates from j on.
+fn write(s: &mut [u8], b: usize, kind: usize, n: usize, i: usize, j: usize) {
+    fill(s, b, 512, 0);
+    put(s, b, 0, kind);
+    put(s, b, 1, n);
+    copy(s, b, i, STRAND, 0, n);
+    copy(s, b, j, STRAND, MATES, n % 256 * 2);
 }
 
-// Kind and length of a block whose first bytes are cleared up to `end`.
-fn write_head(m: &mut [u8], at: usize, end: usize, kind: usize, n: usize) {
-    bytes::clear(m, at, off(at, end));
-    put(m, at, kind);
-    put(m, off(at, 1), n);
+// The entry of cache block b loses bit d in both maps; an empty block stays as it is.
+fn forget(s: &mut [u8], b: usize, d: usize) {
+    put_bit(s, b, 380, d, 0);
+    put_bit(s, b, 444, d, 0);
+    seal(s, b);
 }
 
-fn add(m: &mut [u8], d: usize, bases: &[u8], mates: &[u16]) {
-    let at = d % 512 * 512;
-    write_head(m, at, 512, 1, bases.len());
-    write_strand(m, at + 28, at + 188, bases, mates);
-    bytes::seal(m, at);
+// Cache block k is emptied where it is marked as altered.
+fn renew(s: &mut [u8], k: usize) {
+    fill(s, MODEL + k % 1024, get(s, MARKS, k) * 512, 0);
+    put(s, MARKS, k, 0);
 }
 
-// The entry at a place, whose maps are written already.
-fn keep(m: &mut [u8], at: usize, bases: &[u8], mates: &[u16]) {
-    write_head(m, at, 380, 2, bases.len());
-    write_strand(m, off(at, 20), off(at, 140), bases, mates);
-    bytes::seal(m, at);
-}
-
-// Cache block k loses bit d in both maps.
-fn forget(m: &mut [u8], at: usize, d: usize) {
-    if get(m, at) == 0 {
-        return;
-    }
-    bytes::put_bit(m, off(at, 380), d, 0);
-    bytes::put_bit(m, off(at, 444), d, 0);
-    bytes::seal(m, at);
-}
-
-// An altered cache block is emptied; a call that removes d takes it out of the entry.
-fn tidy(m: &mut [u8], k: usize, kind: u8, d: usize) {
-    let at = off(CACHE, k % 64 * 512);
-    if get(m, off(ALTERED, k)) != 0 {
-        put(m, off(ALTERED, k), 0);
-        return bytes::clear(m, at, off(at, 512));
-    }
+// A call that removes d also takes it out of the entry.
+fn tidy(s: &mut [u8], k: usize, kind: u8, d: usize) {
+    renew(s, k);
     if kind == b'R' {
-        forget(m, at, d);
+        forget(s, MODEL + k % 1024, d);
     }
 }
 
-fn tidy_all(m: &mut [u8], n: usize, kind: u8, d: usize) {
+fn tidy_all(s: &mut [u8], n: usize, kind: u8, d: usize) {
     let mut k = 0;
     while k < n {
-        tidy(m, k, kind, d);
+        tidy(s, CACHE + k % 65, kind, d);
         k += 1;
     }
 }
@@ -182,11 +153,11 @@ fn tidy_all(m: &mut [u8], n: usize, kind: u8, d: usize) {
 // ---- queries
 
 // The motif's slot among n.
-fn slot(bases: &[u8], mates: &[u16], n: usize) -> usize {
+fn slot(s: &[u8], bases: usize, n: usize) -> usize {
     let mut key: usize = 0;
     let mut i = 0;
-    while i < bases.len() {
-        key = key % 16777216 + get(bases, i) + bytes::entry(mates, i) % 65536;
+    while i < bases {
+        key = key % 16777216 + get(s, STRAND, i) + strands::mate(s, i);
         i += 1;
     }
     if n == 0 {
@@ -195,126 +166,99 @@ fn slot(bases: &[u8], mates: &[u16], n: usize) -> usize {
     key % n
 }
 
-// The entry at a place has this very motif.
-fn keeps(m: &[u8], at: usize, bases: &[u8], mates: &[u16]) -> bool {
-    if get(m, off(at, 1)) != bases.len() {
-        return false;
-    }
-    let mut i = 0;
-    while i < bases.len() {
-        if get(m, off(at, off(20, i))) != get(bases, i) {
-            return false;
-        }
-        if bytes::word(m, off(at, off(140, off(i, i)))) != bytes::entry(mates, i) {
-            return false;
-        }
-        i += 1;
-    }
-    true
-}
-
-// Of one number, each 0 or 1: it is held, had to be searched, is a hit.
-struct Seen {
-    held: usize,
-    searched: usize,
-    hit: usize,
-}
-
-fn result(held: usize, searched: usize, hit: usize) -> Seen {
-    Seen {
-        held,
-        searched,
-        hit,
+// The entry of the motif is in block e, with nothing searched where it has not been there.
+fn enter(s: &mut [u8], e: usize, n: usize) {
+    write(s, ENTRY, 2, n, 20, 140);
+    if !same(s, e, ENTRY, 380) {
+        copy(s, e, 0, ENTRY, 0, 512);
     }
 }
 
-fn search(m: &[u8], d: usize, bases: &[u8], mates: &[u16]) -> Seen {
-    let at = d % 512 * 512;
-    let end = m.len();
-    if end < at {
-        return result(0, 0, 0);
-    }
-    if matching::embeds(bases, mates, &m[at..end]) {
-        return result(1, 1, 1);
-    }
-    result(1, 1, 0)
-}
-
-// Number d among n; `known` says that the entry at the place has the motif.
-fn look(m: &[u8], at: usize, known: bool, d: usize, n: usize, bases: &[u8], mates: &[u16]) -> Seen {
+// Of number d among n: 0 not held, 1 not known by the entry, 2 no hit, 3 a hit.
+fn known(s: &[u8], e: usize, d: usize, n: usize) -> usize {
     if n <= d {
-        return result(0, 0, 0);
+        return 0;
     }
-    if !held(m, d) {
-        return result(0, 0, 0);
+    if !held(s, d) {
+        return 0;
     }
-    if known {
-        if bit(m, off(at, 380), d) == 1 {
-            return result(1, 0, bit(m, off(at, 444), d));
-        }
+    if bit(s, e, 380, d) == 0 {
+        return 1;
     }
-    search(m, d, bases, mates)
+    2 + bit(s, e, 444, d) % 2
 }
 
-// The bits of number d.
-fn note(m: &mut [u8], at: usize, d: usize, s: Seen) {
-    bytes::put_bit(m, off(at, 380), d, s.held);
-    bytes::put_bit(m, off(at, 444), d, s.hit);
+// As `known`, and where that is 1: 4 no hit, 5 a hit.
+fn look(s: &mut [u8], e: usize, d: usize, n: usize) -> usize {
+    let k = known(s, e, d, n);
+    if k != 1 {
+        return k;
+    }
+    if matching::embeds(s, e, MODEL + d % 512) {
+        return 5;
+    }
+    4
 }
 
-fn list(hits: &mut [u16], count: usize, d: usize, hit: usize) {
-    if hit == 1 {
-        bytes::put_entry(hits, count, d);
+// The bits of number d, and its place in the hits.
+fn note(s: &mut [u8], e: usize, d: usize, seen: usize, count: usize) {
+    put_bit(s, e, 380, d, seen / 2);
+    put_bit(s, e, 444, d, seen % 2);
+    if seen % 2 == 1 {
+        put_word(s, HITS, 0, count, d);
     }
 }
 
-// The answer's number, the maps of the entry at the place, and the hits.
-fn answer(
-    m: &mut [u8],
-    at: usize,
-    known: bool,
-    n: usize,
-    bases: &[u8],
-    mates: &[u16],
-    hits: &mut [u16],
-) -> usize {
-    let mut count = 0;
-    let mut searched = 0;
+// The answer's number with one more hit, and one more searched.
+fn longer(r: usize, seen: usize) -> usize {
+    r % 10000000 + seen % 2 * 1000 + seen / 4 % 2
+}
+
+// The answer's number, the maps of the entry, and the hits.
+fn answer(s: &mut [u8], e: usize, n: usize) -> usize {
+    let mut r = 9000000;
     let mut d = 0;
     while d < 512 {
-        let s = look(m, at, known, d, n, bases, mates);
-        note(m, at, d, s);
-        list(hits, count, d, s.hit);
-        count = count % 1000 + s.hit % 2;
-        searched = searched % 1000 + s.searched % 2;
+        let seen = look(s, e, d, n);
+        note(s, e, d, seen, r / 1000 % 1000);
+        r = longer(r, seen);
         d += 1;
     }
-    9000000 + count % 1000 * 1000 + searched % 1000
-}
-
-fn query(m: &mut [u8], c: Request, bases: &[u8], mates: &[u16], hits: &mut [u16]) -> usize {
-    let at = off(CACHE, slot(bases, mates, c.cache / 512) % 64 * 512);
-    let known = keeps(m, at, bases, mates);
-    let r = answer(m, at, known, c.catalog / 512, bases, mates, hits);
-    keep(m, at, bases, mates);
     r
 }
 
-// What the call should answer: 0, the number of a refusal, or for a query 9, the count and the searched number, three digits each.
-pub fn call(m: &mut [u8], c: Request, bases: &[u8], mates: &[u16], hits: &mut [u16]) -> usize {
-    let v = verdict(m, c, bases, mates);
+fn query(s: &mut [u8], c: Request) -> usize {
+    let e = MODEL_CACHE + slot(s, c.bases, c.cache / 512) % 64;
+    enter(s, e, c.bases);
+    let r = answer(s, e, c.catalog / 512);
+    seal(s, e);
+    r
+}
+
+fn update(s: &mut [u8], kind: u8, b: usize, n: usize) {
+    if kind == b'R' {
+        return fill(s, b, 512, 0);
+    }
+    write(s, b, 1, n, 28, 188);
+    seal(s, b);
+}
+
+fn accepted(s: &mut [u8], c: Request) -> usize {
+    tidy_all(s, c.cache / 512, c.kind, c.d);
+    if c.kind == b'Q' {
+        return query(s, c);
+    }
+    update(s, c.kind, MODEL + c.d % 512, c.bases);
+    0
+}
+
+// What the call should answer: 0, the number of a refusal, or for a query 9, the count and the searched number, three digits each. Every byte of
+// the hits is 7 where the call leaves them.
+pub fn call(s: &mut [u8], c: Request) -> usize {
+    fill(s, HITS, 1024, 7);
+    let v = verdict(s, c);
     if v != 0 {
         return v;
     }
-    tidy_all(m, c.cache / 512, c.kind, c.d);
-    if c.kind == b'Q' {
-        return query(m, c, bases, mates, hits);
-    }
-    if c.kind == b'A' {
-        add(m, c.d, bases, mates);
-        return 0;
-    }
-    let at = c.d % 512 * 512;
-    bytes::clear(m, at, at + 512);
-    0
+    accepted(s, c)
 }

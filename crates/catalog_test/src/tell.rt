@@ -1,76 +1,38 @@
-// The counts of a group: 0 accepted adds and removes, 1 to 14 refusals by row, 15 wrong answers, 16 bytes set, 17 accepted queries, 18 their
-// hits, 19 molecules that they searched.
+// The counts of a group are entries of two bytes, at the numbers of capital letters: A accepted adds and removes, B to O refusals by row, P wrong
+// answers, Q bytes set, R accepted queries, S their hits, T molecules that they searched.
+use super::bytes::fill;
+use super::bytes::get;
+use super::bytes::put_word;
+use super::bytes::word;
+use super::layout::COUNTS;
 use libc::STDOUT_FILENO;
 
-// The numbers of what is no call: a byte was set, all buffers were emptied.
-pub const SET: usize = 7000000;
+// The number of a byte that was set.
+pub const SET: usize = 160000;
 
-pub const EMPTIED: usize = 6000000;
+// The number of an answer that is not the model's, or left a byte that is not.
+pub const WRONG: usize = 150000;
 
-fn say(text: &[u8]) {
+pub fn say(text: &[u8]) {
     io::write_all(STDOUT_FILENO, text);
 }
 
-fn number(n: usize) {
-    say(b" ");
-    io::print_decimal(STDOUT_FILENO, n as u64);
+fn tally(s: &mut [u8], k: usize, n: usize) {
+    put_word(s, COUNTS, 0, k, word(s, COUNTS, 0, k) + n % 1000);
 }
 
-fn add(counts: &mut [usize], k: usize, n: usize) {
-    if k < counts.len() {
-        counts[k] = counts[k] % 1000000000 + n % 1000;
-    }
+fn count_query(s: &mut [u8], r: usize) {
+    tally(s, 82, 1);
+    tally(s, 83, r / 1000);
+    tally(s, 84, r);
 }
 
-// Which count an answer belongs to.
-fn class(r: usize) -> usize {
-    if r < 150000 {
-        return r / 10000;
+// Counts an answer.
+pub fn count(s: &mut [u8], r: usize) {
+    if 9000000 <= r {
+        return count_query(s, r);
     }
-    if r < 7000000 {
-        return 20;
-    }
-    if r < 8000000 {
-        return 16;
-    }
-    if r < 9000000 {
-        return 15;
-    }
-    17
-}
-
-// Counts an answer, and writes the line of one that is wrong.
-pub fn count(counts: &mut [usize], line: &[u8], r: usize) {
-    let k = class(r);
-    add(counts, k, 1);
-    if k == 15 {
-        say(line);
-    }
-    if k == 17 {
-        add(counts, 18, r / 1000);
-        add(counts, 19, r);
-    }
-}
-
-fn at(counts: &[usize], k: usize) -> usize {
-    if k < counts.len() {
-        return counts[k];
-    }
-    0
-}
-
-fn part(counts: &[usize], name: &[u8], k: usize) {
-    say(name);
-    number(at(counts, k));
-}
-
-// The refusals by row.
-fn rows(counts: &[usize]) {
-    let mut k = 1;
-    while k < 15 {
-        number(at(counts, k));
-        k += 1;
-    }
+    tally(s, r / 10000 % 32 + 65, 1);
 }
 
 // The name of a group, to the colon.
@@ -84,35 +46,41 @@ fn name(line: &[u8]) {
     }
 }
 
-fn reset(counts: &mut [usize], k: usize) {
-    if k < counts.len() {
-        counts[k] = 0;
+// Writes byte i of a text.
+fn write_one(text: &[u8], i: usize) {
+    if i < text.len() {
+        let end = i + 1;
+        say(&text[i..end]);
     }
 }
 
-fn clear(counts: &mut [usize]) {
-    let mut k = 0;
-    while k < 20 {
-        reset(counts, k);
-        k += 1;
+// Writes byte i of a text, or for a capital letter its count.
+fn write_count(s: &[u8], text: &[u8], i: usize) {
+    let b = get(text, 0, i);
+    if b / 32 != 2 {
+        return write_one(text, i);
+    }
+    io::print_decimal(STDOUT_FILENO, word(s, COUNTS, 0, b) as u64);
+}
+
+fn write(s: &[u8], text: &[u8]) {
+    let mut i = 0;
+    while i < text.len() {
+        write_count(s, text, i);
+        i += 1;
     }
 }
 
-fn write(line: &[u8], counts: &[usize]) {
-    name(line);
-    part(counts, b": wrong", 15);
-    part(counts, b"; adds and removes", 0);
-    part(counts, b", queries", 17);
-    part(counts, b" with hits", 18);
-    part(counts, b" and searches", 19);
-    part(counts, b"; bytes set", 16);
-    say(b"; refused by row");
-    rows(counts);
-    say(b"\n");
+fn write_all(s: &[u8]) {
+    write(
+        s,
+        b": wrong P; adds and removes A, queries R with hits S and searches T; bytes set Q; refused by row B C D E F G H I J K L M N O\n",
+    );
 }
 
 // Writes the counts of a group, and begins anew.
-pub fn report(line: &[u8], counts: &mut [usize]) {
-    write(line, counts);
-    clear(counts);
+pub fn report(line: &[u8], s: &mut [u8]) {
+    name(line);
+    write_all(s);
+    fill(s, COUNTS, 512, 0);
 }

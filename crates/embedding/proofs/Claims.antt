@@ -8,16 +8,17 @@ use native.Mathlib.Decide.{decLt}
 use native.Mathlib.Omega.{arith}
 use lib.ListN.{length}
 use Rattle.strand.specs.Vocabulary.{nth}
+use Rattle.strand.specs.Strands.{Inside}
 use Rattle.embedding.specs.Embedding.{ClosedPrefix}
 use Rattle.embedding.specs.Longest.{closedTo, longest}
 use Rattle.embedding.specs.Row.{Closed}
-use Rattle.embedding.specs.Statements.{InRange, IsLongest, WholeEmbeds, VerifiedSays, Claims}
+use Rattle.embedding.specs.Statements.{IsLongest, WholeEmbeds, VerifiedSays, Claims}
 use Rattle.embedding.proofs.Answers.{not-true-is}
 use Rattle.embedding.proofs.VerifyLaws.{verify-yes}
 use Rattle.embedding.proofs.Computed.{closed-iff, longest-best, verified-iff}
 
 -- A closed prefix in 01's words and by its mates.
-pub closed-mates : {mate : ℕ → ℕ} {m : ℕ} → InRange mate m → (k : ℕ) → k ≤ m → ClosedPrefix mate m k → Closed mate 0 k
+pub closed-mates : {mate : ℕ → ℕ} {m : ℕ} → Inside mate m → (k : ℕ) → k ≤ m → ClosedPrefix mate m k → Closed mate 0 k
 closed-mates {mate} H k h C x p q = elim (decLt (mate x) k) [
   | yes t ↦ t
   | no t ↦ absurd (C x (mate x) q (omega arith) (H x (omega arith)) refl)
@@ -26,14 +27,14 @@ closed-mates {mate} H k h C x p q = elim (decLt (mate x) k) [
 pub mates-closed : (mate : ℕ → ℕ) (m k : ℕ) → Closed mate 0 k → ClosedPrefix mate m k
 mates-closed mate m k C x y p q r e = omega (arith, C x (omega arith) p)
 
-closed-says : (mate : ℕ → ℕ) (m k : ℕ) → InRange mate m → k ≤ m → (closedTo mate k ≡ true) ↔ ClosedPrefix mate m k
+closed-says : (mate : ℕ → ℕ) (m k : ℕ) → Inside mate m → k ≤ m → (closedTo mate k ≡ true) ↔ ClosedPrefix mate m k
 closed-says mate m k H h = (
   (λ t. mates-closed mate m k (closed-iff mate k .0 t)),
   (λ C. closed-iff mate k .1 (closed-mates H k h C)),
 )
 
 module _ (rule : ℕ → ℕ → Bool) (pb pm qb qm : List ℕ) where
-  pub longest-says : InRange (nth pm) (length pb) → IsLongest rule pb pm qb qm (longest rule pb pm qb qm)
+  pub longest-says : Inside (nth pm) (length pb) → IsLongest rule pb pm qb qm (longest rule pb pm qb qm)
   longest-says H =
       let B = longest-best rule pb pm qb qm in
       record {
@@ -44,12 +45,12 @@ module _ (rule : ℕ → ℕ → Bool) (pb pm qb qm : List ℕ) where
       }
 
   -- No other number is the longest.
-  pub longest-only : InRange (nth pm) (length pb) → (L : ℕ) → IsLongest rule pb pm qb qm L → L ≡ longest rule pb pm qb qm
+  pub longest-only : Inside (nth pm) (length pb) → (L : ℕ) → IsLongest rule pb pm qb qm L → L ≡ longest rule pb pm qb qm
   longest-only H L I =
       let J = longest-says H in
       omega (arith, I .largest _ (J .upto) (J .closed) (J .embeds), J .largest L (I .upto) (I .closed) (I .embeds))
 
-  pub whole-iff : InRange (nth pm) (length pb) → WholeEmbeds rule pb pm qb qm
+  pub whole-iff : Inside (nth pm) (length pb) → WholeEmbeds rule pb pm qb qm
   whole-iff H =
       let B = longest-best rule pb pm qb qm in (
         (λ e. rw e at (B .reach .embeds)),

@@ -1,13 +1,12 @@
--- Embeddings compose, by letter rules that compose; a part of an embedding is one, and so is an embedding seen in a larger stretch.
--- Assumes nothing.
-use Prim.Native.Nat.{ℕ, _≤_}
+-- Embeddings compose, by letter rules that compose. Nothing here uses it: it is the law by which a motif that embeds in another motif
+-- embeds in every molecule that the other one embeds in. Assumes nothing.
+use Prim.Native.Nat.{ℕ}
 use mathlib.Core.Path.{_≡_}
 use mathlib.Core.Bool.{Bool, true}
 use mathlib.Core.List.{List}
 use native.Mathlib.Omega.{arith}
 use Rattle.strand.specs.Vocabulary.{nth}
 use Rattle.embedding.specs.Embedding.{fits, Emb, Embeds}
-use Rattle.embedding.proofs.Splitting.{restrict}
 
 -- P[a..b) in Q[s..e) by f, Q[s..e) in R[u..v) by g: P[a..b) in R[u..v) by g after f.
 pub composed : {fit₁ fit₂ fit₃ : ℕ → ℕ → Bool} {pm qm rm : ℕ → ℕ} {a b s e u v : ℕ} {f g : ℕ → ℕ}
@@ -31,8 +30,3 @@ pub embeds-composed : (rule₁ rule₂ rule₃ : ℕ → ℕ → Bool) (pb qb rb
     → Embeds (fits rule₁ pb qb) pm qm a b s e → Embeds (fits rule₂ qb rb) qm rm s e u v → Embeds (fits rule₃ pb rb) pm rm a b u v
 embeds-composed rule₁ rule₂ rule₃ pb qb rb rule (f, F) (g, G) =
     ((λ x. g (f x)), composed (λ x y z. rule (nth pb x) (nth qb y) (nth rb z)) F G)
-
--- A part P[a′..b′) of P[a..b) embeds, in any stretch around Q[s..e).
-pub embeds-part : {fit : ℕ → ℕ → Bool} {pm qm : ℕ → ℕ} {a b s e : ℕ} (a′ b′ s′ e′ : ℕ) → a ≤ a′ → b′ ≤ b → s′ ≤ s → e ≤ e′
-    → Embeds fit pm qm a b s e → Embeds fit pm qm a′ b′ s′ e′
-embeds-part a′ b′ s′ e′ ha hb hs he (f, E) = (f, restrict a′ b′ s′ e′ ha hb hs he E)

@@ -190,7 +190,8 @@ module _ {fit : ℕ → ℕ → Bool} {pm qm : ℕ → ℕ} where
             right = (f, within (c .place) b i e (c .from) (omega arith) (c .after) (λ x p q. E .high x (omega arith) q) E);
           }
 
-  -- The Splitting Lemma: a closed stretch embeds exactly when it is cut into two that embed on the two sides of the split.
+  -- The Splitting Lemma, for readers: a closed stretch embeds exactly when it is cut into two that embed on the two sides of the split.
+  -- The laws of rows use its two halves, `halves` and `glued`.
   pub splitting : {a b s e : ℕ} (i : ℕ) → s ≤ i → i ≤ e → a ≤ b → Closed pm a b → Split qm s i e
       → Embeds fit pm qm a b s e ↔ Halves fit pm qm a b s i e
   splitting i hs he h C S = (

@@ -1,5 +1,5 @@
 -- The refusals and the answers of verify, case by case. Assumes nothing.
-use Prim.Native.Nat.{ℕ, _<_}
+use Prim.Native.Nat.{ℕ}
 use mathlib.Core.Path.{_≡_, refl, sym, ap, _∙_}
 use mathlib.Core.Bool.{Bool, true, false, not, true≢false}
 use mathlib.Core.List.{List}
@@ -11,7 +11,7 @@ use Rattle.strand.specs.declared.Refusal.{Refusal}
 use Rattle.strand.specs.declared.Verdict.{Verdict}
 use Rattle.strand.specs.declared.Verdict.the-variants as verdict
 use Rattle.strand.specs.Vocabulary.{nth, choose}
-use Rattle.strand.specs.Strands.{lettersMatch}
+use Rattle.strand.specs.Strands.{lettersMatch, Inside}
 use Rattle.strand.specs.Refusals.{refusal, first, pairVerdict}
 use Rattle.strand.proofs.ListLaws.{not-not}
 use Rattle.strand.proofs.VerdictLaws.{first-pass, row-yes, row-no, row-pass, pair-proper}
@@ -47,7 +47,7 @@ module _ (p pm q qm v : List ℕ) where
 
   -- What the places have to be before they are tested.
   pub accepted-facts : verifyVerdict p pm q qm v ≡ verdict.Accepted
-      → (length v ≡ length p) × (((length pm ≡ length p) × (length qm ≡ length q)) × ((i : ℕ) → i < length pm → nth pm i < length pm))
+      → (length v ≡ length p) × (((length pm ≡ length p) × (length qm ≡ length q)) × Inside (nth pm) (length pm))
   accepted-facts e =
       let P = pair-proper p pm q qm (accepted-pair e) in
       let s : length pm ≡ length p = P .motif .same in

@@ -24,10 +24,12 @@ exampleOk r =
     eqb (longest lettersMatch (r .pb) (r .pm) (r .qb) (r .qm)) (r .best)
     && (eqb (length (r .places)) 0 || verified lettersMatch (r .pb) (r .pm) (r .qb) (r .qm) (r .places))
 
+-- Every row.
 unfoldable pub examplesOk : List Example → Bool
 examplesOk [] = true
 examplesOk (r ∷ rs) = exampleOk r && examplesOk rs
 
+-- The letters, a row, and the rows of 01's table of settled examples.
 abbrev A : ℕ
 A = 65
 

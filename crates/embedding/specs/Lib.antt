@@ -1,4 +1,4 @@
--- The definitions in reading order. Row and Places are for the proofs and the matcher only.
+-- The definitions in reading order. Row is for the proofs and for the contracts of rows and trace, Places for the contracts inside this crate.
 pub mod Embedding
 pub mod Longest
 pub mod Verify

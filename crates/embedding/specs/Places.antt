@@ -13,6 +13,7 @@ pub record Ordered (v : List ℕ) (n : ℕ) : Type 0 where
   pub below : (x : ℕ) → x < length v → nth v x < n
   pub rises : (x y : ℕ) → x < y → y < length v → nth v x < nth v y
 
+-- Each base of the motif matches the base at its place.
 pub record Lettered (p q v : List ℕ) : Type 0 where
   pub match-at : (x : ℕ) → x < length v → lettersMatch (nth p x) (nth q (nth v x)) ≡ true
 
@@ -26,5 +27,6 @@ pub record Has (v : List ℕ) (u : ℕ) : Type 0 where
 pub record ArcKept (pm qm v : List ℕ) (x : ℕ) : Type 0 where
   pub with : (y : ℕ) → x < y → y < length v → (nth pm x ≡ y) ↔ (nth qm (nth v x) ≡ nth v y)
 
+-- The same of every position.
 pub record ArcsKept (pm qm v : List ℕ) : Type 0 where
   pub all : (x : ℕ) → x < length v → ArcKept pm qm v x

@@ -1,4 +1,4 @@
--- Only the proofs and the matcher need this file: reached ends, the largest of them, and rows of such ends. Assumes nothing.
+-- Only the proofs and the contracts of rows and trace need this file: reached ends, the largest of them, and rows of such ends. Assumes nothing.
 use Prim.Native.Nat.{ℕ, suc, _≤_, _<_, max}
 use mathlib.Core.Bool.{Bool}
 use lib.Dec.{ltb, leb}

@@ -7,19 +7,17 @@ use mathlib.Core.List.{List}
 use lib.ListN.{length}
 use Rattle.strand.specs.declared.Verdict.the-variants.{Accepted}
 use Rattle.strand.specs.Vocabulary.{nth}
+use Rattle.strand.specs.Strands.{Inside}
 use Rattle.strand.specs.Refusals.{pairVerdict}
 use Rattle.embedding.specs.Embedding.{fits, letters, Emb, Embeds, ClosedPrefix}
 use Rattle.embedding.specs.Longest.{closedTo, longest, verified}
 use Rattle.embedding.specs.Verify.{verifyAnswer}
 use Rattle.embedding.specs.declared.Verified.the-variants.{Yes}
 
--- The mates of the first m positions are below m: so it is with every accepted strand.
-abbrev pub InRange : (ℕ → ℕ) → ℕ → Type 0
-InRange mate m = (i : ℕ) → i < m → mate i < m
-
--- The test of a prefix says what 01 says: it is closed when no arc of P has one end in it and one outside.
+-- The test of a prefix says what 01 says: it is closed when no arc of P has one end in it and one outside. Here and below the mates are in
+-- range, as they are in every accepted strand.
 abbrev pub ClosedSays : Type 0
-ClosedSays = (mate : ℕ → ℕ) (m k : ℕ) → InRange mate m → k ≤ m → (closedTo mate k ≡ true) ↔ ClosedPrefix mate m k
+ClosedSays = (mate : ℕ → ℕ) (m k : ℕ) → Inside mate m → k ≤ m → (closedTo mate k ≡ true) ↔ ClosedPrefix mate m k
 
 -- The empty prefix and P itself are closed.
 pub record EndsClosed (mate : ℕ → ℕ) (m : ℕ) : Type 0 where
@@ -55,10 +53,10 @@ VerifySays p pm q qm v =
 pub record Claims : Type 0 where
   pub closed : ClosedSays
   pub ends : (mate : ℕ → ℕ) (m : ℕ) → EndsClosed mate m
-  pub longest-is : (rule : ℕ → ℕ → Bool) (pb pm qb qm : List ℕ) → InRange (nth pm) (length pb)
+  pub longest-is : (rule : ℕ → ℕ → Bool) (pb pm qb qm : List ℕ) → Inside (nth pm) (length pb)
       → IsLongest rule pb pm qb qm (longest rule pb pm qb qm)
-  pub longest-only : (rule : ℕ → ℕ → Bool) (pb pm qb qm : List ℕ) → InRange (nth pm) (length pb)
+  pub longest-only : (rule : ℕ → ℕ → Bool) (pb pm qb qm : List ℕ) → Inside (nth pm) (length pb)
       → (L : ℕ) → IsLongest rule pb pm qb qm L → L ≡ longest rule pb pm qb qm
-  pub whole : (rule : ℕ → ℕ → Bool) (pb pm qb qm : List ℕ) → InRange (nth pm) (length pb) → WholeEmbeds rule pb pm qb qm
+  pub whole : (rule : ℕ → ℕ → Bool) (pb pm qb qm : List ℕ) → Inside (nth pm) (length pb) → WholeEmbeds rule pb pm qb qm
   pub verified-says : (rule : ℕ → ℕ → Bool) (pb pm qb qm v : List ℕ) → VerifiedSays rule pb pm qb qm v
   pub verify-says : (p pm q qm v : List ℕ) → VerifySays p pm q qm v

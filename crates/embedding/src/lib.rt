@@ -6,6 +6,7 @@ use strand::Verdict;
 ghost use mathlib.Core.Path.{_≡_};
 ghost use Rattle.embedding.specs.Verify.{verifyVerdict, verifyAnswer};
 
+// The answer of verify.
 pub enum Verified {
     Yes,
     No,

@@ -1,9 +1,10 @@
 // Whether places are an embedding of the whole motif, in O(m log m): order and range, bases, arcs.
 ghost use mathlib.Core.Path.{_≡_};
 ghost use mathlib.Core.Bool.{true, false};
-ghost use Prim.Native.Nat.{ℕ, _+_, _<_};
+ghost use Prim.Native.Nat.{_+_, _<_};
 ghost use lib.ListN.{length};
 ghost use Rattle.strand.specs.Vocabulary.{nth, Tells};
+ghost use Rattle.strand.specs.Strands.{Inside};
 ghost use Rattle.embedding.specs.Embedding.{Emb, letters};
 ghost use Rattle.embedding.specs.Places.{Ordered, Lettered, Has, ArcKept, ArcsKept};
 
@@ -89,7 +90,7 @@ fn arc_kept(pm: &[u16], qm: &[u16], places: &[u16], i: usize) -> bool
 fn same_arcs(pm: &[u16], qm: &[u16], places: &[u16]) -> bool
     requires { ⌜ length (now places) ≡ length (now pm) ⌝ }
     requires { ⌜ Ordered (now places) (length (now qm)) ⌝ }
-    requires { ⌜ ((i : ℕ) → i < length (now pm) → nth (now pm) i < length (now pm)) ⌝ }
+    requires { ⌜ Inside (nth (now pm)) (length (now pm)) ⌝ }
     ensures { λ r. ⌜ Tells r (ArcsKept (now (pm .entry)) (now (qm .entry)) (now (places .entry))) ⌝ }
 {
     let mut i = 0;
@@ -103,10 +104,10 @@ fn same_arcs(pm: &[u16], qm: &[u16], places: &[u16]) -> bool
 }
 
 // Whether the places, one for each base, are an embedding. The call verify sees to what it asks.
-pub fn is_embedding(p: &[u8], pm: &[u16], q: &[u8], qm: &[u16], places: &[u16]) -> bool
+pub(crate) fn is_embedding(p: &[u8], pm: &[u16], q: &[u8], qm: &[u16], places: &[u16]) -> bool
     requires { ⌜ length (now places) ≡ length (now p) ⌝ }
     requires { ⌜ (length (now pm) ≡ length (now p)) × (length (now qm) ≡ length (now q)) ⌝ }
-    requires { ⌜ ((i : ℕ) → i < length (now pm) → nth (now pm) i < length (now pm)) ⌝ }
+    requires { ⌜ Inside (nth (now pm)) (length (now pm)) ⌝ }
     ensures { λ r. ⌜ Tells r (Emb (letters (now (p .entry)) (now (q .entry))) (nth (now (pm .entry))) (nth (now (qm .entry))) 0 (length (now (p .entry))) 0 (length (now (q .entry))) (nth (now (places .entry)))) ⌝ }
 {
     if !in_order(places, q.len()) {

@@ -6,9 +6,9 @@ use Rattle.strand.specs.Vocabulary.{choose, every, some, lowestFrom, lowest, la
 use Rattle.strand.specs.Strands.{lettersMatch, isLetter, notLetter, mateOutside, notMutual, crosses, crossedAt}
 use Rattle.strand.specs.Refusals.{first, row, rowAt, strandVerdict, checkVerdict, pairVerdict}
 use Rattle.strand.proofs.ListLaws.{and-true}
-use Rattle.embedding.specs.Longest.{longest, prefixOk, closedTo, placesOk}
+use Rattle.embedding.specs.Longest.{longest, prefixOk, closedTo, placesOk, verified}
 use Rattle.embedding.specs.Verify as verify
-use Rattle.embedding.specs.Examples.{Example, exampleOk, examplesOk, examples, settled}
+use Rattle.embedding.specs.Examples.{exampleOk, examples}
 use Rattle.matcher.specs.Answers as matcher
 use Rattle.block.proofs.Examples.{checksum-of-A}
 use Rattle.catalog.specs.Limits.{moleculeVerdict, motifVerdict, workVerdict}
@@ -16,10 +16,10 @@ use Rattle.catalog.specs.Answers.{refusedBy, resultBy, ifAccepted}
 use Rattle.history.specs.Events.{add, remove}
 use Rattle.history.specs.Model.{start, putAt, isHeld, heldIn, inRange, modelVerdict, modelAnswer, modelNext, modelLog}
 use Rattle.history.specs.History.{atMostOnce, admittedFrom, admitted}
-use Rattle.history.specs.Examples.{Story, resultsOf, sameResult, sameResults, storyOk, storiesOk, stories, settledStory, reusedStory}
-use Rattle.history.proofs.Stories.{keys, told}
-use Rattle.history.proofs.Stories as stories
-use Rattle.examples.specs.Table.{Row, story, screenText, Holds, AllHold, a, ask, screenInput, screenPrints, longMotif, fewHits, numberTwo, addedTwice, removedEmpty, refusals, settledRows, also, table}
+use Rattle.history.specs.Examples.{Story, resultsOf, sameResult, sameResults, storyOk, storiesOk, stories, bonded, ask, settledStory, reusedStory}
+use Rattle.history.proofs.Computed as computed
+use Rattle.history.proofs.Stories.{told}
+use Rattle.examples.specs.Table.{Row, story, screenText, VerifiedAt, Holds, AllHold, a, screenInput, screenPrints, longMotif, fewHits, numberTwo, addedTwice, removedEmpty, refusals, settledRows, also, table}
 use Rattle.examples.proofs.BufferRows.{uneven-refused, unsound-refused}
 use Rattle.examples.proofs.ScreenRow.{screen-prints}
 
@@ -54,10 +54,10 @@ refusals-hold =
     & by-model fewHits (tales .1)
     & uneven-refused (add 0 a)
     & uneven-refused (remove 0)
-    & uneven-refused ask
+    & uneven-refused (ask bonded)
     & unsound-refused (add 0 a)
     & unsound-refused (remove 0)
-    & unsound-refused ask
+    & unsound-refused (ask bonded)
     & by-model numberTwo (tales .2)
     & by-model addedTwice (tales .3)
     & by-model removedEmpty (tales .4)
@@ -65,21 +65,30 @@ refusals-hold =
     & refl
     & tt
 
-settled-hold : (es : List Example) → examplesOk es ≡ true → AllHold (settledRows es)
-unfolding settledRows AllHold Holds examplesOk
-settled-hold [] e = tt
-settled-hold (x ∷ es) e = let s = and-true (exampleOk x) (examplesOk es) e in (s .0, settled-hold es (s .1))
+settled-hold : AllHold (settledRows examples)
+unfolding settledRows examples exampleOk verified AllHold Holds VerifiedAt matcher.lengthVerdict matcher.lengthAnswer matcher.answerOf verify.verifyVerdict verify.answerOf pairVerdict strandVerdict first row rowAt choose every some someList lowestFrom lowest isLetter notLetter mateOutside notMutual crosses crossedAt lettersMatch longest largest prefixOk closedTo placesOk
+settled-hold =
+    (refl, refl, tt)
+    & (refl, refl, refl)
+    & (refl, refl, tt)
+    & (refl, refl, tt)
+    & (refl, refl, refl)
+    & (refl, refl, refl)
+    & (refl, refl, tt)
+    & (refl, refl, refl)
+    & (refl, refl, tt)
+    & tt
 
 -- 01's own stories among those of crate history.
 own-stories : (storyOk settledStory ≡ true) × (storyOk reusedStory ≡ true)
 unfolding storiesOk stories
 own-stories =
-    let s = and-true (storyOk settledStory) _ stories.settled in
+    let s = and-true (storyOk settledStory) _ computed.settled in
     (s .0, and-true (storyOk reusedStory) _ (s .1) .0)
 
 also-hold : AllHold also
 unfolding also AllHold Holds
-also-hold = checksum-of-A & keys .0 & keys .1 & by-model settledStory (own-stories .0) & by-model reusedStory (own-stories .1) & tt
+also-hold = checksum-of-A & computed.keys .0 & computed.keys .1 & by-model settledStory (own-stories .0) & by-model reusedStory (own-stories .1) & tt
 
 both : (rs ss : List Row) → AllHold rs → AllHold ss → AllHold (rs ++ ss)
 unfolding AllHold
@@ -88,7 +97,7 @@ both (r ∷ rs) ss h k = (h .0, both rs ss (h .1) k)
 
 screen-hold : AllHold (screenText screenInput screenPrints ∷ settledRows examples)
 unfolding AllHold Holds
-screen-hold = (screen-prints, settled-hold examples settled)
+screen-hold = (screen-prints, settled-hold)
 
 pub holds : AllHold table
 unfolding table

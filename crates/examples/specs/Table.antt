@@ -6,7 +6,7 @@ use Prim.Native.Nat.{ℕ}
 use mathlib.Core.Path.{_≡_}
 use mathlib.Core.Bool.{true}
 use mathlib.Core.List.{List, [], _∷_, _++_}
-use lib.ListN.{replicate, set}
+use lib.ListN.{length, replicate, set}
 use Rattle.strand.specs.declared.Refusal.{Refusal}
 use Rattle.strand.specs.Vocabulary.{tab}
 use Rattle.strand.specs.Strands.{Strand, strandOf, key, motifSide, moleculeSide, noSide}
@@ -17,6 +17,7 @@ use Rattle.embedding.specs.Verify.{verifyAnswer}
 use Rattle.embedding.specs.Examples.{Example, exampleOk, examples}
 use Rattle.matcher.specs.declared.Matched.{Matched}
 use Rattle.matcher.specs.declared.Matched.the-variants as matched
+use Rattle.rows.specs.Rows.{workSize}
 use Rattle.matcher.specs.Answers.{lengthAnswer, showAnswer}
 use Rattle.octets.specs.Numbers.{word32}
 use Rattle.octets.specs.Checksum.{blockSize, checksumAt, rechecked}
@@ -27,7 +28,7 @@ use Rattle.catalog.specs.Motifs.{embeds}
 use Rattle.catalog.specs.Answers.{Result, refused, done}
 use Rattle.history.specs.Events.{Call, add, remove, query, Event, call}
 use Rattle.history.specs.History.{Buffers, zeroed, bytesResult}
-use Rattle.history.specs.Examples.{Story, storyOk, Told, gac, bonded, unbonded, settledStory, reusedStory}
+use Rattle.history.specs.Examples.{Story, storyOk, Told, gac, bonded, unbonded, ask, settledStory, reusedStory}
 use Rattle.screening.specs.Screen.{screenOutput}
 
 -- The kinds of example, each with what it should come to.
@@ -51,6 +52,11 @@ pub data Row : Type 0 where
   -- the key of a motif
   keyRow : Strand → ℕ → Row
 
+-- Verify says yes to the places that a row of the table of settled examples names, if it names any.
+unfoldable pub VerifiedAt : Example → List ℕ → Type 0
+VerifiedAt e [] = Unit
+VerifiedAt e (v ∷ places) = verifyAnswer (e .pb) (e .pm) (e .qb) (e .qm) (v ∷ places) ≡ verified.Yes
+
 -- The row says what the definitions say.
 unfoldable pub Holds : Row → Type 0
 -- as the molecule of check, and as the motif of a query
@@ -63,10 +69,15 @@ Holds (bufferCall buffers c result) = bytesResult embeds buffers c ≡ result
 -- on the model, and on the bytes
 Holds (story t) = (storyOk t ≡ true) × Told t
 Holds (screenText input text) = screenOutput embeds input ≡ text
-Holds (settledRow e) = exampleOk e ≡ true
+-- by longest and verified, and by the calls length, with the least work slice, and verify
+Holds (settledRow e) =
+    (exampleOk e ≡ true)
+    × (lengthAnswer (e .pb) (e .pm) (e .qb) (e .qm) (workSize (length (e .pb)) (length (e .qb))) ≡ matched.Prefix (e .best))
+    × VerifiedAt e (e .places)
 Holds (checksumRow q n) = word32 (encodeMolecule q) checksumAt ≡ n
 Holds (keyRow p n) = key p ≡ n
 
+-- Every row of a list.
 unfoldable pub AllHold : List Row → Type 0
 AllHold [] = Unit
 AllHold (r ∷ rs) = Holds r × AllHold rs
@@ -104,10 +115,6 @@ addedTwice = tale (call (add 0 a) ∷ call (add 0 a) ∷ []) (done ∷ refused 1
 
 unfoldable pub removedEmpty : Story
 removedEmpty = tale (call (remove 0) ∷ []) (refused 14 noSide 0 ∷ [])
-
--- A query with room enough for a motif of two bases and two hits.
-abbrev pub ask : Call
-ask = query bonded 1472 (0 ∷ 0 ∷ [])
 
 -- One catalog block, and a cache of 513 bytes.
 abbrev pub uneven : Buffers
@@ -155,11 +162,11 @@ refusals =
     -- 10: shelf of 513 bytes
     ∷ bufferCall uneven (add 0 a) (refused 10 noSide 0)
     ∷ bufferCall uneven (remove 0) (refused 10 noSide 0)
-    ∷ bufferCall uneven ask (refused 10 noSide 0)
+    ∷ bufferCall uneven (ask bonded) (refused 10 noSide 0)
     -- 11: one with byte 0 = 9, lowest
     ∷ bufferCall unsound (add 0 a) (refused 11 noSide 1)
     ∷ bufferCall unsound (remove 0) (refused 11 noSide 1)
-    ∷ bufferCall unsound ask (refused 11 noSide 1)
+    ∷ bufferCall unsound (ask bonded) (refused 11 noSide 1)
     -- 12: d = 2, B = 2
     ∷ story numberTwo
     -- 13: add 0 twice
@@ -190,5 +197,6 @@ also =
     ∷ story reusedStory
     ∷ []
 
+-- All rows.
 unfoldable pub table : List Row
 table = refusals ++ (screenText screenInput screenPrints ∷ settledRows examples) ++ also

@@ -12,14 +12,11 @@ use lib.ListN.{length, take, drop, set, replicate, length-append, length-take, l
 use lib.Seq.{drop-set-add, take-set-lt, drop-set-lt, take-set-le, ext-getD, getD-take, getD-drop, getD-append-seam}
 use borrow.Author.Tests.{ltb-true, ltb-false, eq-eqb, ne-eqb}
 use Rattle.strand.specs.Vocabulary.{nth, choose, select}
+use Rattle.strand.proofs.ListLaws.{by-bool}
 use Rattle.octets.specs.Checksum.{blockSize}
 use Rattle.block.specs.Block.{blockOf}
 use Rattle.block.specs.Content.{emptyBlock}
 use Rattle.history.specs.Model.{putAt}
-
-pub by-bool : (b : Bool) → (b ≡ true) ⊎ (b ≡ false)
-by-bool true = inl refl
-by-bool false = inr refl
 
 pub lt-suc-cases : (d n : ℕ) → d < suc n → (d < n) ⊎ (d ≡ n)
 lt-suc-cases d n h = ⊎-elim (λ e. inl (ltb-true d n e)) (λ e. inr (let l : n ≤ d = ltb-false d n e in omega arith)) (by-bool (ltb d n))

@@ -11,7 +11,7 @@ use Rattle.strand.specs.Strands.{Strand, noSide}
 use Rattle.strand.specs.Refusals.{unsoundBlock, first, row, rowAt}
 use Rattle.strand.specs.declared.Verdict.{Verdict}
 use Rattle.strand.specs.declared.Verdict.the-variants.{Accepted}
-use Rattle.strand.proofs.ListLaws.{and-true}
+use Rattle.strand.proofs.ListLaws.{by-bool, and-true}
 use Rattle.octets.specs.Checksum.{blockSize}
 use Rattle.block.specs.Block.{blockOf, soundEntry}
 use Rattle.block.specs.Buffer.{cleaned}
@@ -20,15 +20,14 @@ use Rattle.catalog.specs.Buffers.{blockCount, areWhole, unsoundAt, held, molecu
 use Rattle.catalog.specs.Calls.{addVerdict, removeVerdict, queryVerdict}
 use Rattle.catalog.proofs.ReadingLaws.{count-is, whole-is, no-place}
 use Rattle.history.specs.Events.{Call, add, remove, query}
-use Rattle.history.specs.Model.{Place, holds, Slot, nothing, keeps, State, isHeld, heldIn, inRange, modelVerdict, embedsAt, slotBlock}
+use Rattle.history.specs.Model.{Holding, holds, Slot, nothing, keeps, State, isHeld, heldIn, inRange, modelVerdict, slotBlock}
 use Rattle.history.specs.History.{Buffers}
-use Rattle.history.proofs.Base.{by-bool}
 use Rattle.catalog.proofs.BlockUse as leaf
 use Rattle.history.proofs.Sane.{SlotOk, Sane}
 
 -- The block of a slot
 
-module _ (embeds : Strand → Strand → Bool) (B S : ℕ) (mols : ℕ → Place) where
+module _ (embeds : Strand → Strand → Bool) (B S : ℕ) (mols : ℕ → Holding) where
   pub slot-length : (s : Slot) → SlotOk mols s → length (slotBlock embeds B S mols s) ≡ blockSize
   unfolding slotBlock
   slot-length nothing k = leaf.empty-length
@@ -37,7 +36,7 @@ module _ (embeds : Strand → Strand → Bool) (B S : ℕ) (mols : ℕ → Place
   pub slot-sound : (s : Slot) → SlotOk mols s → soundEntry (slotBlock embeds B S mols s) ≡ true
   unfolding slotBlock
   slot-sound nothing k = leaf.empty-entry
-  slot-sound (keeps m set) k = leaf.entry-sound m (k .0) set _ (λ d e. and-true (set d) (embedsAt embeds B S m (mols d)) e .0)
+  slot-sound (keeps m set) k = leaf.entry-sound m (k .0) set _ (λ d e. and-true (set d) _ e .0)
 
   pub slot-clean : (s : Slot) → SlotOk mols s → cleaned (slotBlock embeds B S mols s) ≡ slotBlock embeds B S mols s
   slot-clean s k = leaf.sound-clean _ (slot-sound s k)

@@ -1,8 +1,10 @@
 pub mod Base
+pub mod Computed
 pub mod Sane
 pub mod Follows
 pub mod Steps
 pub mod Same
 pub mod Right
 pub mod Theorem
+pub mod Runs
 pub mod Stories

@@ -13,32 +13,31 @@ use Rattle.strand.specs.Strands.{Strand, noSide}
 use Rattle.strand.specs.Refusals.{notWholeBlocks, numberTooLarge, alreadyHeld, row}
 use Rattle.strand.specs.declared.Verdict.{Verdict}
 use Rattle.strand.specs.declared.Verdict.the-variants.{Accepted, Refused}
-use Rattle.strand.proofs.ListLaws.{and-true, not-not}
+use Rattle.strand.proofs.ListLaws.{by-bool, and-true, not-not}
 use Rattle.strand.proofs.VerdictLaws.{first-pass, row-pass}
 use Rattle.octets.specs.Maps.{without}
 use Rattle.catalog.specs.Limits.{mostCatalogBlocks, mostCacheBlocks, moleculeVerdict, motifVerdict}
 use Rattle.catalog.specs.Buffers.{slotOf}
 use Rattle.catalog.specs.Answers.{ifAccepted}
 use Rattle.history.specs.Events.{Call, add, remove, query}
-use Rattle.history.specs.Model.{Place, vacant, holds, Slot, nothing, keeps, State, start, putAt, isHeld, heldIn, dropped, inRange, modelVerdict, modelNext, modelAlter, slotBlock}
-use Rattle.history.proofs.Base.{by-bool}
+use Rattle.history.specs.Model.{Holding, vacant, holds, Slot, nothing, keeps, State, start, putAt, isHeld, heldIn, dropped, inRange, modelVerdict, modelNext, modelAlter, slotBlock}
 
-abbrev pub PlaceOk : Place → Type 0
-PlaceOk vacant = Unit
-PlaceOk (holds q) = moleculeVerdict q ≡ Accepted
+abbrev pub HoldingOk : Holding → Type 0
+HoldingOk vacant = Unit
+HoldingOk (holds q) = moleculeVerdict q ≡ Accepted
 
-abbrev pub SlotOk : (ℕ → Place) → Slot → Type 0
+abbrev pub SlotOk : (ℕ → Holding) → Slot → Type 0
 SlotOk mols nothing = Unit
 SlotOk mols (keeps m set) = (motifVerdict m ≡ Accepted) × ((d : ℕ) → set d ≡ true → isHeld (mols d) ≡ true)
 
 pub record Sane (B : ℕ) (σ : State) : Type 0 where
-  pub place-ok : (d : ℕ) → PlaceOk (σ .molecules d)
+  pub holding-ok : (d : ℕ) → HoldingOk (σ .molecules d)
   pub slot-ok : (s : ℕ) → SlotOk (σ .molecules) (σ .slots s)
   pub above : (d : ℕ) → B ≤ d → σ .molecules d ≡ vacant
 
 pub sane-start : (B : ℕ) → Sane B start
 unfolding start
-sane-start B = record { place-ok = λ d. tt; slot-ok = λ s. tt; above = λ d l. refl }
+sane-start B = record { holding-ok = λ d. tt; slot-ok = λ s. tt; above = λ d l. refl }
 
 -- What an accepted call has passed
 
@@ -92,11 +91,11 @@ molecules-same embeds B S σ s i v =
 -- Every step keeps it
 
 module _ (embeds : Strand → Strand → Bool) (B S : ℕ) (σ : State) (sane : Sane B σ) where
-  put-ok : (d : ℕ) (x : Place) → PlaceOk x → (e : ℕ) → PlaceOk (putAt (σ .molecules) d x e)
+  put-ok : (d : ℕ) (x : Holding) → HoldingOk x → (e : ℕ) → HoldingOk (putAt (σ .molecules) d x e)
   unfolding putAt choose
-  put-ok d x h e = ⊎-elim (λ (k : eqb e d ≡ true). rw k h) (λ (k : eqb e d ≡ false). rw k (sane .place-ok e)) (by-bool (eqb e d))
+  put-ok d x h e = ⊎-elim (λ (k : eqb e d ≡ true). rw k h) (λ (k : eqb e d ≡ false). rw k (sane .holding-ok e)) (by-bool (eqb e d))
 
-  put-above : (d : ℕ) (x : Place) → d < B → (e : ℕ) → B ≤ e → putAt (σ .molecules) d x e ≡ vacant
+  put-above : (d : ℕ) (x : Holding) → d < B → (e : ℕ) → B ≤ e → putAt (σ .molecules) d x e ≡ vacant
   unfolding putAt choose
   put-above d x l e k =
       let z : eqb e d ≡ false = ne-eqb e d (λ (w : e ≡ d). omega arith) in
@@ -130,19 +129,19 @@ module _ (embeds : Strand → Strand → Bool) (B S : ℕ) (σ : State) (sane : 
   sane-next (add d q) e =
       let y = add-passed embeds B S σ d q e in
       record {
-        place-ok = put-ok d (holds q) (y .2);
+        holding-ok = put-ok d (holds q) (y .2);
         slot-ok = λ s. slot-add d q (σ .slots s) (sane .slot-ok s);
         above = put-above d (holds q) (y .0);
       }
   sane-next (remove d) e =
       record {
-        place-ok = put-ok d vacant tt;
+        holding-ok = put-ok d vacant tt;
         slot-ok = λ s. slot-remove d (σ .slots s) (sane .slot-ok s);
         above = put-above d vacant (remove-passed embeds B S σ d e);
       }
   sane-next (query p work hits) e =
       record {
-        place-ok = sane .place-ok;
+        holding-ok = sane .holding-ok;
         slot-ok = slot-put (slotOf S p) (keeps p (heldIn σ)) (query-passed embeds B S σ p work hits e, λ d h. unfold heldIn in h);
         above = sane .above;
       }
@@ -153,7 +152,7 @@ module _ (embeds : Strand → Strand → Bool) (B S : ℕ) (σ : State) (sane : 
       ⊎-elim
       (λ (e : eqb (nth (slotBlock embeds B S (σ .molecules) (σ .slots s)) i) v ≡ true). rw e sane)
       (λ (e : eqb (nth (slotBlock embeds B S (σ .molecules) (σ .slots s)) i) v ≡ false).
-      rw e (record { place-ok = sane .place-ok; slot-ok = slot-put s nothing tt; above = sane .above }))
+      rw e (record { holding-ok = sane .holding-ok; slot-ok = slot-put s nothing tt; above = sane .above }))
       (by-bool (eqb (nth (slotBlock embeds B S (σ .molecules) (σ .slots s)) i) v))
 
   pub sane-step : (c : Call) (v : Verdict) → modelVerdict embeds B S σ c ≡ v → Sane B (ifAccepted v (modelNext embeds B S σ c) σ)

@@ -13,7 +13,7 @@ use borrow.Author.Tests.{ltb-true, ltb-false, eqb-true, eqb-false}
 use Rattle.strand.specs.Vocabulary.{nth, choose, select}
 use Rattle.strand.specs.Strands.{Strand, sameStrand, key}
 use Rattle.strand.specs.declared.Verdict.the-variants.{Accepted}
-use Rattle.strand.proofs.ListLaws.{and-true}
+use Rattle.strand.proofs.ListLaws.{by-bool, and-true}
 use Rattle.strand.proofs.VerdictLaws.{same-strand-eq}
 use Rattle.octets.specs.Maps.{without}
 use Rattle.octets.specs.Checksum.{blockSize}
@@ -25,9 +25,9 @@ use Rattle.catalog.specs.Buffers.{unsoundAt, held, moleculeAt, slotOf, cleanCac
 use Rattle.catalog.specs.Calls.{isKnown, toSearch, isHit}
 use Rattle.catalog.proofs.ReadingLaws as read
 use Rattle.history.specs.Events.{add, remove, query}
-use Rattle.history.specs.Model.{Place, vacant, holds, Slot, nothing, keeps, State, putAt, isHeld, heldIn, knownIn, dropped, inRange, modelVerdict, embedsAt, hitList, searchList, modelNext, slotBlock, modelAlter}
+use Rattle.history.specs.Model.{Holding, vacant, holds, Slot, nothing, keeps, State, putAt, isHeld, heldIn, knownIn, dropped, inRange, modelVerdict, embedsAt, hitList, searchList, modelNext, slotBlock, modelAlter}
 use Rattle.history.specs.History.{Buffers, altered}
-use Rattle.history.proofs.Base.{by-bool, select-ext, put-same, put-other, block-set-same, block-set-other}
+use Rattle.history.proofs.Base.{select-ext, put-same, put-other, block-set-same, block-set-other}
 use Rattle.catalog.proofs.BlockUse as leaf
 use Rattle.history.proofs.Sane.{SlotOk, Sane, add-passed, remove-passed, query-passed, range-passed, B≤, S≥1, molecules-same, sane-next, sane-alter}
 use Rattle.history.proofs.Follows.{slot-length, slot-sound, slot-clean, Follows, held-all}
@@ -59,14 +59,14 @@ module _ (embeds : Strand → Strand → Bool) (B S : ℕ) where
         never = λ s l e. hf s l;
       }
 
-  lost : (mols : ℕ → Place) (x : List ℕ) → length x ≡ blockSize → soundEntry x ≡ false → cleaned x ≡ slotBlock embeds B S mols nothing
+  lost : (mols : ℕ → Holding) (x : List ℕ) → length x ≡ blockSize → soundEntry x ≡ false → cleaned x ≡ slotBlock embeds B S mols nothing
   unfolding slotBlock
   lost mols x l e = leaf.unsound-clean x l e
 
   module _ (β : Buffers) (σ : State) (times : ℕ → ℕ) (f : Follows embeds B S β σ times) where
-    -- One block of the catalog written, against the model's molecules with one place changed
+    -- One block of the catalog written, against the model's molecules with one holding changed
 
-    module _ (d : ℕ) (l : d < B) (b : List ℕ) (lb : length b ≡ blockSize) (x : Place) (full : not (isEmpty b) ≡ isHeld x) where
+    module _ (d : ℕ) (l : d < B) (b : List ℕ) (lb : length b ≡ blockSize) (x : Holding) (full : not (isEmpty b) ≡ isHeld x) where
       put-held : (slots : ℕ → Slot) (e : ℕ) → e < B → held (putBlock d b (β .catalog)) e ≡ heldIn (record { molecules = putAt (σ .molecules) d x; slots = slots }) e
       unfolding putAt choose heldIn
       put-held slots e k =
@@ -218,7 +218,7 @@ module _ (embeds : Strand → Strand → Bool) (B S : ℕ) where
         unfolding toSearch
         search-is d l = rw (held-all embeds B S β σ times f d, known-is d l)
 
-        decoded : (x : Place) (d : ℕ) → d < B → σ .molecules d ≡ x → isHeld x ≡ true → embeds p (moleculeAt (β .catalog) d) ≡ embedsAt embeds B S p x
+        decoded : (x : Holding) (d : ℕ) → d < B → σ .molecules d ≡ x → isHeld x ≡ true → embeds p (moleculeAt (β .catalog) d) ≡ embedsAt embeds B S p x
         unfolding embedsAt isHeld
         decoded vacant d l e h = cc
         decoded (holds r) d l e h = rw (f .molecule-is d l r e)
@@ -240,7 +240,7 @@ module _ (embeds : Strand → Strand → Bool) (B S : ℕ) where
             (λ (e : heldIn σ d ≡ false). rw (held-all embeds B S β σ times f d, e))
             (by-bool (heldIn σ d))
 
-        only-held : (x : Place) → (isHeld x && embedsAt embeds B S p x) ≡ embedsAt embeds B S p x
+        only-held : (x : Holding) → (isHeld x && embedsAt embeds B S p x) ≡ embedsAt embeds B S p x
         unfolding isHeld embedsAt
         only-held vacant = refl
         only-held (holds r) = refl

@@ -1,31 +1,21 @@
--- The example histories: on the model by computing, on the bytes by the theorem. Assumes nothing.
+-- The example histories on the bytes: by the theorem, from what the model makes of them. Assumes nothing.
+use Prim.Native.Nat.{ℕ, _+_, _*_}
 use mathlib.Core.Path.{_≡_, refl, _∙_, ap, ap₂}
 use mathlib.Core.Bool.{true, _&&_, false≢true}
 use mathlib.Core.List.{List, [], _∷_}
 use lib.Dec.{eqb}
+use lib.Seq.{set-set}
 use borrow.Author.Tests.{eqb-true}
-use Rattle.strand.specs.Vocabulary.{choose, every, some, lowestFrom, lowest, largest, select, tab, someList, total, sameList}
-use Rattle.strand.specs.Strands.{sameStrand, key, lettersMatch, isLetter, notLetter, mateOutside, notMutual, crosses, crossedAt}
-use Rattle.strand.specs.Refusals.{first, row, rowAt, strandVerdict}
+use Rattle.strand.specs.Vocabulary.{sameList}
 use Rattle.strand.proofs.ListLaws.{and-true, same-eq}
-use Rattle.embedding.specs.Longest.{longest, prefixOk, closedTo, placesOk}
-use Rattle.octets.specs.Numbers.{bytesOf}
-use Rattle.octets.specs.Checksum.{checked}
-use Rattle.octets.specs.Maps.{without, mapBytes, bitSum}
-use Rattle.block.specs.Content.{emptyBlock, contentOf, entryBlock, encodeEntry}
-use Rattle.catalog.specs.Limits.{moleculeVerdict, motifVerdict, workVerdict}
+use Rattle.octets.specs.Checksum.{blockSize}
 use Rattle.catalog.specs.Motifs.{embeds}
-use Rattle.catalog.specs.Buffers.{slotOf}
-use Rattle.catalog.specs.Answers.{Result, refused, done, found, refusedBy, resultBy, ifAccepted}
-use Rattle.history.specs.Model.{start, putAt, isHeld, heldIn, knownIn, dropped, inRange, modelVerdict, embedsAt, hitList, searchList, modelAnswer, modelNext, slotBlock, modelAlter, modelLog}
-use Rattle.history.specs.History.{atMostOnce, admittedFrom, admitted, HistoryTheorem}
-use Rattle.history.specs.Examples.{Story, resultsOf, sameResult, sameResults, storyOk, bonded, unbonded, settledStory, reusedStory, alteredStory, stories, storiesOk, Told, AllTold}
+use Rattle.catalog.specs.Answers.{Result, refused, done, found}
+use Rattle.history.specs.Events.{Call, Event, call, alter, Line, gave}
+use Rattle.history.specs.History.{Buffers, zeroed, altered, bytesResult, bytesNext, bytesLog, admitted, HistoryTheorem}
+use Rattle.history.specs.Examples.{Story, resultsOf, sameResult, sameResults, storyOk, stories, storiesOk, Told, AllTold, alteredOnce, alteredTwice, AlterationsLimited}
 use Rattle.history.proofs.Theorem.{demand-3}
-
--- The keys are equal.
-pub keys : (key bonded ≡ 139) × (key unbonded ≡ 139)
-unfolding key total
-keys = (refl, refl)
+use Rattle.history.proofs.Computed.{settled, computed}
 
 -- The tests of results decide equality.
 
@@ -69,11 +59,6 @@ told t ok =
     let a = and-true (admitted embeds (t .blocks) (t .slots) (t .events)) _ ok in
     ap resultsOf (demand-3 (t .blocks) (t .slots) (t .events) (a .0) .same) ∙ same-results _ (t .results) (a .1)
 
--- The stories hold on the model.
-pub settled : storiesOk stories ≡ true
-unfolding stories storiesOk settledStory reusedStory alteredStory storyOk admitted admittedFrom atMostOnce modelLog resultsOf sameResults sameResult embeds longest largest prefixOk closedTo placesOk lettersMatch choose every some lowestFrom lowest select someList tab total sameList sameStrand key first row rowAt strandVerdict isLetter notLetter mateOutside notMutual crosses crossedAt moleculeVerdict motifVerdict workVerdict slotOf refusedBy resultBy ifAccepted start putAt isHeld heldIn knownIn dropped inRange modelVerdict embedsAt hitList searchList modelAnswer modelNext slotBlock modelAlter emptyBlock encodeEntry entryBlock checked contentOf bytesOf mapBytes bitSum without
-settled = refl
-
 all-told : (ts : List Story) → storiesOk ts ≡ true → AllTold ts
 unfolding storiesOk AllTold
 all-told [] e = tt
@@ -82,3 +67,24 @@ all-told (t ∷ ts) e = let a = and-true (storyOk t) (storiesOk ts) e in (told t
 -- The stories hold on the bytes.
 pub settled-bytes : AllTold stories
 settled-bytes = all-told stories settled
+
+-- Two alterations of one byte are the later one.
+two-alterations : (s i v w : ℕ) (es : List Event) (β : Buffers) → bytesLog embeds β (alter s i v ∷ alter s i w ∷ es) ≡ bytesLog embeds β (alter s i w ∷ es)
+unfolding bytesLog altered
+two-alterations s i v w es β = rw (set-set (β .cache) (blockSize * s + i) v w)
+
+after-call : (c : Call) (es fs : List Event) → ((β : Buffers) → bytesLog embeds β es ≡ bytesLog embeds β fs) → (β : Buffers)
+    → bytesLog embeds β (call c ∷ es) ≡ bytesLog embeds β (call c ∷ fs)
+unfolding bytesLog
+after-call c es fs h β = ap (λ (log : List Line). gave c (bytesResult embeds β c) ∷ log) (h (bytesNext embeds β c))
+
+pub limited : AlterationsLimited
+unfolding alteredOnce alteredTwice
+limited =
+    record {
+      one = computed .0;
+      two = computed .1;
+      refusal-between = computed .2;
+      bytes-know = ap resultsOf (after-call _ _ _ (after-call _ _ _ (two-alterations 0 444 0 1 _)) (zeroed 1 1)) ∙ told alteredOnce (computed .0);
+      model-searches = computed .3;
+    }

@@ -5,9 +5,10 @@ use mathlib.Core.Bool.{Bool}
 use mathlib.Core.List.{List}
 use borrow.Author.Tests.{eqb-true, eq-eqb}
 use Rattle.strand.specs.Strands.{Strand, motifSide, lettersMatch}
+use Rattle.strand.specs.Refusals.{leastLength}
 use Rattle.strand.proofs.VerdictLaws.{accepted-proper}
 use Rattle.embedding.proofs.Claims as embedding
-use Rattle.catalog.specs.Limits.{leastBases, mostMotifBases, motifVerdict}
+use Rattle.catalog.specs.Limits.{mostMotifBases, motifVerdict}
 use Rattle.catalog.specs.Motifs.{embeds, EmbedsIn}
 use Rattle.history.specs.Events.{Event}
 use Rattle.history.specs.Model.{start}
@@ -28,7 +29,7 @@ history test Relation decides B S es a =
 pub decides : Decides EmbedsIn embeds
 unfolding Decides embeds motifVerdict
 decides p q hp hq =
-    let proper = accepted-proper motifSide leastBases mostMotifBases (p .bases) (p .mates) hp in
+    let proper = accepted-proper motifSide leastLength mostMotifBases (p .bases) (p .mates) hp in
     let whole = embedding.claims .whole lettersMatch (p .bases) (p .mates) (q .bases) (q .mates) (proper .nested .inside) in
     (λ e. whole .0 (eqb-true _ _ e), λ x. eq-eqb _ _ (whole .1 x))
 

@@ -4,6 +4,7 @@ use mathlib.Core.List.{List}
 use Rattle.strand.specs.Strands.{Strand}
 use Rattle.catalog.specs.Answers.{Result}
 
+-- A call with its arguments.
 pub data Call : Type 0 where
   -- number and molecule
   add : ℕ → Strand → Call
@@ -12,6 +13,7 @@ pub data Call : Type 0 where
   -- motif, length of the work slice, the slice for the hits
   query : Strand → ℕ → List ℕ → Call
 
+-- An entry of the list.
 pub data Event : Type 0 where
   call : Call → Event
   -- byte i of cache block s becomes v

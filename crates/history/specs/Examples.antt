@@ -1,4 +1,5 @@
--- Example histories: 01's story, a number used again, and one with alterations and refused calls between. Assumes nothing.
+-- Example histories: 01's story, a number used again, one with alterations and refused calls between, and two that are not admitted.
+-- Assumes nothing.
 use Prim.Native.Nat.{ℕ}
 use mathlib.Core.Path.{_≡_}
 use mathlib.Core.List.{List, [], _∷_}
@@ -9,7 +10,7 @@ use Rattle.strand.specs.Strands.{Strand, strandOf, motifSide, noSide}
 use Rattle.strand.specs.Refusals.{noBases, numberTooLarge, alreadyHeld, notHeld}
 use Rattle.catalog.specs.Motifs.{embeds}
 use Rattle.catalog.specs.Answers.{Result, refused, done, found}
-use Rattle.history.specs.Events.{add, remove, query, Event, call, alter, Line}
+use Rattle.history.specs.Events.{Call, add, remove, query, Event, call, alter, Line}
 use Rattle.history.specs.Model.{start, modelLog}
 use Rattle.history.specs.History.{admitted, zeroed, bytesLog}
 
@@ -20,6 +21,7 @@ pub record Story : Type 0 where
   pub events : List Event
   pub results : List Result
 
+-- The results of a log, and whether results are the same.
 unfoldable pub resultsOf : List Line → List Result
 resultsOf [] = []
 resultsOf (line ∷ log) = line .result ∷ resultsOf log
@@ -61,9 +63,9 @@ bonded = strandOf (71 ∷ 67 ∷ []) (1 ∷ 0 ∷ [])
 abbrev pub unbonded : Strand
 unbonded = strandOf (71 ∷ 67 ∷ []) (0 ∷ 1 ∷ [])
 
--- A query with room enough: 1472 entries of work, two for the hits.
-abbrev ask : Strand → Event
-ask p = call (query p 1472 (9 ∷ 9 ∷ []))
+-- A query with room enough for a motif of two bases and two hits: 1472 entries of work.
+abbrev pub ask : Strand → Call
+ask p = query p 1472 (9 ∷ 9 ∷ [])
 
 -- 01: with B = 2, S = 1.
 unfoldable pub settledStory : Story
@@ -74,12 +76,12 @@ settledStory =
       events =
           call (add 0 gac)
           ∷ call (add 1 ggc)
-          ∷ ask bonded
-          ∷ ask bonded
-          ∷ ask unbonded
-          ∷ ask bonded
+          ∷ call (ask bonded)
+          ∷ call (ask bonded)
+          ∷ call (ask unbonded)
+          ∷ call (ask bonded)
           ∷ call (remove 0)
-          ∷ ask bonded
+          ∷ call (ask bonded)
           ∷ [];
       results =
           done
@@ -99,7 +101,7 @@ reusedStory =
     record {
       blocks = 1;
       slots = 2;
-      events = call (add 0 gac) ∷ ask unbonded ∷ call (remove 0) ∷ call (add 0 ggc) ∷ ask unbonded ∷ [];
+      events = call (add 0 gac) ∷ call (ask unbonded) ∷ call (remove 0) ∷ call (add 0 ggc) ∷ call (ask unbonded) ∷ [];
       results = done ∷ found 0 [] 1 ∷ done ∷ done ∷ found 1 (0 ∷ []) 1 ∷ [];
     }
 
@@ -114,12 +116,12 @@ alteredStory =
           alter 0 0 2
           ∷ call (remove 1)
           ∷ call (add 0 gac)
-          ∷ ask bonded
+          ∷ call (ask bonded)
           ∷ alter 0 380 1
-          ∷ ask bonded
+          ∷ call (ask bonded)
           ∷ alter 0 444 0
-          ∷ ask (strandOf [] [])
-          ∷ ask bonded
+          ∷ call (ask (strandOf [] []))
+          ∷ call (ask bonded)
           ∷ alter 0 1 7
           ∷ call (add 0 ggc)
           ∷ alter 0 1 2
@@ -137,6 +139,7 @@ alteredStory =
           ∷ [];
     }
 
+-- All of them.
 unfoldable pub stories : List Story
 stories = settledStory ∷ reusedStory ∷ alteredStory ∷ []
 
@@ -144,6 +147,7 @@ stories = settledStory ∷ reusedStory ∷ alteredStory ∷ []
 abbrev pub Told : Story → Type 0
 Told t = resultsOf (bytesLog embeds (zeroed (t .blocks) (t .slots)) (t .events)) ≡ t .results
 
+-- Every story: on the bytes, and by the model.
 unfoldable pub AllTold : List Story → Type 0
 AllTold [] = Unit
 AllTold (t ∷ ts) = Told t × AllTold ts
@@ -151,3 +155,31 @@ AllTold (t ∷ ts) = Told t × AllTold ts
 unfoldable pub storiesOk : List Story → Bool
 storiesOk [] = true
 storiesOk (t ∷ ts) = storyOk t && storiesOk ts
+
+-- With B = 1, S = 1: hit bit 0, in byte 444, is set, as it is.
+unfoldable pub alteredOnce : Story
+alteredOnce =
+    record {
+      blocks = 1;
+      slots = 1;
+      events = call (add 0 gac) ∷ call (ask bonded) ∷ alter 0 444 1 ∷ call (ask bonded) ∷ [];
+      results = done ∷ found 1 (0 ∷ []) 1 ∷ found 1 (0 ∷ []) 0 ∷ [];
+    }
+
+-- It is cleared and set again before the next accepted call.
+unfoldable pub alteredTwice : List Event
+alteredTwice = call (add 0 gac) ∷ call (ask bonded) ∷ alter 0 444 0 ∷ alter 0 444 1 ∷ call (ask bonded) ∷ []
+
+-- A refused call between the two alterations.
+unfoldable pub refusedBetween : List Event
+refusedBetween = call (add 0 gac) ∷ call (ask bonded) ∷ alter 0 444 0 ∷ call (remove 1) ∷ alter 0 444 1 ∷ call (ask bonded) ∷ []
+
+-- 01: "at most one alteration in each block .. between one accepted call and the next".
+pub record AlterationsLimited : Type 0 where
+  pub one : storyOk alteredOnce ≡ true
+  pub two : admitted embeds 1 1 alteredTwice ≡ false
+  -- a refused call ends no period
+  pub refusal-between : admitted embeds 1 1 refusedBetween ≡ false
+  -- the limit is needed: the block is sound again, and nothing is searched, while the model's slot became nothing
+  pub bytes-know : resultsOf (bytesLog embeds (zeroed 1 1) alteredTwice) ≡ alteredOnce .results
+  pub model-searches : resultsOf (modelLog embeds 1 1 start alteredTwice) ≡ done ∷ found 1 (0 ∷ []) 1 ∷ found 1 (0 ∷ []) 1 ∷ []

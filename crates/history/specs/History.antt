@@ -15,7 +15,7 @@ use Rattle.catalog.specs.Limits.{moleculeVerdict, motifVerdict}
 use Rattle.catalog.specs.Calls.{addOutcome, removeOutcome, queryOutcome}
 use Rattle.catalog.specs.Answers.{Result, refused, done, found, updateResult, queryResult, ifAccepted}
 use Rattle.history.specs.Events.{Call, add, remove, query, Event, call, alter, Line, gave}
-use Rattle.history.specs.Model.{Place, vacant, holds, State, start, putAt, modelVerdict, modelNext, modelAlter, modelLog}
+use Rattle.history.specs.Model.{Holding, vacant, holds, State, start, putAt, modelVerdict, modelNext, modelAlter, modelLog}
 
 -- The two buffers of a history.
 pub record Buffers : Type 0 where
@@ -70,45 +70,50 @@ module _ (embeds : Strand → Strand → Bool) where
     admitted es = admittedFrom start (λ s. 0) es
 
 -- What stands under number d after one more call: an accepted add puts a molecule there, an accepted remove takes it away.
-unfoldable pub placeAfter : ℕ → Place → Call → Result → Place
-placeAfter d x (add n q) done = choose (eqb d n) (holds q) x
-placeAfter d x (remove n) done = choose (eqb d n) vacant x
-placeAfter d x (query p work hits) done = x
-placeAfter d x c (refused number side place) = x
-placeAfter d x c (found count hits searched) = x
+unfoldable pub holdingAfter : ℕ → Holding → Call → Result → Holding
+holdingAfter d x (add n q) done = choose (eqb d n) (holds q) x
+holdingAfter d x (remove n) done = choose (eqb d n) vacant x
+holdingAfter d x (query p work hits) done = x
+holdingAfter d x c (refused number side place) = x
+holdingAfter d x c (found count hits searched) = x
 
-unfoldable pub placeSince : ℕ → Place → List Line → Place
-placeSince d x [] = x
-placeSince d x (line ∷ log) = placeSince d (placeAfter d x (line .of) (line .result)) log
+-- The same after the calls of a log.
+unfoldable pub holdingSince : ℕ → Holding → List Line → Holding
+holdingSince d x [] = x
+holdingSince d x (line ∷ log) = holdingSince d (holdingAfter d x (line .of) (line .result)) log
 
 -- Molecule q is held under number d after these calls: added by an accepted one and not removed by one since.
 abbrev pub Held : ℕ → Strand → List Line → Type 0
-Held d q log = placeSince d vacant log ≡ holds q
+Held d q log = holdingSince d vacant log ≡ holds q
 
 -- d is in the list.
 abbrev pub Among : ℕ → List ℕ → Type 0
 Among d list = (i : ℕ) × (i < length list) × (nth list i ≡ d)
 
-module _ (Embeds : Strand → Strand → Type 0) where
+module _ (Relation : Strand → Strand → Type 0) where
   -- An accepted query of p after the calls of a log is right.
   pub record RightHits (before : List Line) (p : Strand) (count : ℕ) (hits : List ℕ) : Type 0 where
     -- just the numbers then held into whose molecules the motif embeds
-    pub exact : (d : ℕ) → Among d hits ↔ ((q : Strand) × Held d q before × Embeds p q)
+    pub exact : (d : ℕ) → Among d hits ↔ ((q : Strand) × Held d q before × Relation p q)
     pub rising : (i j : ℕ) → i < j → j < length hits → nth hits i < nth hits j
     pub counted : count ≡ length hits
 
-  -- The claim about a whole list.
-  pub record RightHistory (embeds : Strand → Strand → Bool) (B S : ℕ) (es : List Event) : Type 0 where
-    -- what is compared is equal: bytes, by the definitions of the calls, and reference model have the same log
-    pub same : bytesLog embeds (zeroed B S) es ≡ modelLog embeds B S start es
+  -- The claim about the log of a whole list.
+  pub record RightLog (embeds : Strand → Strand → Bool) (B S : ℕ) (es : List Event) (log : List Line) : Type 0 where
+    -- what is compared is equal: it is the log of the reference model
+    pub same : log ≡ modelLog embeds B S start es
     -- every accepted query of the log is right
     pub right : (before after : List Line) (p : Strand) (work : ℕ) (slice : List ℕ) (count : ℕ) (hits : List ℕ) (searched : ℕ)
-        → bytesLog embeds (zeroed B S) es ≡ before ++ (gave (query p work slice) (found count hits searched) ∷ after)
+        → log ≡ before ++ (gave (query p work slice) (found count hits searched) ∷ after)
         → RightHits before p count hits
+
+  -- The claim about a whole list: it holds of the log of the bytes, by the definitions of the calls.
+  abbrev pub RightHistory : (Strand → Strand → Bool) → ℕ → ℕ → List Event → Type 0
+  RightHistory embeds B S es = RightLog embeds B S es (bytesLog embeds (zeroed B S) es)
 
   -- The test decides the relation for each motif and molecule that rows 1 to 7 let pass.
   unfoldable pub Decides : (Strand → Strand → Bool) → Type 0
-  Decides embeds = (p q : Strand) → motifVerdict p ≡ Accepted → moleculeVerdict q ≡ Accepted → (embeds p q ≡ true) ↔ Embeds p q
+  Decides embeds = (p q : Strand) → motifVerdict p ≡ Accepted → moleculeVerdict q ≡ Accepted → (embeds p q ≡ true) ↔ Relation p q
 
   -- The history theorem: for all B and S, zeroed buffers, and every admitted list.
   unfoldable pub HistoryTheorem : (Strand → Strand → Bool) → Type 0

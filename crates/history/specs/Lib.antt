@@ -1,4 +1,5 @@
 pub mod Events
 pub mod Model
 pub mod History
+pub mod Runs
 pub mod Examples

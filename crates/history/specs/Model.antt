@@ -16,16 +16,16 @@ use Rattle.catalog.specs.Answers.{Result, done, found, ifAccepted, resultBy}
 use Rattle.history.specs.Events.{Call, add, remove, query, Event, call, alter, Line, gave}
 
 -- "State: the molecules by number, and for each slot nothing or a motif with a set of numbers."
-pub data Place : Type 0 where
-  vacant : Place
-  holds : Strand → Place
+pub data Holding : Type 0 where
+  vacant : Holding
+  holds : Strand → Holding
 
 pub data Slot : Type 0 where
   nothing : Slot
   keeps : Strand → (ℕ → Bool) → Slot
 
 pub record State : Type 0 where
-  pub molecules : ℕ → Place
+  pub molecules : ℕ → Holding
   pub slots : ℕ → Slot
 
 -- "For demand 3 it starts with no molecule and nothing in any slot."
@@ -37,7 +37,7 @@ unfoldable pub putAt : {A : Type 0} → (ℕ → A) → ℕ → A → ℕ → A
 putAt f d v e = choose (eqb e d) v (f e)
 
 -- Number d is held.
-unfoldable pub isHeld : Place → Bool
+unfoldable pub isHeld : Holding → Bool
 isHeld vacant = false
 isHeld (holds q) = true
 
@@ -73,7 +73,7 @@ module _ (embeds : Strand → Strand → Bool) (B S : ℕ) where
       first (rangeRow ∷ motifVerdict p ∷ row wrongSlice noSide (ltb (length hits) B) ∷ workVerdict p work ∷ [])
 
   -- The motif embeds in what stands under a number.
-  unfoldable pub embedsAt : Strand → Place → Bool
+  unfoldable pub embedsAt : Strand → Holding → Bool
   embedsAt p vacant = false
   embedsAt p (holds q) = embeds p q
 
@@ -100,7 +100,7 @@ module _ (embeds : Strand → Strand → Bool) (B S : ℕ) where
 
   -- "The block which the rules above give to the slot's motif and set, with a hit bit for each number of the set into which an embedding
   -- exists, or zero where the slot has nothing."
-  unfoldable pub slotBlock : (ℕ → Place) → Slot → List ℕ
+  unfoldable pub slotBlock : (ℕ → Holding) → Slot → List ℕ
   slotBlock molecules nothing = emptyBlock
   slotBlock molecules (keeps m set) = encodeEntry m set (λ d. set d && embedsAt m (molecules d))
 

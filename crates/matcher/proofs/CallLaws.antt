@@ -9,14 +9,13 @@ use borrow.Author.Tests.{lt-ltb, le-ltb, ltb-false}
 use Rattle.strand.specs.declared.Refusal.{Refusal}
 use Rattle.strand.specs.declared.Verdict.{Verdict}
 use Rattle.strand.specs.declared.Verdict.the-variants as verdict
-use Rattle.strand.specs.Strands.{Proper}
-use Rattle.strand.specs.Refusals.{refusal, row, first, pairVerdict}
+use Rattle.strand.specs.Strands.{Proper, moleculeSide}
+use Rattle.strand.specs.Refusals.{refusal, first, pairVerdict}
 use Rattle.strand.proofs.VerdictLaws.{row-yes, row-no, row-pass, first-pass, pair-proper}
 use Rattle.matcher.specs.declared.Matched.the-variants.{Prefix, Refused}
-use Rattle.rows.specs.Rows.{Setting}
-use Rattle.matcher.specs.Trace.{Laid}
-use Rattle.matcher.specs.Answers.{Shown, Searchable, workSize, workRow, placesRow, answerOf, lengthVerdict, showVerdict}
-use Rattle.matcher.proofs.Top.{setting-of}
+use Rattle.rows.specs.Rows.{Setting, workSize}
+use Rattle.trace.specs.Trace.{Laid}
+use Rattle.matcher.specs.Answers.{Shown, Searchable, workRow, placesRow, answerOf, lengthVerdict, showVerdict}
 
 -- The answer by a verdict v.
 module _ (v : Verdict) (L : ℕ) where
@@ -29,23 +28,20 @@ module _ (v : Verdict) (L : ℕ) where
   answer-prefix k e h = rw (e, h)
 
 -- Accepted strands can be searched.
-pub searchable-of : {p pm q qm : List ℕ} {a b c d s t : ℕ} → b ≤ 4096 → d ≤ 4096 → Proper s a b p pm → Proper t c d q qm → Searchable p pm q qm
+pub searchable-of : {p pm q qm : List ℕ} {a b c d s : ℕ} → b ≤ 4096 → d ≤ 4096 → Proper s a b p pm → Proper moleculeSide c d q qm → Searchable p pm q qm
 searchable-of hb hd P Q =
     record {
-      same = P .same;
-      small = (let z = P .small in omega arith);
+      window = record { same = P .same; small = (let z = P .small in omega arith); order = omega arith; ends = omega arith };
       motif = P .nested;
       equal = Q .same;
       short = (let z = Q .small in omega arith);
+      bases = Q .letters;
       molecule = Q .nested;
     }
 
 module _ (p pm q qm : List ℕ) where
   pub pair-searchable : pairVerdict p pm q qm ≡ verdict.Accepted → Searchable p pm q qm
   pair-searchable e = let P = pair-proper p pm q qm e in searchable-of {a = 1} {c = 1} (omega arith) (omega arith) (P .motif) (P .molecule)
-
-  pub pair-setting : pairVerdict p pm q qm ≡ verdict.Accepted → Setting p pm q qm 0 (length p)
-  pair-setting e = setting-of (pair-searchable e)
 
   module _ (work : ℕ) where
     work-no : workSize (length p) (length q) ≤ work → workRow (length p) (length q) work ≡ verdict.Accepted
@@ -101,13 +97,17 @@ module _ (p pm q qm : List ℕ) where
           unfolding showVerdict first
           show-accepts h = rw (e, places-no, work-no h)
 
-      pub show-facts : showVerdict p pm q qm places work ≡ verdict.Accepted
-          → Setting p pm q qm 0 (length p) × (length p ≤ places) × (workSize (length p) (length q) ≤ work)
+      pub show-rows : showVerdict p pm q qm places work ≡ verdict.Accepted
+          → (pairVerdict p pm q qm ≡ verdict.Accepted) × (length p ≤ places) × (workSize (length p) (length q) ≤ work)
       unfolding showVerdict
-      show-facts e =
+      show-rows e =
           let a = first-pass (pairVerdict p pm q qm) (placesRow (length p) places ∷ workRow (length p) (length q) work ∷ []) e in
           let b = first-pass (placesRow (length p) places) (workRow (length p) (length q) work ∷ []) (a .1) in
-          (pair-setting (a .0), ltb-false _ _ (row-pass 9 2 _ (b .0)), work-of (b .1))
+          (a .0, ltb-false _ _ (row-pass 9 2 _ (b .0)), work-of (b .1))
+
+      pub show-facts : showVerdict p pm q qm places work ≡ verdict.Accepted
+          → Setting p pm q qm 0 (length p) × (length p ≤ places) × (workSize (length p) (length q) ≤ work)
+      show-facts e = let a = show-rows e in (pair-searchable (a .0), a .1, a .2)
 
 -- Places laid from 0 are places shown.
 pub shown-of : {p pm q qm : List ℕ} {k : ℕ} {old new : List ℕ} → Laid p pm q qm 0 k 0 (length q) old new → Shown p pm q qm k old new

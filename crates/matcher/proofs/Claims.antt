@@ -1,9 +1,8 @@
--- The call length answers L exactly when L is the longest, for all inputs: `LengthSays` of specs/Answers. Assumes nothing.
-use Prim.Native.Nat.{ℕ, _≤_}
+-- The claims of specs/Answers hold. Assumes nothing.
+use Prim.Native.Nat.{ℕ}
 use mathlib.Core.Path.{_≡_, refl, sym}
 use mathlib.Core.List.{List}
 use native.Mathlib.Omega.{arith}
-use lib.ListN.{length}
 use Rattle.strand.specs.declared.Verdict.{Verdict}
 use Rattle.strand.specs.declared.Verdict.the-variants as verdict
 use Rattle.strand.specs.Strands.{lettersMatch}
@@ -12,8 +11,8 @@ use Rattle.embedding.specs.Longest.{longest}
 use Rattle.embedding.specs.Statements.{IsLongest}
 use Rattle.embedding.proofs.Claims as embedding
 use Rattle.matcher.specs.declared.Matched.the-variants.{Prefix}
-use Rattle.matcher.specs.Answers.{workSize, answerOf, lengthVerdict, lengthAnswer, LengthSays}
-use Rattle.matcher.proofs.CallLaws.{answer-prefix, pair-searchable, length-rows, length-accepts}
+use Rattle.matcher.specs.Answers.{answerOf, lengthVerdict, lengthAnswer, LengthSays, showVerdict, showAnswer, ShowSays, Claims}
+use Rattle.matcher.proofs.CallLaws.{answer-prefix, pair-searchable, length-rows, length-accepts, show-rows, show-accepts}
 
 -- An answer that is a prefix was accepted, and is the length.
 prefix-of : (v : Verdict) (K L : ℕ) → answerOf v K ≡ Prefix L → (v ≡ verdict.Accepted) × (K ≡ L)
@@ -21,23 +20,36 @@ unfolding answerOf
 prefix-of (verdict.Refused x) K L e = absurd (let y : _≡_ {A = ℕ} 0 1 = cc in omega arith)
 prefix-of verdict.Accepted K L e = (refl, cc)
 
-module _ (p pm q qm : List ℕ) (work L : ℕ) where
-  says-of : lengthAnswer p pm q qm work ≡ Prefix L
-      → (pairVerdict p pm q qm ≡ verdict.Accepted) × (workSize (length p) (length q) ≤ work) × IsLongest lettersMatch p pm q qm L
-  unfolding lengthAnswer
-  says-of e =
-      let a = prefix-of (lengthVerdict p pm q qm work) (longest lettersMatch p pm q qm) L e in
-      let b = length-rows p pm q qm work (a .0) in
-      let I = embedding.claims .longest-is lettersMatch p pm q qm (pair-searchable p pm q qm (b .0) .motif .inside) in
-      (b .0, b .1, rw (a .1) at I)
+-- Of accepted strands the length is the longest, and an accepting verdict v answers it.
+module _ (p pm q qm : List ℕ) (L : ℕ) (e : pairVerdict p pm q qm ≡ verdict.Accepted) where
+  is-longest : longest lettersMatch p pm q qm ≡ L → IsLongest lettersMatch p pm q qm L
+  is-longest h = rw h at (embedding.claims .longest-is lettersMatch p pm q qm (pair-searchable p pm q qm e .motif .inside))
 
-  of-says : pairVerdict p pm q qm ≡ verdict.Accepted → workSize (length p) (length q) ≤ work → IsLongest lettersMatch p pm q qm L
-      → lengthAnswer p pm q qm work ≡ Prefix L
-  unfolding lengthAnswer
-  of-says e h I =
+  answers-longest : IsLongest lettersMatch p pm q qm L → (v : Verdict) → verdict.Accepted ≡ v → answerOf v (longest lettersMatch p pm q qm) ≡ Prefix L
+  answers-longest I v h =
       sym
-      (answer-prefix (lengthVerdict p pm q qm work) (longest lettersMatch p pm q qm) L (sym (length-accepts p pm q qm work e h))
+      (answer-prefix v (longest lettersMatch p pm q qm) L (sym h)
       (embedding.claims .longest-only lettersMatch p pm q qm (pair-searchable p pm q qm e .motif .inside) L I))
 
-  pub length-says : LengthSays p pm q qm work L
-  length-says = (says-of, λ h. of-says (h .0) (h .1) (h .2))
+length-says : (p pm q qm : List ℕ) (work L : ℕ) → LengthSays p pm q qm work L
+unfolding lengthAnswer
+length-says p pm q qm work L = (
+  (λ e.
+      let a = prefix-of (lengthVerdict p pm q qm work) (longest lettersMatch p pm q qm) L e in
+      let b = length-rows p pm q qm work (a .0) in
+      (b .0, b .1, is-longest p pm q qm L (b .0) (a .1))),
+  (λ h. answers-longest p pm q qm L (h .0) (h .2) (lengthVerdict p pm q qm work) (length-accepts p pm q qm work (h .0) (h .1))),
+)
+
+show-says : (p pm q qm : List ℕ) (places work L : ℕ) → ShowSays p pm q qm places work L
+unfolding showAnswer
+show-says p pm q qm places work L = (
+  (λ e.
+      let a = prefix-of (showVerdict p pm q qm places work) (longest lettersMatch p pm q qm) L e in
+      let b = show-rows p pm q qm work places (a .0) in
+      (b .0, b .1, b .2, is-longest p pm q qm L (b .0) (a .1))),
+  (λ h. answers-longest p pm q qm L (h .0) (h .3) (showVerdict p pm q qm places work) (show-accepts p pm q qm work places (h .0) (h .1) (h .2))),
+)
+
+pub claims : Claims
+claims = record { length-says = length-says; show-says = show-says }

@@ -1,6 +1,3 @@
-pub mod Top
-pub mod Turning
-pub mod Descent
-pub mod Levels
+pub mod Whole
 pub mod CallLaws
 pub mod Claims

@@ -1,5 +1,5 @@
--- The calls length and show: what they answer. Assumes nothing.
-use Prim.Native.Nat.{ℕ, _+_, _*_, _≤_}
+-- The calls length and show: what they answer, and what is claimed of it. Assumes nothing.
+use Prim.Native.Nat.{ℕ, _≤_}
 use mathlib.Core.Path.{_≡_}
 use mathlib.Core.Logic.{_↔_}
 use mathlib.Core.List.{List, [], _∷_}
@@ -8,17 +8,14 @@ use lib.ListN.{length}
 use Rattle.strand.specs.declared.Verdict.{Verdict}
 use Rattle.strand.specs.declared.Verdict.the-variants as verdict
 use Rattle.strand.specs.Vocabulary.{nth}
-use Rattle.strand.specs.Strands.{Nested, lettersMatch, noSide}
-use Rattle.strand.specs.Refusals.{workTooShort, wrongSlice, row, first, greatestLength, pairVerdict}
+use Rattle.strand.specs.Strands.{lettersMatch, noSide}
+use Rattle.strand.specs.Refusals.{workTooShort, wrongSlice, row, first, pairVerdict}
 use Rattle.embedding.specs.Embedding.{letters, Emb}
 use Rattle.embedding.specs.Longest.{longest}
 use Rattle.embedding.specs.Statements.{IsLongest}
+use Rattle.rows.specs.Rows.{Setting, workSize}
 use Rattle.matcher.specs.declared.Matched.{Matched}
 use Rattle.matcher.specs.declared.Matched.the-variants.{Prefix, Refused}
-
--- 01: a work slice of at least 64 × (m + 1) + 8 × n entries.
-abbrev pub workSize : ℕ → ℕ → ℕ
-workSize m n = 64 * (m + 1) + 8 * n
 
 -- Row 8: work too short. Row 9: show's slice below m.
 abbrev pub workRow : ℕ → ℕ → ℕ → Verdict
@@ -53,20 +50,22 @@ showVerdict p pm q qm places work =
 unfoldable pub showAnswer : List ℕ → List ℕ → List ℕ → List ℕ → ℕ → ℕ → Matched
 showAnswer p pm q qm places work = answerOf (showVerdict p pm q qm places work) (longest lettersMatch p pm q qm)
 
+-- 01, Show: an accepted call answers L exactly when the closed prefix of L bases embeds and no longer one does.
+abbrev pub ShowSays : List ℕ → List ℕ → List ℕ → List ℕ → ℕ → ℕ → ℕ → Type 0
+ShowSays p pm q qm places work L =
+    (showAnswer p pm q qm places work ≡ Prefix L)
+    ↔ ((pairVerdict p pm q qm ≡ verdict.Accepted) × (length p ≤ places) × (workSize (length p) (length q) ≤ work)
+    × IsLongest lettersMatch p pm q qm L)
+
 -- 01, Show: the first L places are an embedding of the prefix of L bases, and later entries keep their values.
 pub record Shown (p pm q qm : List ℕ) (L : ℕ) (old new : List ℕ) : Type 0 where
   pub long : length new ≡ length old
   pub embeds : Emb (letters p q) (nth pm) (nth qm) 0 L 0 (length q) (nth new)
   pub kept : (k : ℕ) → L ≤ k → nth new k ≡ nth old k
 
--- For proofs: what the search asks of the two strands. Accepted strands meet it, and so do the strands of a query.
-pub record Searchable (p pm q qm : List ℕ) : Type 0 where
-  pub same : length pm ≡ length p
-  pub small : length p ≤ greatestLength
-  pub motif : Nested (nth pm) (length p)
-  pub equal : length qm ≡ length q
-  pub short : length q ≤ greatestLength
-  pub molecule : Nested (nth qm) (length q)
+-- What `walk::prefix_length` asks of the two strands. Accepted strands meet it, and so do the strands of a query.
+abbrev pub Searchable : List ℕ → List ℕ → List ℕ → List ℕ → Type 0
+Searchable p pm q qm = Setting p pm q qm 0 (length p)
 
 -- After a refusal the work slice and the places are as before. After an accepted call the work slice keeps its length, and the places are
 -- as `Shown` says.
@@ -77,3 +76,8 @@ WorkKept (Refused x) before after = after ≡ before
 unfoldable pub PlacesShown : Matched → List ℕ → List ℕ → List ℕ → List ℕ → List ℕ → List ℕ → Type 0
 PlacesShown (Prefix L) p pm q qm before after = Shown p pm q qm L before after
 PlacesShown (Refused x) p pm q qm before after = after ≡ before
+
+-- What is claimed of the two answers, for all lists; `claims`, in proofs/Claims, proves it.
+pub record Claims : Type 0 where
+  pub length-says : (p pm q qm : List ℕ) (work L : ℕ) → LengthSays p pm q qm work L
+  pub show-says : (p pm q qm : List ℕ) (places work L : ℕ) → ShowSays p pm q qm places work L

@@ -1,5 +1,4 @@
 // The matcher: the longest closed prefix of a motif that embeds in a molecule, and an embedding of it.
-mod trace;
 pub mod walk;
 
 use strand::Refusal;

@@ -1,22 +1,17 @@
 // The walk over the top of the molecule, from left to right: how far the motif is taken.
 use rows::row;
+use rows::tables;
 use rows::tree;
 ghost use mathlib.Core.Path.{_≡_};
-ghost use Prim.Native.Nat.{_+_, _≤_, _<_, min};
+ghost use Prim.Native.Nat.{_+_, _*_, _≤_, _<_};
 ghost use lib.ListN.{length};
 ghost use Rattle.strand.specs.Vocabulary.{nth};
-ghost use Rattle.strand.specs.Strands.{Nested, lettersMatch};
+ghost use Rattle.strand.specs.Strands.{lettersMatch};
 ghost use Rattle.embedding.specs.Row.{Best};
 ghost use Rattle.embedding.specs.Embedding.{letters};
 ghost use Rattle.embedding.specs.Longest.{longest};
-ghost use Rattle.rows.specs.Rows.{Setting, Partners};
-ghost use Rattle.matcher.specs.Answers.{workSize, Searchable};
-
-pub fn smaller(a: usize, b: usize) -> usize
-    ensures { λ r. ⌜ r ≡ min a b ⌝ }
-{
-    if a < b { a } else { b }
-}
+ghost use Rattle.rows.specs.Rows.{Setting, Tables, workSize};
+ghost use Rattle.matcher.specs.Answers.{Searchable};
 
 // How far the arc l, r takes the motif from cur on. An arc takes no more positions than it has bases: its row is made for that window alone.
 fn arc_end(
@@ -28,38 +23,25 @@ fn arc_end(
     l: usize,
     r: usize,
     work: &mut [u16],
-    partner: &[u8],
+    tables: &[u16],
 ) -> usize
     requires { ⌜ Setting (now p) (now pm) (now q) (now qm) cur (length (now p)) ⌝ }
     requires { ⌜ cur < length (now p) ⌝ }
     requires { ⌜ (l < r) × ((r < length (now q)) × (nth (now qm) l ≡ r)) ⌝ }
     requires { ⌜ workSize (length (now p)) (length (now q)) ≤ length (now work) ⌝ }
-    requires { ⌜ Partners (now p) (now pm) (now partner) ⌝ }
+    requires { ⌜ Tables (now p) (now pm) (now tables) ⌝ }
     ensures { λ k. ⌜ Best (letters (now (p .entry)) (now (q .entry))) (nth (now (pm .entry))) (nth (now (qm .entry))) (length (now (p .entry))) cur k l (r + 1) ⌝ }
 {
-    let to = smaller(p.len(), cur + (r + 1 - l));
-    tree::inner_row(p, pm, cur, to, q, qm, l, r, q.len(), work, partner);
+    let to = tree::smaller(p.len(), cur + (r + 1 - l));
+    tree::inner_row(p, pm, cur, to, q, qm, l, r, q.len(), work, tables);
     row::arc_entry(p, pm, to, cur, q[l], q[r], work[cur], work[cur + 1]) as usize
 }
 
-// Writes the letters of the motif's mates.
-pub fn partners(p: &[u8], pm: &[u16], partner: &mut [u8])
-    requires { ⌜ (length (now pm) ≡ length (now p)) × (length (now p) ≤ length (now partner)) ⌝ }
-    requires { ⌜ Nested (nth (now pm)) (length (now p)) ⌝ }
-    ensures { λ _. ⌜ Partners (now (p .entry)) (now (pm .entry)) (now (partner .exit)) ⌝ }
-{
-    let mut j = 0;
-    while j < p.len() {
-        partner[j] = p[pm[j] as usize];
-        j += 1;
-    }
-}
-
 // How far the whole motif is taken by the whole molecule.
-fn whole_end(p: &[u8], pm: &[u16], q: &[u8], qm: &[u16], work: &mut [u16], partner: &[u8]) -> usize
+fn whole_end(p: &[u8], pm: &[u16], q: &[u8], qm: &[u16], work: &mut [u16], tables: &[u16]) -> usize
     requires { ⌜ Setting (now p) (now pm) (now q) (now qm) 0 (length (now p)) ⌝ }
     requires { ⌜ workSize (length (now p)) (length (now q)) ≤ length (now work) ⌝ }
-    requires { ⌜ Partners (now p) (now pm) (now partner) ⌝ }
+    requires { ⌜ Tables (now p) (now pm) (now tables) ⌝ }
     ensures { λ k. ⌜ k ≡ longest lettersMatch (now (p .entry)) (now (pm .entry)) (now (q .entry)) (now (qm .entry)) ⌝ }
 {
     let m = p.len();
@@ -71,7 +53,7 @@ fn whole_end(p: &[u8], pm: &[u16], q: &[u8], qm: &[u16], work: &mut [u16], partn
         }
         let r = tree::mate(qm, i);
         if i < r {
-            cur = arc_end(p, pm, q, qm, cur, i, r, work, partner);
+            cur = arc_end(p, pm, q, qm, cur, i, r, work, tables);
         } else {
             cur = row::unit(p, pm, m, cur, q[i]);
         }
@@ -80,21 +62,33 @@ fn whole_end(p: &[u8], pm: &[u16], q: &[u8], qm: &[u16], work: &mut [u16], partn
     cur
 }
 
+// As `prefix_length`, with room lent for the tables of the motif.
 fn prepared_end(
     p: &[u8],
     pm: &[u16],
     q: &[u8],
     qm: &[u16],
     work: &mut [u16],
-    partner: &mut [u8],
+    tables: &mut [u16],
 ) -> usize
     requires { ⌜ Setting (now p) (now pm) (now q) (now qm) 0 (length (now p)) ⌝ }
     requires { ⌜ workSize (length (now p)) (length (now q)) ≤ length (now work) ⌝ }
-    requires { ⌜ length (now partner) ≡ 4096 ⌝ }
+    requires { ⌜ 5 * (length (now p) + 1) ≤ length (now tables) ⌝ }
     ensures { λ k. ⌜ k ≡ longest lettersMatch (now (p .entry)) (now (pm .entry)) (now (q .entry)) (now (qm .entry)) ⌝ }
 {
-    partners(p, pm, partner);
-    whole_end(p, pm, q, qm, work, partner)
+    tables::fill(tables, p, pm);
+    whole_end(p, pm, q, qm, work, tables)
+}
+
+// As `prefix_length`, for a motif of a query: its tables take little room.
+fn short_end(p: &[u8], pm: &[u16], q: &[u8], qm: &[u16], work: &mut [u16]) -> usize
+    requires { ⌜ Searchable (now p) (now pm) (now q) (now qm) ⌝ }
+    requires { ⌜ workSize (length (now p)) (length (now q)) ≤ length (now work) ⌝ }
+    requires { ⌜ length (now p) ≤ 120 ⌝ }
+    ensures { λ k. ⌜ k ≡ longest lettersMatch (now (p .entry)) (now (pm .entry)) (now (q .entry)) (now (qm .entry)) ⌝ }
+{
+    let mut tables = [0u16; 605];
+    prepared_end(p, pm, q, qm, work, &mut tables)
 }
 
 // The length of the longest closed prefix of the motif that embeds in the molecule. What it asks of its inputs holds where both strands are accepted:
@@ -104,6 +98,9 @@ pub fn prefix_length(p: &[u8], pm: &[u16], q: &[u8], qm: &[u16], work: &mut [u16
     requires { ⌜ workSize (length (now p)) (length (now q)) ≤ length (now work) ⌝ }
     ensures { λ k. ⌜ k ≡ longest lettersMatch (now (p .entry)) (now (pm .entry)) (now (q .entry)) (now (qm .entry)) ⌝ }
 {
-    let mut partner = [0u8; 4096];
-    prepared_end(p, pm, q, qm, work, &mut partner)
+    if p.len() <= 120 {
+        return short_end(p, pm, q, qm, work);
+    }
+    let mut tables = [0u16; 20485];
+    prepared_end(p, pm, q, qm, work, &mut tables)
 }

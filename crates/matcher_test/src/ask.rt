@@ -1,11 +1,16 @@
 // One call: length or show on the strands and with the slices of a line, its answer against the wanted one, and every lent slice.
 use super::brute;
 use super::strands;
-use super::tally;
-use super::tally::Tally;
 use super::text;
 use embedding::Verified;
 use matcher::Matched;
+
+// The number that a call answered, how many bases its motif has, and whether all is as it should be.
+pub struct Asked {
+    pub got: usize,
+    pub motif: usize,
+    pub right: bool,
+}
 
 // The number of an answer: its length, or row, side and place of its refusal.
 fn code(row: usize, side: usize, place: usize) -> usize {
@@ -53,47 +58,20 @@ fn verified(p: &[u8], pm: &[u16], q: &[u8], qm: &[u16], places: &[u16], k: usize
 }
 
 // After a refusal no entry is changed; else none behind the lent part of the work slice or behind the places of the prefix.
-fn kept(got: usize, call: usize, places: &[u16], work: &[u16], lent: usize) -> bool {
+fn kept(line: &[u8], call: usize, got: usize, places: &[u16], work: &[u16]) -> bool {
     if 4096 < got {
         if untouched(places, 0) {
             return untouched(work, 0);
         }
         return false;
     }
-    if !untouched(work, lent) {
+    if !untouched(work, text::number(line, 59)) {
         return false;
     }
     if call == 0 {
         return untouched(places, 0);
     }
     untouched(places, got)
-}
-
-fn right(
-    got: usize,
-    want: usize,
-    call: usize,
-    p: &[u8],
-    pm: &[u16],
-    q: &[u8],
-    qm: &[u16],
-    places: &[u16],
-    work: &[u16],
-    lent: usize,
-) -> bool {
-    if got != want {
-        return false;
-    }
-    if !kept(got, call, places, work, lent) {
-        return false;
-    }
-    if call == 0 {
-        return true;
-    }
-    if 4096 < got {
-        return true;
-    }
-    verified(p, pm, q, qm, places, got)
 }
 
 fn searched(p: &[u8], pm: &[u16], q: &[u8], qm: &[u16]) -> usize {
@@ -113,8 +91,35 @@ fn wanted(line: &[u8], p: &[u8], pm: &[u16], q: &[u8], qm: &[u16]) -> usize {
     )
 }
 
-// Calls length (0) or show (1).
+fn right(
+    line: &[u8],
+    call: usize,
+    got: usize,
+    p: &[u8],
+    pm: &[u16],
+    q: &[u8],
+    qm: &[u16],
+    places: &[u16],
+    work: &[u16],
+) -> bool {
+    if got != wanted(line, p, pm, q, qm) {
+        return false;
+    }
+    if !kept(line, call, got, places, work) {
+        return false;
+    }
+    if call == 0 {
+        return true;
+    }
+    if 4096 < got {
+        return true;
+    }
+    verified(p, pm, q, qm, places, got)
+}
+
+// Calls length (0) or show (1), which are lent as many places and entries of work as the line says.
 fn answer(
+    line: &[u8],
     call: usize,
     p: &[u8],
     pm: &[u16],
@@ -123,124 +128,57 @@ fn answer(
     places: &mut [u16],
     work: &mut [u16],
 ) -> usize {
-    if call == 0 {
-        return code_of(matcher::length(p, pm, q, qm, work));
-    }
-    code_of(matcher::show(p, pm, q, qm, places, work))
-}
-
-// The tally with one more call, and the line written where it is wrong.
-fn judged(t: Tally, line: &[u8], got: usize, m: usize, ok: bool) -> Tally {
-    if !ok {
-        tally::say(b"wrong: ");
-        tally::say(line);
-        tally::number(b" gave ", got);
-        tally::say(b"\n");
-    }
-    tally::counted(t, got, m, ok)
-}
-
-fn asked(
-    t: Tally,
-    line: &[u8],
-    call: usize,
-    p: &[u8],
-    pm: &[u16],
-    q: &[u8],
-    qm: &[u16],
-    places: &mut [u16],
-    work: &mut [u16],
-) -> Tally {
     let e = text::number(line, 52);
     let f = text::number(line, 59);
     if places.len() < e {
-        return judged(t, line, 0, 0, false);
+        return 999999999;
     }
     if work.len() < f {
-        return judged(t, line, 0, 0, false);
+        return 999999999;
     }
-    let got = answer(call, p, pm, q, qm, &mut places[0..e], &mut work[0..f]);
-    let want = wanted(line, p, pm, q, qm);
-    let ok = right(got, want, call, p, pm, q, qm, places, work, f);
-    judged(t, line, got, p.len(), ok)
+    if call == 0 {
+        return code_of(matcher::length(p, pm, q, qm, &mut work[0..f]));
+    }
+    code_of(matcher::show(p, pm, q, qm, &mut places[0..e], &mut work[0..f]))
 }
 
-// Cuts the strands to their lengths.
-fn cut(
-    t: Tally,
-    line: &[u8],
-    call: usize,
-    p: &[u8],
-    pm: &[u16],
-    q: &[u8],
-    qm: &[u16],
-    places: &mut [u16],
-    work: &mut [u16],
-) -> Tally {
-    let a = strands::bases_of(line, 2);
-    let b = strands::mates_of(line, 2);
-    let c = strands::bases_of(line, 27);
-    let d = strands::mates_of(line, 27);
-    if p.len() < a {
-        return judged(t, line, 0, 0, false);
+// The call and its judgement, over fresh slices.
+fn with_pair(line: &[u8], call: usize, p: &[u8], pm: &[u16], q: &[u8], qm: &[u16]) -> Asked {
+    let mut places = [51966u16; 4100];
+    let mut work = [51966u16; 294980];
+    let got = answer(line, call, p, pm, q, qm, &mut places, &mut work);
+    Asked {
+        got,
+        motif: p.len(),
+        right: right(line, call, got, p, pm, q, qm, &places, &work),
     }
-    if pm.len() < b {
-        return judged(t, line, 0, 0, false);
-    }
-    if q.len() < c {
-        return judged(t, line, 0, 0, false);
-    }
-    if qm.len() < d {
-        return judged(t, line, 0, 0, false);
-    }
-    asked(
-        t,
+}
+
+// Makes the molecule of round i.
+fn with_motif(line: &[u8], i: usize, call: usize, p: &[u8], pm: &[u16]) -> Asked {
+    let mut q = [0u8; 4097];
+    let mut qm = [0u16; 4097];
+    strands::make(line, 27, i, &mut q, &mut qm);
+    with_pair(
         line,
         call,
-        &p[0..a],
-        &pm[0..b],
-        &q[0..c],
-        &qm[0..d],
-        places,
-        work,
+        p,
+        pm,
+        strands::bases_of(line, 27, &q),
+        strands::mates_of(line, 27, &qm),
     )
 }
 
-fn made(
-    t: Tally,
-    line: &[u8],
-    i: usize,
-    call: usize,
-    p: &mut [u8],
-    pm: &mut [u16],
-    q: &mut [u8],
-    qm: &mut [u16],
-    places: &mut [u16],
-    work: &mut [u16],
-) -> Tally {
-    strands::make(line, 2, i, p, pm);
-    strands::make(line, 27, i, q, qm);
-    cut(t, line, call, p, pm, q, qm, places, work)
-}
-
-// The call of round i, with fresh slices.
-pub fn ask(t: Tally, line: &[u8], i: usize, call: usize) -> Tally {
+// The call of round i.
+pub fn ask(line: &[u8], i: usize, call: usize) -> Asked {
     let mut p = [0u8; 4097];
     let mut pm = [0u16; 4097];
-    let mut q = [0u8; 4097];
-    let mut qm = [0u16; 4097];
-    let mut places = [51966u16; 4100];
-    let mut work = [51966u16; 294980];
-    made(
-        t,
+    strands::make(line, 2, i, &mut p, &mut pm);
+    with_motif(
         line,
         i,
         call,
-        &mut p,
-        &mut pm,
-        &mut q,
-        &mut qm,
-        &mut places,
-        &mut work,
+        strands::bases_of(line, 2, &p),
+        strands::mates_of(line, 2, &pm),
     )
 }

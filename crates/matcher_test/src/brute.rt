@@ -26,14 +26,12 @@ fn closed(pm: &[u16], k: usize) -> bool {
     true
 }
 
-// Position i may go to v after the places of those before it: the same base, and an arc to one of them exactly where the places are an arc.
-fn fits(p: &[u8], pm: &[u16], q: &[u8], qm: &[u16], at: &[u16], i: usize, v: usize) -> bool {
-    if text::byte_at(p, i) != text::byte_at(q, v) {
-        return false;
-    }
+// A position whose mate is a may go to one whose mate is b, after the places of the first i positions: an arc to one of them exactly where
+// the places are an arc.
+fn arcs_fit(a: usize, b: usize, at: &[u16], i: usize) -> bool {
     let mut x = 0;
     while x < i {
-        if (get(pm, i) == x) != (get(qm, v) == get(at, x)) {
+        if (a == x) != (b == get(at, x)) {
             return false;
         }
         x += 1;
@@ -41,8 +39,24 @@ fn fits(p: &[u8], pm: &[u16], q: &[u8], qm: &[u16], at: &[u16], i: usize, v: usi
     true
 }
 
+// Position i may go to v after the places of those before it: the same base, and arcs that fit.
+fn fits(p: &[u8], pm: &[u16], q: &[u8], qm: &[u16], at: &[u16], i: usize, v: usize) -> bool {
+    if text::byte_at(p, i) != text::byte_at(q, v) {
+        return false;
+    }
+    arcs_fit(get(pm, i), get(qm, v), at, i)
+}
+
 fn greater(a: usize, b: usize) -> usize {
     if a < b { b } else { a }
+}
+
+// The first i positions as a prefix: how many they are if it is closed, else 0.
+fn prefix(pm: &[u16], i: usize) -> usize {
+    if closed(pm, i) {
+        return i;
+    }
+    0
 }
 
 // The longest closed prefix that is reached from the places of the first i positions, when later ones go to v or behind it.
@@ -55,20 +69,16 @@ pub fn longest(
     i: usize,
     v: usize,
 ) -> usize {
-    let mut best = 0;
-    if closed(pm, i) {
-        best = i;
-    }
     if q.len() <= v {
-        return best;
+        return prefix(pm, i);
     }
     if p.len() <= i {
-        return best;
+        return prefix(pm, i);
     }
-    best = greater(best, longest(p, pm, q, qm, at, i, v + 1));
-    if fits(p, pm, q, qm, at, i, v) {
-        strands::put(at, i, v);
-        best = greater(best, longest(p, pm, q, qm, at, i + 1, v + 1));
+    let behind = longest(p, pm, q, qm, at, i, v + 1);
+    if !fits(p, pm, q, qm, at, i, v) {
+        return behind;
     }
-    best
+    strands::put(at, i, v);
+    greater(behind, longest(p, pm, q, qm, at, i + 1, v + 1))
 }

@@ -17,16 +17,19 @@ mod text;
 
 use tally::Tally;
 
+fn asked(t: Tally, line: &[u8], i: usize, call: usize) -> Tally {
+    tally::judged(t, line, ask::ask(line, i, call))
+}
+
 fn both(t: Tally, line: &[u8], i: usize) -> Tally {
     let kind = text::byte_at(line, 0);
     if kind == b'l' {
-        return ask::ask(t, line, i, 0);
+        return asked(t, line, i, 0);
     }
     if kind == b's' {
-        return ask::ask(t, line, i, 1);
+        return asked(t, line, i, 1);
     }
-    let u = ask::ask(t, line, i, 0);
-    ask::ask(u, line, i, 1)
+    asked(asked(t, line, i, 0), line, i, 1)
 }
 
 fn rounds(line: &[u8]) -> usize {

@@ -116,7 +116,7 @@ fn is_rule(line: &[u8], at: usize) -> bool {
 }
 
 // How many bases the field at `at` has, and how many mates.
-pub fn bases_of(line: &[u8], at: usize) -> usize
+fn bases_in(line: &[u8], at: usize) -> usize
     requires { ⌜ at < 64 ⌝ }
 {
     if is_rule(line, at) {
@@ -125,13 +125,36 @@ pub fn bases_of(line: &[u8], at: usize) -> usize
     text::filled(line, at)
 }
 
-pub fn mates_of(line: &[u8], at: usize) -> usize
+fn mates_in(line: &[u8], at: usize) -> usize
     requires { ⌜ at < 64 ⌝ }
 {
     if is_rule(line, at) {
         return text::number(line, at + 9);
     }
     text::filled(line, at + 11)
+}
+
+// The bases and the mates of the field at `at`, cut from slices that have room for more.
+pub fn bases_of<'a>(line: &[u8], at: usize, bases: &'a [u8]) -> &'a [u8]
+    requires { ⌜ at < 64 ⌝ }
+{
+    let from = 0;
+    let n = bases_in(line, at);
+    if bases.len() < n {
+        return bases;
+    }
+    &bases[from..n]
+}
+
+pub fn mates_of<'a>(line: &[u8], at: usize, mates: &'a [u16]) -> &'a [u16]
+    requires { ⌜ at < 64 ⌝ }
+{
+    let from = 0;
+    let n = mates_in(line, at);
+    if mates.len() < n {
+        return mates;
+    }
+    &mates[from..n]
 }
 
 fn by_rule(line: &[u8], at: usize, seed: usize, bases: &mut [u8], mates: &mut [u16])

@@ -1,4 +1,5 @@
 // Counts of calls, and their report.
+use super::ask::Asked;
 
 // How many calls were made, refused, answered with the whole motif or with no prefix, and wrong.
 pub struct Tally {
@@ -19,22 +20,14 @@ pub fn none() -> Tally {
     }
 }
 
-fn one(yes: bool) -> usize {
-    if yes { 1 } else { 0 }
-}
-
-fn sum(a: usize, b: usize) -> usize {
-    a % 1000000000 + b % 1000000000
-}
-
-// The tally with one more call, whose answer has this number, for a motif of m bases.
-pub fn counted(t: Tally, got: usize, m: usize, right: bool) -> Tally {
+// The tally with one more call.
+fn counted(t: Tally, a: Asked) -> Tally {
     Tally {
-        calls: sum(t.calls, 1),
-        refused: sum(t.refused, one(4096 < got)),
-        whole: sum(t.whole, one(got == m)),
-        empty: sum(t.empty, one(got == 0)),
-        wrong: sum(t.wrong, one(!right)),
+        calls: t.calls % 1000000 + 1,
+        refused: t.refused % 1000000 + (4096 < a.got) as usize % 2,
+        whole: t.whole % 1000000 + (a.got == a.motif) as usize % 2,
+        empty: t.empty % 1000000 + (a.got == 0) as usize % 2,
+        wrong: t.wrong % 1000000 + (!a.right) as usize % 2,
     }
 }
 
@@ -54,4 +47,20 @@ pub fn report(t: Tally) {
     number(b", no prefix ", t.empty);
     number(b", wrong ", t.wrong);
     say(b"\n");
+}
+
+// A wrong call: its line, then the number that it answered.
+fn tell(line: &[u8], got: usize) {
+    say(b"wrong: ");
+    say(line);
+    number(b" gave ", got);
+    say(b"\n");
+}
+
+// The tally with one more call, which is told where it is wrong.
+pub fn judged(t: Tally, line: &[u8], a: Asked) -> Tally {
+    if !a.right {
+        tell(line, a.got);
+    }
+    counted(t, a)
 }

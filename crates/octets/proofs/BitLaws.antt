@@ -12,10 +12,10 @@ use lib.Bits.{bitAnd, bitOr, and-mask, and-shr, and-mod, and-le-l}
 use lib.ListN.{length, set, List·getD-eq-default}
 use lib.Seq.{getD-set-same, getD-set-other, set-out}
 use borrow.Author.Tests.{eq-eqb, ne-eqb, eqb-true}
-use Rattle.strand.specs.Vocabulary.{nth, every}
+use Rattle.strand.specs.Vocabulary.{nth, choose, every}
 use Rattle.octets.specs.Bits.{bitOf, withBit, withoutBit, mapBit, setMap, clearMap, bitsWithin}
 use Rattle.strand.proofs.ListLaws.{every-at, every-true, both-ways}
-use Rattle.octets.proofs.Table.{below, below-at, below₂-at, below₃-at}
+use Rattle.octets.proofs.Table.{same, same→eq, below, below-at, below₂-at, below₃-at}
 
 -- ---- shifts and masks, as the machine computes them at 8 bits
 
@@ -27,14 +27,14 @@ with-test : ℕ → ℕ → Bool
 with-test k b = eqb (bitOr b ((1 * 2 ^ k) % 2 ^ 8)) (withBit b k)
 
 pub with-mask : (b k : ℕ) → b < 256 → k < 8 → bitOr b ((1 * 2 ^ k) % 2 ^ 8) ≡ withBit b k
-unfolding with-test withBit
+unfolding with-test withBit bitOf choose
 with-mask b k hb hk = eqb→eq _ _ (below₂-at with-test 8 256 tt k b hk hb)
 
 without-test : ℕ → ℕ → Bool
 without-test k b = eqb (bitAnd b (255 - (1 * 2 ^ k) % 2 ^ 8)) (withoutBit b k)
 
 pub without-mask : (b k : ℕ) → b < 256 → k < 8 → bitAnd b (255 - (1 * 2 ^ k) % 2 ^ 8) ≡ withoutBit b k
-unfolding without-test withoutBit
+unfolding without-test withoutBit bitOf choose
 without-mask b k hb hk = eqb→eq _ _ (below₂-at without-test 8 256 tt k b hk hb)
 
 -- ---- bit j of a byte whose bit k was set or cleared
@@ -43,16 +43,6 @@ abbrev pub pick : Bool → Bool → Bool → Bool
 pick true a b = a
 pick false a b = b
 
-abbrev same : Bool → Bool → Bool
-same true b = b
-same false b = not b
-
-same→eq : (a b : Bool) → T (same a b) → a ≡ b
-same→eq true true t = refl
-same→eq true false t = absurd t
-same→eq false true t = absurd t
-same→eq false false t = refl
-
 set-test : ℕ → ℕ → ℕ → Bool
 set-test k j b = same (bitOf (withBit b k) j) (pick (eqb j k) true (bitOf b j))
 
@@ -60,11 +50,11 @@ clear-test : ℕ → ℕ → ℕ → Bool
 clear-test k j b = same (bitOf (withoutBit b k) j) (pick (eqb j k) false (bitOf b j))
 
 set-all : T (below (λ k. below (λ j. below (set-test k j) 256) 8) 8)
-unfolding set-test withBit bitOf
+unfolding set-test withBit bitOf choose
 set-all = tt
 
 clear-all : T (below (λ k. below (λ j. below (clear-test k j) 256) 8) 8)
-unfolding clear-test withoutBit bitOf
+unfolding clear-test withoutBit bitOf choose
 clear-all = tt
 
 with-test₂ : ℕ → ℕ → Bool
@@ -75,11 +65,11 @@ without-test₂ k b = ltb (withoutBit b k) 256
 
 module _ (b k : ℕ) (hb : b < 256) (hk : k < 8) where
   pub with-small : withBit b k < 256
-  unfolding with-test₂ withBit
+  unfolding with-test₂ withBit bitOf choose
   with-small = ltb→lt _ _ (below₂-at with-test₂ 8 256 tt k b hk hb)
 
   pub without-small : withoutBit b k < 256
-  unfolding without-test₂ withoutBit
+  unfolding without-test₂ withoutBit bitOf choose
   without-small = ltb→lt _ _ (below₂-at without-test₂ 8 256 tt k b hk hb)
 
   module _ (j : ℕ) (hj : j < 8) where
@@ -144,14 +134,16 @@ module _ (s : List ℕ) (at d : ℕ) (hd : at + d / 8 < length s) where
       unfolding clearMap
       clear-other = bit-other _ at' d' (λ k l n. without-bit (nth s (at + d / 8)) (d % 8) hs (mod8 d) k l ∙ simp (ne-eqb k (d % 8) n)) apart
 
--- Two numbers of one map, and two maps that lie apart, have different bits.
+-- Two numbers of one map have different bits.
 pub apart-in-map : (at d d' : ℕ) → (d' ≡ d → ⊥) → at + d' / 8 ≡ at + d / 8 → d' % 8 ≡ d % 8 → ⊥
 apart-in-map at d d' n e q = n (omega arith)
 
-pub apart-maps : (at at' d d' : ℕ) → d < 512 → d' < 512 → at + 64 ≤ at' → at' + d' / 8 ≡ at + d / 8 → d' % 8 ≡ d % 8 → ⊥
-apart-maps at at' d d' hd hd' h e q = omega arith
-
 -- ---- one byte's bits within another's
+
+-- The byte 0 has no bit.
+pub zero-bit : (k : ℕ) → bitOf 0 k ≡ false
+unfolding bitOf
+zero-bit k = ap (λ (q : ℕ). eqb (q % 2) 1) (zero-div (2 ^ k))
 
 and-test : ℕ → ℕ → Bool
 and-test x y = same (eqb (bitAnd x y) 1) (eqb x 1 && eqb y 1)
@@ -186,9 +178,6 @@ within-mask h b hh hb = both-ways (eqb (bitAnd h (255 - b)) 0) (every 8 (λ k. n
     masked : (k : ℕ) → k < 8 → bitOf x k ≡ (bitOf h k && not (bitOf b k))
     masked k l = and-bit h (255 - b) k ∙ ap (λ (t : Bool). bitOf h k && t) (not-bit b k hb l)
 
-    at-zero : (k : ℕ) → bitOf 0 k ≡ false
-    at-zero k = unfold bitOf in (ap (λ (q : ℕ). eqb (q % 2) 1) (zero-div (2 ^ k)))
-
     flip : (p q : Bool) → (p && not q) ≡ false → (not p || q) ≡ true
     flip true true e = refl
     flip true false e = sym e
@@ -200,7 +189,7 @@ within-mask h b hh hb = both-ways (eqb (bitAnd h (255 - b)) 0) (every 8 (λ k. n
     flop false q e = refl
 
     to : eqb x 0 ≡ true → every 8 (λ k. not (bitOf h k) || bitOf b k) ≡ true
-    to e = every-true _ 8 (λ k l. flip (bitOf h k) (bitOf b k) (sym (masked k l) ∙ ap (λ (y : ℕ). bitOf y k) (eqb-true x 0 e) ∙ at-zero k))
+    to e = every-true _ 8 (λ k l. flip (bitOf h k) (bitOf b k) (sym (masked k l) ∙ ap (λ (y : ℕ). bitOf y k) (eqb-true x 0 e) ∙ zero-bit k))
 
     from : every 8 (λ k. not (bitOf h k) || bitOf b k) ≡ true → eqb x 0 ≡ true
     from e =

@@ -1,4 +1,5 @@
 pub mod Table
+pub mod ByteLaws
 pub mod BitLaws
 pub mod SumLaws
 pub mod MapLaws

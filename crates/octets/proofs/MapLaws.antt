@@ -3,7 +3,7 @@
 use mathlib.Core.Path.{_≡_, refl, sym, ap, ap₂, _∙_}
 use mathlib.Core.Bool.{Bool, true, false, not}
 use mathlib.Core.List.{List, [], _∷_, _++_}
-use Prim.Native.Nat.{ℕ, zero, suc, _+_, _-_, _*_, _/_, _%_, _^_, _<_}
+use Prim.Native.Nat.{ℕ, zero, suc, _+_, _*_, _/_, _%_, _^_, _<_}
 use native.Mathlib.Omega.{arith}
 use lib.Dec.{T, eqb, eqb→eq}
 use lib.ListN.{replicate, length, getD, set, length-set, List·getD-append, List·getD-eq-default}
@@ -12,11 +12,13 @@ use native.Mathlib.Nat.{suc-add, zero-add}
 use native.Mathlib.Decide.{ℕ-discrete, decLt}
 use mathlib.Core.Bool.{_&&_, _||_, and-true, and-false, or-true, or-false}
 use borrow.Author.Tests.{eq-eqb, ne-eqb}
+use Rattle.octets.specs.Numbers.{Bytes}
 use Rattle.octets.specs.Bits.{bitOf, mapBit, setMap, clearMap, withoutBit}
+use Rattle.octets.proofs.ByteLaws.{small-set}
 use Rattle.octets.proofs.BitLaws.{set-same, set-other, clear-same, clear-other, apart-in-map, with-small, without-small}
 use Rattle.strand.specs.Vocabulary.{nth, choose, tab}
 use Rattle.octets.specs.Maps.{bitSum, mapBytes, without}
-use Rattle.octets.proofs.Table.{both, both-left, both-right, below, below-at}
+use Rattle.octets.proofs.Table.{same, same→eq, both, both-left, both-right, below, below-at}
 use Rattle.strand.proofs.ListLaws.{length-tab, nth-tab, tab-ext}
 
 -- ---- a test at both truth values, and at all values of eight of them
@@ -42,16 +44,6 @@ lists-at f p zero l t = t
 lists-at f p (suc n) l t = lists-at f p n (p n ∷ l) (either-at (λ b. lists f n (b ∷ l)) t (p n))
 
 -- ---- a byte
-
-abbrev same : Bool → Bool → Bool
-same true b = b
-same false b = not b
-
-same→eq : (a b : Bool) → T (same a b) → a ≡ b
-same→eq true true t = refl
-same→eq true false t = absurd t
-same→eq false true t = absurd t
-same→eq false false t = refl
 
 bit-test : ℕ → List Bool → Bool
 bit-test k l = same (bitOf (bitSum (λ j. getD l j false) 8) k) (getD l k false)
@@ -113,7 +105,7 @@ map-bit p d h =
     back = omega arith
 
 -- 64 bytes are the map of their bits.
-pub map-is : (m : List ℕ) → length m ≡ 64 → ((i : ℕ) → nth m i < 256) → m ≡ mapBytes (mapBit m 0)
+pub map-is : (m : List ℕ) → length m ≡ 64 → Bytes m → m ≡ mapBytes (mapBit m 0)
 unfolding mapBytes mapBit
 map-is m hm small =
     sym (ext-getD 0 (mapBytes (mapBit m 0)) m (length-tab _ 64 ∙ sym hm) (λ i l. at i (omega (arith, length-tab f 64))))
@@ -143,7 +135,7 @@ sum-lt p (suc n) = go (p n) (sum-lt p n)
     go true h = omega arith
     go false h = omega arith
 
-pub map-small : (p : ℕ → Bool) (i : ℕ) → nth (mapBytes p) i < 256
+pub map-small : (p : ℕ → Bool) → Bytes (mapBytes p)
 unfolding mapBytes
 map-small p i =
     elim (decLt i 64) [
@@ -162,14 +154,7 @@ pub length-clear : (s : List ℕ) (at d : ℕ) → length (clearMap s at d) ≡ 
 unfolding clearMap
 length-clear s at d = length-set s _ _
 
-small-set : (s : List ℕ) (i v : ℕ) → ((j : ℕ) → nth s j < 256) → v < 256 → (j : ℕ) → nth (set s i v) j < 256
-small-set [] i v h hv j = h j
-small-set (x ∷ s) zero v h hv zero = hv
-small-set (x ∷ s) zero v h hv (suc j) = h (suc j)
-small-set (x ∷ s) (suc i) v h hv zero = h 0
-small-set (x ∷ s) (suc i) v h hv (suc j) = small-set s i v (λ k. h (suc k)) hv j
-
-pub small-clear : (s : List ℕ) (at d : ℕ) → ((i : ℕ) → nth s i < 256) → (i : ℕ) → nth (clearMap s at d) i < 256
+pub small-clear : (s : List ℕ) (at d : ℕ) → Bytes s → Bytes (clearMap s at d)
 unfolding clearMap
 small-clear s at d h = small-set s (at + d / 8) _ h (without-small (nth s (at + d / 8)) (d % 8) (h (at + d / 8)) (omega arith))
 
@@ -190,7 +175,7 @@ map-clear p d h = map-is m' len small ∙ map-ext _ _ bit
     len : length m' ≡ 64
     len = length-clear m 0 d ∙ length-map p
 
-    small : (i : ℕ) → nth m' i < 256
+    small : Bytes m'
     small i = small-clear m 0 d (map-small p) i
 
     bit : (x : ℕ) → x < 512 → mapBit m' 0 x ≡ p x && not (eqb x d)
@@ -206,7 +191,7 @@ pub length-set-map : (s : List ℕ) (at d : ℕ) → length (setMap s at d) ≡ 
 unfolding setMap
 length-set-map s at d = length-set s _ _
 
-pub small-set-map : (s : List ℕ) (at d : ℕ) → ((i : ℕ) → nth s i < 256) → (i : ℕ) → nth (setMap s at d) i < 256
+pub small-set-map : (s : List ℕ) (at d : ℕ) → Bytes s → Bytes (setMap s at d)
 unfolding setMap
 small-set-map s at d h = small-set s (at + d / 8) _ h (with-small (nth s (at + d / 8)) (d % 8) (h (at + d / 8)) (omega arith))
 

@@ -4,7 +4,7 @@ use mathlib.Core.Path.{_≡_, refl, sym, ap, ap₂, _∙_}
 use mathlib.Core.Bool.{Bool, false}
 use mathlib.Core.List.{List, _++_}
 use mathlib.Core.Logic.{⊎-elim}
-use Prim.Native.Nat.{ℕ, zero, suc, _+_, _-_, _*_, _<_, _≤_}
+use Prim.Native.Nat.{ℕ, zero, suc, _+_, _*_, _<_, _≤_}
 use native.Mathlib.Omega.{arith}
 use native.Mathlib.Nat.{mul-le-mul, le-of-suc-le-suc, not-suc-le-zero, eq-or-lt-of-le}
 use native.Mathlib.Numerals.{add-one}
@@ -12,6 +12,7 @@ use lib.ListN.{length, set, List·getD-append}
 use lib.Seq.{getD-set-same, getD-set-other}
 use borrow.Author.Tests.{le-leb, lt-leb}
 use Rattle.strand.specs.Vocabulary.{nth, choose}
+use Rattle.octets.specs.Numbers.{Bytes}
 use Rattle.octets.specs.Checksum.{sumTo, checksumOk, checksumTold, rechecked, recheckedWhole}
 
 pub sum-none : (s : List ℕ) → sumTo s 0 ≡ 0
@@ -55,7 +56,7 @@ sum-set s i v (suc n) hs h = ⊎-elim here (λ l. there l (sum-set s i v n hs l)
     there l ih = rw (getD-set-other s i n v 0 (omega arith)) (omega arith)
 
 -- A sum of bytes stays small.
-pub sum-small : (s : List ℕ) (n : ℕ) → ((i : ℕ) → nth s i < 256) → n ≤ 508 → sumTo s n ≤ 129540 * n
+pub sum-small : (s : List ℕ) (n : ℕ) → Bytes s → n ≤ 508 → sumTo s n ≤ 129540 * n
 unfolding sumTo
 sum-small s zero hs h = omega arith
 sum-small s (suc n) hs h =

@@ -1,8 +1,8 @@
--- A test at every number below n, which antt computes at a numeral n, and the test at one of them.
+-- A test at every number below n, which antt computes at a numeral n, and the test at one of them; and equal Booleans as a test.
 -- Assumes nothing.
-use mathlib.Core.Path.{sym, subst}
+use mathlib.Core.Path.{_≡_, refl, sym, subst}
 use mathlib.Core.Logic.{⊎-elim}
-use mathlib.Core.Bool.{Bool, true, false}
+use mathlib.Core.Bool.{Bool, true, false, not}
 use Prim.Native.Nat.{ℕ, zero, suc, _<_}
 use native.Mathlib.Nat.{le-of-suc-le-suc, not-suc-le-zero, eq-or-lt-of-le}
 use lib.Dec.{T}
@@ -18,6 +18,16 @@ both-left false b t = t
 pub both-right : (a b : Bool) → T (both a b) → T b
 both-right true b t = t
 both-right false b t = absurd t
+
+abbrev pub same : Bool → Bool → Bool
+same true b = b
+same false b = not b
+
+pub same→eq : (a b : Bool) → T (same a b) → a ≡ b
+same→eq true true t = refl
+same→eq true false t = absurd t
+same→eq false true t = absurd t
+same→eq false false t = refl
 
 abbrev pub below : (ℕ → Bool) → ℕ → Bool
 below f zero = true

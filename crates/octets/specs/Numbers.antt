@@ -1,10 +1,15 @@
--- Bytes that are zero, and little-endian numbers of two and of four bytes. Assumes nothing.
-use Prim.Native.Nat.{ℕ, _+_, _*_, _/_, _%_}
+-- Bytes, those that are zero, and little-endian numbers of two and of four bytes. Assumes nothing.
+use Prim.Native.Nat.{ℕ, _+_, _*_, _/_, _%_, _<_}
 use mathlib.Core.List.{List, [], _∷_}
 use mathlib.Core.Bool.{Bool}
 use lib.Dec.{eqb}
 use Rattle.strand.specs.Vocabulary.{nth, tab}
 
+-- Every entry is a byte.
+abbrev pub Bytes : List ℕ → Type 0
+Bytes s = (i : ℕ) → nth s i < 256
+
+-- A zero byte.
 abbrev pub isZero : ℕ → Bool
 isZero x = eqb x 0
 

@@ -3,6 +3,7 @@ ghost use mathlib.Core.Path.{_≡_};
 ghost use Prim.Native.Nat.{_+_, _<_};
 ghost use Rattle.octets.specs.Bits.{bitOf, withBit, withoutBit, mapBit, setMap, clearMap, bitsWithin};
 
+// Bit k of a byte; the byte with it set; the byte without it.
 fn bit_of(b: u8, k: u8) -> bool
     requires { ⌜ k < 8 ⌝ }
     ensures { λ r. ⌜ r ≡ bitOf b k ⌝ }

@@ -4,6 +4,7 @@ ghost use Prim.Native.Nat.{_+_, _*_, _≤_};
 ghost use lib.ListN.{length};
 ghost use Rattle.octets.specs.Checksum.{checksumAt, checksumOf, checksumTold, recheckedWhole};
 
+// A byte as a number of 32 bits.
 fn wide32(x: u8) -> u32
     ensures { λ r. ⌜ r ≡ x ⌝ }
 {

@@ -6,6 +6,7 @@ ghost use lib.ListN.{length, drop, replicate};
 ghost use Rattle.strand.specs.Vocabulary.{all, sameList};
 ghost use Rattle.octets.specs.Numbers.{isZero, words, bytesOf};
 
+// Whether every byte is 0.
 pub fn all_zero(s: &[u8]) -> bool
     ensures { λ r. ⌜ r ≡ all isZero (now (s .entry)) ⌝ }
 {
@@ -19,6 +20,7 @@ pub fn all_zero(s: &[u8]) -> bool
     true
 }
 
+// Whether two slices have the same length and the same entries: of bytes, and of 16-bit numbers.
 pub fn same_bytes(a: &[u8], b: &[u8]) -> bool
     ensures { λ r. ⌜ r ≡ sameList (now (a .entry)) (now (b .entry)) ⌝ }
 {
@@ -51,6 +53,7 @@ pub fn same_words(a: &[u16], b: &[u16]) -> bool
     true
 }
 
+// Zero every byte.
 pub fn zero(s: &mut [u8])
     ensures { λ _. ⌜ now (s .exit) ≡ replicate (length (now (s .entry))) 0 ⌝ }
 {
@@ -74,6 +77,7 @@ pub fn copy(src: &[u8], dst: &mut [u8])
     }
 }
 
+// A byte as a number of 16 bits.
 fn wide16(x: u8) -> u16
     ensures { λ r. ⌜ (r ≡ x) × (r < 256) ⌝ }
 {

@@ -137,6 +137,14 @@ module _ {qm : List ℕ} {n : ℕ} (N : Nested (nth qm) n) where
       go (yes x) = (x, omega (arith, S .most c p (omega arith) r, S .arc x))
       go (no x) = absurd (omega (arith, S .none (omega arith), S .most c p (omega arith) r))
 
+  -- Where the search finds no arc, no base is bonded.
+  pub no-arcs : {lo hi h : ℕ} → hi ≤ n → Sealed qm lo hi → Heavy qm lo hi h → hi ≤ h → (u : ℕ) → lo ≤ u → u < hi → nth qm u ≡ u
+  no-arcs {lo} {hi} {h} hn Z H e u a b = go (decLt u (nth qm u)) (decLt (nth qm u) u) where
+    go : Dec (u < nth qm u) → Dec (nth qm u < u) → nth qm u ≡ u
+    go (yes x) y = absurd (omega (arith, H .most u a b x .0))
+    go (no x) (yes y) = absurd (omega (arith, H .most (nth qm u) (Z .low u a b) (omega arith) (omega (arith, N .paired u (omega arith))) .0))
+    go (no x) (no y) = omega arith
+
   -- Beside a longest arc (h, e).
   module _ {lo hi h : ℕ} (Z : Sealed qm lo hi) (hn : hi ≤ n) (H : Heavy qm lo hi h) (lt : h < hi) where
     pub heavy-end : nth qm h < hi
@@ -198,13 +206,13 @@ room-any h g = record { depth = 10; short = omega arith; rows = omega arith }
 pub room-less : {w room : ℕ} (size size′ : ℕ) → size′ ≤ size → Room w size room → Room w size′ room
 room-less size size′ h R = record { depth = R .depth; short = omega (arith, R .short); rows = R .rows }
 
-pub room-one : {w size room : ℕ} → Room w size room → 3 * w ≤ room
+pub room-one : {w size room : ℕ} → Room w size room → 2 * w ≤ room
 room-one R = omega (arith, R .rows)
 
 -- Room for a light arc, past a row.
 pub room-child : {w lo hi room : ℕ} {qm : List ℕ} → LightRoom w qm lo hi room → (c : ℕ) → lo ≤ c → c < hi → c < nth qm c → Room w (nth qm c - c) (room - w)
 room-child {w} {lo} {hi} {room} {qm} L c a b d = go (L .depth) (L .rows) (L .light c a b d) where
-  go : (k : ℕ) → (2 * k + 2) * w ≤ room → 2 * (nth qm c - c + 3) < 8 * 2 ^ k → Room w (nth qm c - c) (room - w)
+  go : (k : ℕ) → (2 * k + 1) * w ≤ room → 2 * (nth qm c - c + 3) < 8 * 2 ^ k → Room w (nth qm c - c) (room - w)
   go zero x y = absurd (omega arith)
   go (suc k) x y = record { depth = k; short = omega arith; rows = omega arith }
 

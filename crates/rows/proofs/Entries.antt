@@ -1,6 +1,6 @@
 -- The entries of units and arcs, case by case as the code goes. Assumes nothing.
-use Prim.Native.Nat.{ℕ, suc, _+_, _≤_, _<_, max}
-use mathlib.Core.Path.{_≡_, refl, ap}
+use Prim.Native.Nat.{ℕ, suc, _≤_, _<_, max}
+use mathlib.Core.Path.{_≡_, refl}
 use mathlib.Core.Bool.{Bool, true, false}
 use native.Mathlib.Omega.{arith}
 use lib.Dec.{ltb, leb}
@@ -33,15 +33,6 @@ module _ (has : ℕ → Bool) (pm : ℕ → ℕ) (z k : ℕ) where
     go true e false t = omega arith
     go true e true false = omega arith
     go true e true true = omega (arith, ltb-true k z e)
-
-  -- A row read at a unit's entry.
-  pub unit-read : (g : ℕ → ℕ) → k < z → choose (leb (pm k) k) (choose (has k) (g (k + 1)) (g k)) (g k) ≡ g (unitAt has pm z k)
-  unfolding unitAt choose
-  unit-read g a = rw (lt-ltb k z a) (go (leb (pm k) k) (has k)) where
-    go : (b t : Bool) → choose b (choose t (g (k + 1)) (g k)) (g k) ≡ g (choose b (choose t (suc k) k) k)
-    go false t = refl
-    go true false = refl
-    go true true = ap g (omega arith)
 
 module _ (left right : ℕ → Bool) (pm : ℕ → ℕ) (z next j : ℕ) where
   pub over-end : z ≤ j → overAt left right pm z next j ≡ 0

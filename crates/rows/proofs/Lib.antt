@@ -4,3 +4,4 @@ pub mod Entries
 pub mod Arcs
 pub mod Made
 pub mod Passes
+pub mod TableLaws

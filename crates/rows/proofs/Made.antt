@@ -2,17 +2,20 @@
 -- Assumes nothing.
 use Prim.Native.Nat.{ℕ, suc, _+_, _-_, _≤_, _<_, min}
 use mathlib.Core.Path.{_≡_, refl, sym, ap, _∙_}
-use mathlib.Core.Bool.{Bool}
+use mathlib.Core.Bool.{Bool, true}
 use mathlib.Core.List.{List}
 use native.Mathlib.Numerals.{add-one}
 use native.Mathlib.Decide.{decLt}
 use native.Mathlib.Omega.{arith}
 use lib.ListN.{length}
 use Rattle.strand.specs.Vocabulary.{nth}
+use Rattle.strand.specs.Strands.{isLetter, moleculeSide}
+use Rattle.strand.proofs.ListLaws.{every-at}
 use Rattle.embedding.specs.Row.{Closed, Split, IsRow, unitAt, arcAt}
 use Rattle.embedding.specs.Embedding.{letters}
 use Rattle.embedding.proofs.Rows.{empty-row, unit-row, combine-row, arc-row, row-from, narrow-row}
 use Rattle.rows.specs.Rows.{Setting, Written, Remade, matches, Prepended, Boxed}
+use Rattle.rows.proofs.Arcs.{Around}
 use Rattle.rows.proofs.Parts.{part, back, part-at, back-under, back-over}
 use Rattle.rows.proofs.Entries.{unit-end, over-end}
 
@@ -29,7 +32,40 @@ module _ (from to w : ℕ) (work ys new : List ℕ) (le : w ≤ length work) (tw
   looked-into W j a b =
       W .done j a (omega arith) ∙ ap (λ (i : ℕ). nth (back w work ys) (w + i)) (back-under w work le ys j (omega arith)) ∙ back-over w work le ys (nth work j)
 
+-- An unbonded base is a stretch of its own.
+unit-split : (qm : List ℕ) (i k hi : ℕ) → suc k ≡ i → nth qm k ≡ k → Split (nth qm) k i hi
+unit-split qm i k hi e b u x y z = absurd (let t : u ≡ k = omega arith in omega (arith, ap (nth qm) t))
+
+-- The row of an empty stretch, and a row under equal names.
+module _ {fit : ℕ → ℕ → Bool} {f g : ℕ → ℕ} {from to : ℕ} where
+  pub none-row : {lo hi : ℕ} {old new : List ℕ} → lo ≡ hi → Written (λ j. j) old new from (to + 1) → IsRow fit f g from to lo hi (nth new)
+  none-row {lo} {hi} {old} {new} e W = rw e (empty-row hi (nth new) (λ j a b. W .done j a (omega arith)))
+
+  pub row-at : {i lo hi : ℕ} {h : ℕ → ℕ} → i ≡ lo → IsRow fit f g from to i hi h → IsRow fit f g from to lo hi h
+  row-at e F = rw (← e) F
+
+  pub row-is : {lo hi : ℕ} {work new : List ℕ} → work ≡ new → IsRow fit f g from to lo hi (nth new) → IsRow fit f g from to lo hi (nth work)
+  row-is e F = rw e F
+
+-- A longest arc inside another, and what is right of it.
+pub right-row : {fit : ℕ → ℕ → Bool} {f : ℕ → ℕ} {qm : List ℕ} {n from to l r h e : ℕ} (w : ℕ) (mid ys new : List ℕ) → Around qm n l r h e
+    → w ≤ length mid → to < w → IsRow fit f (nth qm) from to h (e + 1) (nth mid) → IsRow fit f (nth qm) from to (e + 1) r (nth ys)
+    → Written (λ j. nth (back w mid ys) (w + nth (back w mid ys) j)) (back w mid ys) new from (to + 1) → IsRow fit f (nth qm) from to h r (nth new)
+right-row {fit} {f} {qm} {n} {from} {to} w mid ys new A le tw F G W =
+    combine-row (omega (arith, A .up)) (omega (arith, A .end)) (A .split-r) F G (looked-into from to w mid ys new le tw W)
+
 module _ {p pm q qm : List ℕ} {from to : ℕ} where
+  -- The bases of the molecule are letters.
+  pub letter-at : Setting p pm q qm from to → (i : ℕ) → i < length q → isLetter moleculeSide (nth q i) ≡ true
+  letter-at S i h = every-at (λ (k : ℕ). isLetter moleculeSide (nth q k)) (length q) i (S .bases) h
+
+  -- The row of one unbonded base.
+  pub single-row : {old new : List ℕ} → Setting p pm q qm from to → (i hi : ℕ) → suc i ≡ hi
+      → Written (unitAt (matches p (nth q i)) (nth pm) to) old new from (to + 1) → IsRow (letters p q) (nth pm) (nth qm) from to i hi (nth new)
+  single-row S i hi e W =
+      let F : IsRow (letters p q) (nth pm) (nth qm) from to i hi (unitAt (matches p (nth q i)) (nth pm) to) = rw (← e) (unit-row i) in
+      record { best = λ j a b. rw (W .done j a (omega arith)) (F .best j a b) }
+
   pub prepend-none : (s : ℕ) (work : List ℕ) → Prepended p pm q qm from to s s work work
   prepend-none s work = record { row = λ j. j; is = empty-row s (λ j. j) (λ j a b. refl); entry = λ j a b. refl }
 
@@ -49,7 +85,7 @@ module _ {p pm q qm : List ℕ} {from to : ℕ} where
       → Written (λ j. nth mid (unitAt (matches p (nth q k)) (nth pm) to j)) mid new from to → Prepended p pm q qm from to k hi old new
   prepend-base {hi} {old} {mid} {new} i k e ih b P W =
       let F : IsRow (letters p q) (nth pm) (nth qm) from to k i (unitAt (matches p (nth q k)) (nth pm) to) = rw (← e) (unit-row k) in
-      prepend-step (omega arith) ih (λ u x y z. absurd (let t : u ≡ k = omega arith in omega (arith, ap (nth qm) t))) F P
+      prepend-step (omega arith) ih (unit-split qm i k hi e b) F P
       (λ j x y. elim (decLt j to) [
         | yes t ↦ W .done j x t
         | no t ↦ W .past j (omega arith) ∙ ap (nth mid) (sym (unit-end (matches p (nth q k)) (nth pm) to j (omega arith)))
@@ -88,6 +124,12 @@ module _ {p pm q qm : List ℕ} {from to : ℕ} where
   pub prepend-front : {hi : ℕ} {old mid new : List ℕ} (i k c : ℕ) → suc k ≡ i → i ≤ hi → c ≡ k → nth qm k ≡ c → Prepended p pm q qm from to i hi old mid
       → Written (λ j. nth mid (unitAt (matches p (nth q k)) (nth pm) to j)) mid new from to → Prepended p pm q qm from to c hi old new
   prepend-front i k c e ih ck m P W = rw ck (prepend-base i k e ih (m ∙ ck) P W)
+
+  pub front-row : {hi : ℕ} {old new : List ℕ} → Setting p pm q qm from to → (i k : ℕ) → suc k ≡ i → i ≤ hi → nth qm k ≡ k
+      → IsRow (letters p q) (nth pm) (nth qm) from to i hi (nth old)
+      → Written (λ j. nth old (unitAt (matches p (nth q k)) (nth pm) to j)) old new from to → IsRow (letters p q) (nth pm) (nth qm) from to k hi (nth new)
+  front-row {hi} {old} {new} S i k e ih b F W =
+      prepended-row (omega arith) ih (unit-split qm i k hi e b) F (prepend-base i k e (omega arith) b (prepend-none i old) W)
 
   pub arc-front : (c k i : ℕ) {old new : List ℕ} → k + 1 ≡ i → Setting p pm q qm from to → c < k → k < length q → nth qm c ≡ k
       → IsRow (letters p q) (nth pm) (nth qm) from to (c + 1) k (nth old)

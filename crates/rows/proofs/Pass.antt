@@ -23,3 +23,7 @@ pass-set f old new a e v w le lt q = record {
 
 pub pass-end : (f : ℕ → ℕ) (old new : List ℕ) (a j w : ℕ) → Written f old new a j → j ≤ w → w ≤ j → Written f old new a w
 pass-end f old new a j w h le ge = subst (λ (e : ℕ). Written f old new a e) (le-antisymm le ge) h
+
+-- Other values that agree where the pass wrote.
+pub pass-as : (f g : ℕ → ℕ) (old new : List ℕ) (a e : ℕ) → Written f old new a e → ((k : ℕ) → k < e → f k ≡ g k) → Written g old new a e
+pass-as f g old new a e w h = record { long = w .long; under = w .under; done = λ k x y. w .done k x y ∙ h k y; past = w .past }

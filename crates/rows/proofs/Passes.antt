@@ -5,16 +5,14 @@ use mathlib.Core.List.{List}
 use Prim.Native.Nat.{ℕ, suc, _+_, _-_, _≤_, _<_, min, max}
 use native.Mathlib.Numerals.{add-one}
 use native.Mathlib.Omega.{arith}
+use native.Mathlib.Decide.{decLt}
 use lib.Dec.{leb}
-use lib.ListN.{length, getD, set}
-use lib.Seq.{getD-set-same, getD-set-other}
-use borrow.Author.Count.{below-more}
+use lib.ListN.{length, set}
 use borrow.Author.Tests.{lt-ltb, le-ltb, le-leb, lt-leb}
 use Rattle.strand.specs.Vocabulary.{nth, choose}
 use Rattle.embedding.specs.Row.{unitAt, overAt, arcAt}
 use Rattle.rows.specs.Rows.{Written, Remade, overBy}
 use Rattle.rows.proofs.Pass.{pass-set}
-use Rattle.rows.proofs.Entries.{unit-end}
 
 -- The entry with the left end, case by case as the code goes.
 module _ (left right : Bool) (k z next j : ℕ) where
@@ -70,9 +68,39 @@ module _ (has : ℕ → Bool) (pm : ℕ → ℕ) (z at j r : ℕ) where
   unfolding unitAt choose
   unit-last a e = let i : at + j - at ≡ j = omega arith in rw (i, le-ltb j z a) e
 
-pub raise-step : (f : ℕ → ℕ) (at : ℕ) (row₀ row : List ℕ) (from j r : ℕ) → Written f row₀ row from j → r ≡ max (nth row j) (nth row (at + j))
-    → r ≡ max (nth row₀ j) (nth row₀ (at + j))
-raise-step f at row₀ row from j r W e = e ∙ rw (W .past j (omega arith), W .past (at + j) (omega arith))
+-- One less where the value is past z by one.
+module _ (k z s : ℕ) (h : (z < k → s ≡ 1) × (k ≤ z → s ≡ 0)) where
+  pub past-fits : s ≤ k
+  past-fits = elim (decLt z k) [ yes a ↦ omega (arith, h .0 a) | no a ↦ omega (arith, h .1 (omega arith)) ]
+
+  pub past-less : k ≤ z + 1 → k - s ≡ min k z
+  past-less b = elim (decLt z k) [ yes a ↦ omega (arith, h .0 a) | no a ↦ omega (arith, h .1 (omega arith)) ]
+
+-- A turn of the loop that takes the entries on by the steps of a base.
+module _ (steps row₀ row : List ℕ) (from to j : ℕ) (W : Written (λ i. nth steps (nth row₀ i)) row₀ row from j) (lo : from ≤ j) (hi : j ≤ to)
+    (h : (i : ℕ) → from ≤ i → i ≤ to → nth row₀ i ≤ to) where
+  pub step-index : nth row j ≤ to
+  step-index = omega (arith, W .past j (omega arith), h j lo hi)
+
+  pub step-step : nth steps (nth row j) ≡ nth steps (nth row₀ j)
+  step-step = ap (nth steps) (W .past j (omega arith))
+
+pub raise-step : (f : ℕ → ℕ) (at z : ℕ) (row₀ row : List ℕ) (from j s r : ℕ) → Written f row₀ row from j → s ≡ min (nth row j) z → r ≡ max s (nth row (at + j))
+    → r ≡ max (min (nth row₀ j) z) (nth row₀ (at + j))
+raise-step f at z row₀ row from j s r W d e = e ∙ rw (d, W .past j (omega arith), W .past (at + j) (omega arith))
+
+-- A turn of the loop that closes an arc in one pass.
+module _ (left right : ℕ → Bool) (pm : ℕ → ℕ) (z : ℕ) (steps row₀ row : List ℕ) (from j : ℕ)
+    (W : Written (λ i. max (min (nth steps (nth row₀ i)) z) (overAt left right pm z (nth row₀ (i + 1)) i)) row₀ row from j) where
+  pub short-index : from ≤ j → j ≤ z → ((i : ℕ) → from ≤ i → i ≤ z → nth row₀ i ≤ z) → nth row j ≤ z
+  short-index lo hi h = omega (arith, W .past j (omega arith), h j lo hi)
+
+  pub short-step : (s o r : ℕ) (d : Bool) → j < z → s ≡ min (nth steps (nth row j)) z → d ≡ right (pm j)
+      → o ≡ overBy (left j) d (pm j) z (nth row (j + 1)) j → r ≡ max s o
+      → r ≡ max (min (nth steps (nth row₀ j)) z) (overAt left right pm z (nth row₀ (j + 1)) j)
+  short-step s o r d a e t f g =
+      g ∙ ap₂ max (e ∙ ap (λ (k : ℕ). min (nth steps k) z) (W .past j (omega arith)))
+      (f ∙ ap (λ (x : Bool). overBy (left j) x (pm j) z (nth row (j + 1)) j) t ∙ rw (W .past (j + 1) (omega arith)) (by-over left right pm z (nth row₀ (j + 1)) j a))
 
 pub cut-step : (f : ℕ → ℕ) (at z : ℕ) (row₀ row : List ℕ) (from j r : ℕ) → Written f row₀ row (at + from) (at + j) → j < at → r ≡ min (nth row j) z
     → r ≡ min (nth row₀ (at + j - at)) z
@@ -85,43 +113,35 @@ set-at f old new at a e v W le lt q =
     let i : at + (e + 1) ≡ at + e + 1 = omega arith in
     rw i (pass-set f old new (at + a) (at + e) v W (omega arith) lt q)
 
--- One pass.
-pub remade-short : (f : ℕ → ℕ) (old new : List ℕ) (a e : ℕ) → Written f old new a e → Remade f old new a e
-remade-short f old new a e W = record { long = W .long; done = W .done; last = λ k x y. W .past k x }
-
--- The passes together, with the rows after each.
-module _ (left right : ℕ → Bool) (pm : ℕ → ℕ) (from to w : ℕ) (row o u mid new : List ℕ) where
-  pub remade : from ≤ to → to < w → ((j : ℕ) → from ≤ j → j ≤ to → (j ≤ nth row j) × (nth row j ≤ to))
-      → Written (λ k. overAt left right pm to (nth row (k - w + 1)) (k - w)) row o (w + from) (w + to)
-      → Written (λ k. unitAt right pm to (k - (w + w))) o u (w + w + from) (w + w + to + 1)
-      → Written (λ j. nth u (w + w + nth u j)) u mid from (to + 1)
-      → Written (λ j. max (nth mid j) (nth mid (w + j))) mid new from to
+-- The row of an arc, from the steps of its right end.
+module _ (left right : ℕ → Bool) (pm : ℕ → ℕ) (from to : ℕ) (steps : List ℕ) (s : (k : ℕ) → k ≤ to → min (nth steps k) to ≡ unitAt right pm to k) where
+  -- In one pass.
+  pub remade-short : (row new : List ℕ) → ((j : ℕ) → from ≤ j → j ≤ to → (j ≤ nth row j) × (nth row j ≤ to))
+      → Written (λ j. max (min (nth steps (nth row j)) to) (overAt left right pm to (nth row (j + 1)) j)) row new from to
       → Remade (λ j. arcAt left right pm to (nth row j) (nth row (j + 1)) j) row new from to
-  remade ft tw h O U M N = record {
-    long = N .long ∙ M .long ∙ U .long ∙ O .long;
-    done = λ j a b. N .done j a b ∙ ap₂ max (unit j a (omega arith)) (over j a b);
-    last = λ j a b. N .past j a ∙ unit j (omega arith) b ∙ end j a b;
-  } where
-    same : (j : ℕ) → j ≤ to → nth u j ≡ nth row j
-    same j a = U .under j (omega arith) ∙ O .under j (omega arith)
+  remade-short row new h W = record {
+    long = W .long;
+    done = λ j a b. W .done j a b ∙ ap (λ (x : ℕ). max x (overAt left right pm to (nth row (j + 1)) j)) (s (nth row j) (h j a (omega arith) .1));
+    last = λ j a b. W .past j a;
+  }
 
-    unit : (j : ℕ) → from ≤ j → j ≤ to → nth mid j ≡ unitAt right pm to (nth row j)
+  -- By the three passes, with the rows after each.
+  pub remade : (w : ℕ) (row o mid new : List ℕ) → from ≤ to → to < w → ((j : ℕ) → from ≤ j → j ≤ to → (j ≤ nth row j) × (nth row j ≤ to))
+      → Written (λ k. overAt left right pm to (nth row (k - w + 1)) (k - w)) row o (w + from) (w + to)
+      → Written (λ j. nth steps (nth o j)) o mid from to
+      → Written (λ j. max (min (nth mid j) to) (nth mid (w + j))) mid new from to
+      → Remade (λ j. arcAt left right pm to (nth row j) (nth row (j + 1)) j) row new from to
+  remade w row o mid new ft tw h O M N = record {
+    long = N .long ∙ M .long ∙ O .long;
+    done = λ j a b. N .done j a b ∙ ap₂ max (unit j a b) (over j a b);
+    last = λ j a b. N .past j a ∙ M .past j a ∙ O .under j (omega arith);
+  } where
+    unit : (j : ℕ) → from ≤ j → j < to → min (nth mid j) to ≡ unitAt right pm to (nth row j)
     unit j a b =
-        let i : w + w + nth row j - (w + w) ≡ nth row j = omega arith in
-        M .done j a (omega arith) ∙ ap (λ (x : ℕ). nth u (w + w + x)) (same j b) ∙ U .done (w + w + nth row j) (omega (arith, h j a b)) (omega (arith, h j a b))
-        ∙ ap (unitAt right pm to) i
+        ap (λ (x : ℕ). min x to) (M .done j a b ∙ ap (nth steps) (O .under j (omega arith))) ∙ s (nth row j) (h j a (omega arith) .1)
 
     over : (j : ℕ) → from ≤ j → j < to → nth mid (w + j) ≡ overAt left right pm to (nth row (j + 1)) j
     over j a b =
         let i : w + j - w ≡ j = omega arith in
-        M .past (w + j) (omega arith) ∙ U .under (w + j) (omega arith) ∙ O .done (w + j) (omega arith) (omega arith)
+        M .past (w + j) (omega arith) ∙ O .done (w + j) (omega arith) (omega arith)
         ∙ ap (λ (x : ℕ). overAt left right pm to (nth row (x + 1)) x) i
-
-    end : (j : ℕ) → to ≤ j → j ≤ to → unitAt right pm to (nth row j) ≡ nth row j
-    end j a b = unit-end right pm to (nth row j) (omega (arith, h j (omega arith) b))
-
--- A store in a table that is filled from its start.
-pub table-step : (f : ℕ → ℕ) (row : List ℕ) (j v : ℕ) → j < length row → ((k : ℕ) → k < j → nth row k ≡ f k) → v ≡ f j
-    → (k : ℕ) → k < j + 1 → nth (set row j v) k ≡ f k
-table-step f row j v lt h e =
-    below-more (λ k. getD (set row j v) k 0 ≡ f k) j (λ k a. getD-set-other row j k v 0 (λ r. omega arith) ∙ h k a) (getD-set-same row j v 0 lt ∙ e)

@@ -1,14 +1,19 @@
--- Only the contracts of this crate and the matcher need this file: what the row operations and the walk over the arcs of the molecule leave. Assumes nothing.
-use Prim.Native.Nat.{ℕ, suc, _+_, _-_, _*_, _^_, _≤_, _<_}
+-- The size of the work slice. All else is for the contracts of this crate, trace and the matcher alone: what the row operations and the walk over the
+-- arcs of the molecule leave. Assumes nothing.
+use Prim.Native.Nat.{ℕ, suc, _+_, _-_, _*_, _/_, _%_, _^_, _≤_, _<_}
 use mathlib.Core.Path.{_≡_}
-use mathlib.Core.Bool.{Bool}
+use mathlib.Core.Bool.{Bool, true}
 use mathlib.Core.List.{List}
 use lib.ListN.{length}
 use lib.Dec.{ltb, leb}
-use Rattle.strand.specs.Vocabulary.{nth, choose}
-use Rattle.strand.specs.Strands.{Nested, lettersMatch}
+use Rattle.strand.specs.Vocabulary.{nth, choose, all}
+use Rattle.strand.specs.Strands.{Nested, isLetter, lettersMatch, moleculeSide}
 use Rattle.embedding.specs.Embedding.{letters}
-use Rattle.embedding.specs.Row.{IsRow}
+use Rattle.embedding.specs.Row.{IsRow, unitAt}
+
+-- 01: a work slice of at least 64 × (m + 1) + 8 × n entries.
+abbrev pub workSize : ℕ → ℕ → ℕ
+workSize m n = 64 * (m + 1) + 8 * n
 
 -- A window P[from..to) of the motif. A row has an entry for each start from `from` to `to`, at that index of its stretch of the work slice.
 pub record Window (p pm : List ℕ) (from to : ℕ) : Type 0 where
@@ -17,12 +22,13 @@ pub record Window (p pm : List ℕ) (from to : ℕ) : Type 0 where
   pub order : from ≤ to
   pub ends : to ≤ length p
 
--- A window of a nested motif, and a nested molecule.
+-- A window of a nested motif, and a nested molecule of letters.
 pub record Setting (p pm q qm : List ℕ) (from to : ℕ) : Type 0 where
   pub window : Window p pm from to
   pub motif : Nested (nth pm) (length p)
   pub equal : length qm ≡ length q
   pub short : length q ≤ 4096
+  pub bases : all (isLetter moleculeSide) q ≡ true
   pub molecule : Nested (nth qm) (length q)
 
 -- Of a slice only the entries from a to before e were written, with the values of f.
@@ -38,10 +44,22 @@ pub record Remade (f : ℕ → ℕ) (old new : List ℕ) (a e : ℕ) : Type 0 wh
   pub done : (k : ℕ) → a ≤ k → k < e → nth new k ≡ f k
   pub last : (k : ℕ) → e ≤ k → k ≤ e → nth new k ≡ nth old k
 
--- The letters of the mates of P, position by position.
-pub record Partners (p pm partner : List ℕ) : Type 0 where
-  pub long : length p ≤ length partner
-  pub letter : (j : ℕ) → j < length p → nth partner j ≡ nth p (nth pm j)
+-- The tables of P are five rows of m + 1 entries. The first has the letters of the mates, position by position. Each other one is the row of an
+-- unbonded base, for A, C, U and G, in the order of two bits of the byte: that of the base b starts at stepsAt m b.
+unfoldable pub stepsAt : ℕ → ℕ → ℕ
+stepsAt m b = (m + 1) * (1 + b / 2 % 4)
+
+pub record Tables (p pm tables : List ℕ) : Type 0 where
+  pub long : 5 * (length p + 1) ≤ length tables
+  pub letter : (j : ℕ) → j < length p → nth tables j ≡ nth p (nth pm j)
+  pub step : (b : ℕ) → isLetter moleculeSide b ≡ true → (k : ℕ) → k ≤ length p
+      → nth tables (stepsAt (length p) b + k) ≡ unitAt (λ x. lettersMatch (nth p x) b) (nth pm) (length p) k
+
+-- The row of an unbonded base, up to z: it takes no more than one position.
+pub record Steps (steps : List ℕ) (z : ℕ) : Type 0 where
+  pub long : z < length steps
+  pub low : (k : ℕ) → k ≤ z → k ≤ nth steps k
+  pub high : (k : ℕ) → k ≤ z → nth steps k ≤ k + 1
 
 -- What an arc of Q takes from j with its left end, by values: whether j has the letter of the left end, whether the mate k of j has that of the right
 -- end, and the inner row's entry for j + 1.
@@ -65,16 +83,16 @@ pub record Heavy (qm : List ℕ) (lo hi r : ℕ) : Type 0 where
   pub most : (c : ℕ) → lo ≤ c → c < hi → c < nth qm c → (r < hi) × (nth qm c - c ≤ nth qm r - r)
   pub first : (c : ℕ) → lo ≤ c → c < r → r < hi → c < nth qm c → nth qm c - c < nth qm r - r
 
--- Room for the inner row of an arc that is `size` long, in rows of w entries: two for each light edge below it, and three.
+-- Room for the inner row of an arc that is `size` long, in rows of w entries: two for each light edge below it, and two.
 pub record Room (w size room : ℕ) : Type 0 where
   pub depth : ℕ
   pub short : size + 3 < 8 * 2 ^ depth
-  pub rows : (2 * depth + 3) * w ≤ room
+  pub rows : (2 * depth + 2) * w ≤ room
 
 -- Room for a row and, past it, for the light arcs of Q[lo..hi).
 pub record LightRoom (w : ℕ) (qm : List ℕ) (lo hi room : ℕ) : Type 0 where
   pub depth : ℕ
-  pub rows : (2 * depth + 2) * w ≤ room
+  pub rows : (2 * depth + 1) * w ≤ room
   pub light : (c : ℕ) → lo ≤ c → c < hi → c < nth qm c → 2 * (nth qm c - c + 3) < 8 * 2 ^ depth
 
 -- The row `new` is the row `old` with Q[lo..hi) put in front of its stretch.

@@ -1,15 +1,18 @@
 // The row operations. A row for the motif's window from..to has an entry for each start from `from` to `to`, at that index of the part of the work
 // slice that the operation is lent; a second row starts `at` entries further on. The bodies of the loops are functions of values, with early returns:
 // the compiler makes vector code of them.
+use crate::tables;
 ghost use mathlib.Core.Path.{_≡_};
 ghost use Prim.Native.Nat.{ℕ, _+_, _-_, _*_, _≤_, _<_, min, max};
 ghost use lib.ListN.{length};
-ghost use lib.Dec.{leb};
+ghost use lib.Dec.{leb, eqb};
 ghost use Rattle.strand.specs.Vocabulary.{nth, choose};
-ghost use Rattle.strand.specs.Strands.{lettersMatch};
+ghost use mathlib.Core.Bool.{true};
+ghost use Rattle.strand.specs.Strands.{isLetter, lettersMatch, moleculeSide};
 ghost use Rattle.embedding.specs.Row.{unitAt, overAt, arcAt};
-ghost use Rattle.rows.specs.Rows.{Window, Written, Remade, Partners, overBy, matches};
+ghost use Rattle.rows.specs.Rows.{Window, Written, Remade, Tables, Steps, overBy, matches};
 
+// The larger and the smaller of two entries.
 pub fn larger(a: u16, b: u16) -> u16
     ensures { λ r. ⌜ r ≡ max a b ⌝ }
 {
@@ -34,30 +37,65 @@ pub fn identity(row: &mut [u16], from: usize, to: usize)
     }
 }
 
-// The entry for j with the base b in front, c and k being the base and the mate of j: the next one where b takes j.
-fn extend_entry(c: u8, b: u8, k: u16, j: u16, here: u16, next: u16) -> u16
-    ensures { λ r. ⌜ r ≡ choose (leb k j) (choose (lettersMatch c b) next here) here ⌝ }
+// The entry for j with a base in front whose own row has the entry `step` for j: the next one where the base takes j.
+fn extend_entry(step: u16, j: u16, here: u16, next: u16) -> u16
+    ensures { λ r. ⌜ r ≡ choose (eqb step j) here next ⌝ }
 {
-    if j < k {
+    if step == j {
         return here;
     }
-    if strand::letters_match(c, b) {
-        return next;
-    }
-    here
+    next
 }
 
-// The row with the unbonded base b put in front of its stretch.
-pub fn extend(row: &mut [u16], p: &[u8], pm: &[u16], from: usize, to: usize, b: u8)
-    requires { ⌜ Window (now p) (now pm) from to ⌝ }
-    requires { ⌜ to < length (now row) ⌝ }
-    ensures { λ _. ⌜ Written (λ j. nth (now (row .entry)) (unitAt (matches (now (p .entry)) b) (nth (now (pm .entry))) to j)) (now (row .entry)) (now (row .exit)) from to ⌝ }
+// The row with the unbonded base in front whose own row is `steps`.
+fn extend_by(row: &mut [u16], steps: &[u16], from: usize, to: usize)
+    requires { ⌜ (from ≤ to) × ((to ≤ 4096) × (to < length (now row))) ⌝ }
+    requires { ⌜ Steps (now steps) to ⌝ }
+    ensures { λ _. ⌜ Written (λ j. nth (now (row .entry)) (nth (now (steps .entry)) j)) (now (row .entry)) (now (row .exit)) from to ⌝ }
 {
     let mut j = from;
     while j < to {
-        row[j] = extend_entry(p[j], b, pm[j], j as u16, row[j], row[j + 1]);
+        row[j] = extend_entry(steps[j], j as u16, row[j], row[j + 1]);
         j += 1;
     }
+}
+
+// The row with the unbonded base b put in front of its stretch.
+pub fn extend(row: &mut [u16], p: &[u8], pm: &[u16], tables: &[u16], from: usize, to: usize, b: u8)
+    requires { ⌜ Window (now p) (now pm) from to ⌝ }
+    requires { ⌜ Tables (now p) (now pm) (now tables) ⌝ }
+    requires { ⌜ isLetter moleculeSide b ≡ true ⌝ }
+    requires { ⌜ to < length (now row) ⌝ }
+    ensures { λ _. ⌜ Written (λ j. nth (now (row .entry)) (unitAt (matches (now (p .entry)) b) (nth (now (pm .entry))) to j)) (now (row .entry)) (now (row .exit)) from to ⌝ }
+{
+    let at = tables::steps_at(p.len(), b);
+    extend_by(row, &tables[at..], from, to);
+}
+
+// Copies the entries of a base's row.
+fn copy_steps(row: &mut [u16], steps: &[u16], from: usize, to: usize)
+    requires { ⌜ (from ≤ to) × ((to ≤ 4096) × (to < length (now row))) ⌝ }
+    requires { ⌜ Steps (now steps) to ⌝ }
+    ensures { λ _. ⌜ Written (nth (now (steps .entry))) (now (row .entry)) (now (row .exit)) from to ⌝ }
+{
+    let mut j = from;
+    while j < to {
+        row[j] = steps[j];
+        j += 1;
+    }
+}
+
+// The row of the unbonded base b.
+pub fn single(row: &mut [u16], p: &[u8], pm: &[u16], tables: &[u16], from: usize, to: usize, b: u8)
+    requires { ⌜ Window (now p) (now pm) from to ⌝ }
+    requires { ⌜ Tables (now p) (now pm) (now tables) ⌝ }
+    requires { ⌜ isLetter moleculeSide b ≡ true ⌝ }
+    requires { ⌜ to < length (now row) ⌝ }
+    ensures { λ _. ⌜ Written (unitAt (matches (now (p .entry)) b) (nth (now (pm .entry))) to) (now (row .entry)) (now (row .exit)) from (to + 1) ⌝ }
+{
+    let at = tables::steps_at(p.len(), b);
+    copy_steps(row, &tables[at..], from, to);
+    row[to] = to as u16;
 }
 
 // The row with the stretch put in front whose row starts at `at`.
@@ -154,7 +192,7 @@ pub fn arc_entry(
 
 // What an arc with the bases x and y takes from j with its left end: c and k are the base and the mate of j, d the base of k, and `next` the inner row's
 // entry for j + 1.
-fn over_entry(c: u8, x: u8, k: u16, j: u16, to: u16, d: u8, y: u8, next: u16) -> u16
+pub fn over_entry(c: u8, x: u8, k: u16, j: u16, to: u16, d: u16, y: u16, next: u16) -> u16
     ensures { λ r. ⌜ r ≡ overBy (lettersMatch c x) (lettersMatch d y) k to next j ⌝ }
 {
     if !strand::letters_match(c, x) {
@@ -166,7 +204,7 @@ fn over_entry(c: u8, x: u8, k: u16, j: u16, to: u16, d: u8, y: u8, next: u16) ->
     if to <= k {
         return 0;
     }
-    if !strand::letters_match(d, y) {
+    if !strand::wide_letters_match(d, y) {
         return 0;
     }
     if next < k {
@@ -180,7 +218,7 @@ fn over(
     row: &mut [u16],
     p: &[u8],
     pm: &[u16],
-    partner: &[u8],
+    tables: &[u16],
     from: usize,
     to: usize,
     at: usize,
@@ -188,7 +226,7 @@ fn over(
     y: u8,
 )
     requires { ⌜ Window (now p) (now pm) from to ⌝ }
-    requires { ⌜ Partners (now p) (now pm) (now partner) ⌝ }
+    requires { ⌜ Tables (now p) (now pm) (now tables) ⌝ }
     requires { ⌜ (to < at) × ((at ≤ 4097) × (at + to < length (now row))) ⌝ }
     ensures { λ _. ⌜ Written (λ k. overAt (matches (now (p .entry)) x) (matches (now (p .entry)) y) (nth (now (pm .entry))) to (nth (now (row .entry)) (k - at + 1)) (k - at)) (now (row .entry)) (now (row .exit)) (at + from) (at + to) ⌝ }
 {
@@ -200,92 +238,123 @@ fn over(
             pm[j],
             j as u16,
             to as u16,
-            partner[j],
-            y,
+            tables[j],
+            y as u16,
             row[j + 1],
         );
         j += 1;
     }
 }
 
-// Where the base b takes the motif from j on, c and k being the base and the mate of j: j + 1 or j.
-fn unit_entry(c: u8, b: u8, k: u16, j: u16) -> u16
-    requires { ⌜ j < 4096 ⌝ }
-    ensures { λ r. ⌜ r ≡ choose (leb k j) (choose (lettersMatch c b) (j + 1) j) j ⌝ }
-{
-    if j < k {
-        return j;
-    }
-    if strand::letters_match(c, b) {
-        return j + 1;
-    }
-    j
-}
-
-// Makes the row of the unbonded base y at `at`.
-fn units(row: &mut [u16], p: &[u8], pm: &[u16], from: usize, to: usize, at: usize, y: u8)
-    requires { ⌜ Window (now p) (now pm) from to ⌝ }
-    requires { ⌜ (at ≤ 8194) × (at + to < length (now row)) ⌝ }
-    ensures { λ _. ⌜ Written (λ k. unitAt (matches (now (p .entry)) y) (nth (now (pm .entry))) to (k - at)) (now (row .entry)) (now (row .exit)) (at + from) (at + to + 1) ⌝ }
+// Takes each entry of the row on by the unbonded base behind whose own row is `steps`.
+fn step(row: &mut [u16], steps: &[u16], from: usize, to: usize)
+    requires { ⌜ (from ≤ to) × ((to ≤ 4096) × (to < length (now row))) ⌝ }
+    requires { ⌜ Steps (now steps) to ⌝ }
+    requires { ⌜ ((j : ℕ) → from ≤ j → j ≤ to → nth (now row) j ≤ to) ⌝ }
+    ensures { λ _. ⌜ Written (λ j. nth (now (steps .entry)) (nth (now (row .entry)) j)) (now (row .entry)) (now (row .exit)) from to ⌝ }
 {
     let mut j = from;
     while j < to {
-        row[at + j] = unit_entry(p[j], y, pm[j], j as u16);
+        let k = row[j] as usize;
+        row[j] = steps[k];
         j += 1;
     }
-    row[at + to] = to as u16;
 }
 
-// Raises the row to the row at `at`.
+// Raises the row to the row at `at`, no entry past `to`.
 fn raise(row: &mut [u16], from: usize, to: usize, at: usize)
     requires { ⌜ (from ≤ to) × ((to ≤ 4096) × ((to < at) × (at + to < length (now row)))) ⌝ }
-    ensures { λ _. ⌜ Written (λ j. max (nth (now (row .entry)) j) (nth (now (row .entry)) (at + j))) (now (row .entry)) (now (row .exit)) from to ⌝ }
+    ensures { λ _. ⌜ Written (λ j. max (min (nth (now (row .entry)) j) to) (nth (now (row .entry)) (at + j))) (now (row .entry)) (now (row .exit)) from to ⌝ }
 {
     let mut j = from;
     while j < to {
-        row[j] = larger(row[j], row[at + j]);
+        row[j] = larger(smaller(row[j], to as u16), row[at + j]);
         j += 1;
     }
 }
 
-// The row of an arc with the bases x and y, in the place of its inner row: in one pass, for a short window.
-fn close_short(row: &mut [u16], p: &[u8], pm: &[u16], from: usize, to: usize, x: u8, y: u8)
-    requires { ⌜ Window (now p) (now pm) from to ⌝ }
-    requires { ⌜ to < length (now row) ⌝ }
-    ensures { λ _. ⌜ Written (λ j. arcAt (matches (now (p .entry)) x) (matches (now (p .entry)) y) (nth (now (pm .entry))) to (nth (now (row .entry)) j) (nth (now (row .entry)) (j + 1)) j) (now (row .entry)) (now (row .exit)) from to ⌝ }
+// 1 if k is past `to`, else 0.
+fn past(to: u16, k: u16) -> u16
+    ensures { λ r. ⌜ (to < k → r ≡ 1) × (k ≤ to → r ≡ 0) ⌝ }
 {
-    let mut j = from;
-    while j < to {
-        row[j] = arc_entry(p, pm, to, j, x, y, row[j], row[j + 1]);
-        j += 1;
-    }
+    if to < k { 1 } else { 0 }
 }
 
-// The row of an arc with the bases x and y, in the place of its inner row. A short window is done in one pass; for a long one short loops over whole
-// rows are faster, and the next two rows are written too.
-pub fn close_arc(
+// The smaller of k and `to` where k is past it by one at most: with no branch in the code that is made of it.
+fn capped(k: u16, to: u16) -> u16
+    requires { ⌜ k ≤ to + 1 ⌝ }
+    ensures { λ r. ⌜ r ≡ min k to ⌝ }
+{
+    k - past(to, k)
+}
+
+// The row of an arc with the bases x and y, in the place of its inner row: in one pass, for a short window. `steps` is the row of an unbonded y.
+fn close_short(
     row: &mut [u16],
     p: &[u8],
     pm: &[u16],
-    partner: &[u8],
+    tables: &[u16],
+    steps: &[u16],
     from: usize,
     to: usize,
     x: u8,
     y: u8,
 )
     requires { ⌜ Window (now p) (now pm) from to ⌝ }
-    requires { ⌜ Partners (now p) (now pm) (now partner) ⌝ }
-    requires { ⌜ 3 * (length (now p) + 1) ≤ length (now row) ⌝ }
+    requires { ⌜ Tables (now p) (now pm) (now tables) ⌝ }
+    requires { ⌜ Steps (now steps) to ⌝ }
+    requires { ⌜ to < length (now row) ⌝ }
+    requires { ⌜ ((j : ℕ) → from ≤ j → j ≤ to → nth (now row) j ≤ to) ⌝ }
+    ensures { λ _. ⌜ Written (λ j. max (min (nth (now (steps .entry)) (nth (now (row .entry)) j)) to) (overAt (matches (now (p .entry)) x) (matches (now (p .entry)) y) (nth (now (pm .entry))) to (nth (now (row .entry)) (j + 1)) j)) (now (row .entry)) (now (row .exit)) from to ⌝ }
+{
+    let mut j = from;
+    while j < to {
+        let k = row[j] as usize;
+        let both = capped(steps[k], to as u16);
+        row[j] = larger(
+            both,
+            over_entry(
+                p[j],
+                x,
+                pm[j],
+                j as u16,
+                to as u16,
+                tables[j],
+                y as u16,
+                row[j + 1],
+            ),
+        );
+        j += 1;
+    }
+}
+
+// The row of an arc with the bases x and y, in the place of its inner row. A short window is done in one pass; for a long one short loops over whole
+// rows are faster, and the next row is written too.
+pub fn close_arc(
+    row: &mut [u16],
+    p: &[u8],
+    pm: &[u16],
+    tables: &[u16],
+    from: usize,
+    to: usize,
+    x: u8,
+    y: u8,
+)
+    requires { ⌜ Window (now p) (now pm) from to ⌝ }
+    requires { ⌜ Tables (now p) (now pm) (now tables) ⌝ }
+    requires { ⌜ isLetter moleculeSide y ≡ true ⌝ }
+    requires { ⌜ 2 * (length (now p) + 1) ≤ length (now row) ⌝ }
     requires { ⌜ ((j : ℕ) → from ≤ j → j ≤ to → (j ≤ nth (now row) j) × (nth (now row) j ≤ to)) ⌝ }
     ensures { λ _. ⌜ Remade (λ j. arcAt (matches (now (p .entry)) x) (matches (now (p .entry)) y) (nth (now (pm .entry))) to (nth (now (row .entry)) j) (nth (now (row .entry)) (j + 1)) j) (now (row .entry)) (now (row .exit)) from to ⌝ }
 {
+    let w = p.len() + 1;
+    let at = tables::steps_at(p.len(), y);
+    let steps = &tables[at..];
     if to < from + 40 {
-        close_short(row, p, pm, from, to, x, y);
+        close_short(row, p, pm, tables, steps, from, to, x, y);
         return;
     }
-    let w = p.len() + 1;
-    over(row, p, pm, partner, from, to, w, x, y);
-    units(row, p, pm, from, to, w + w, y);
-    combine_into(row, from, to, w + w);
+    over(row, p, pm, tables, from, to, w, x, y);
+    step(row, steps, from, to);
     raise(row, from, to, w);
 }

@@ -31,12 +31,14 @@ fn write(out: &[u8], n: usize) {
     }
 }
 
+// Writes the output of the input, with the buffers of the call.
 fn answer(input: &[u8], out: &mut [u8], cache: &mut [u8], work: &mut [u16], hits: &mut [u16]) {
     if let Screened::Written(n) = screening::screen(input, out, cache, work, hits) {
         write(out, n);
     }
 }
 
+// The same with buffers of its own.
 fn run(input: &[u8]) {
     let mut out = out_buffer();
     let mut cache = cache_buffer();

@@ -2,7 +2,7 @@
 use mathlib.Core.Path.{_≡_, refl, sym, ap, ap₂, subst, _∙_}
 use mathlib.Core.Bool.{Bool, true, false, not, _&&_}
 use mathlib.Core.List.{List, [], _∷_, _++_}
-use Prim.Native.Nat.{ℕ, zero, suc, _+_, _*_, _-_, _/_, _%_, _<_, _≤_}
+use Prim.Native.Nat.{ℕ, _+_, _*_, _-_, _/_, _%_, _<_, _≤_}
 use native.Mathlib.Omega.{arith}
 use borrow.Author.Tests.{le-ltb, eqb-true, leb-true, lt-leb, le-leb, eq-eqb, ne-eqb}
 use lib.Dec.{ltb, leb, eqb}
@@ -10,8 +10,8 @@ use lib.ListN.{length, take, drop, replicate, length-append, length-drop, length
 use lib.Seq.{take-at, take-all}
 use Rattle.strand.specs.Vocabulary.{choose, select, all}
 use Rattle.strand.specs.Strands.{Strand, strandOf, motifSide, moleculeSide, noSide, Proper}
-use Rattle.strand.specs.Refusals.{wrongSlice, first, row}
-use Rattle.strand.proofs.ListLaws.{and-true, true-not}
+use Rattle.strand.specs.Refusals.{leastLength, wrongSlice, first, row}
+use Rattle.strand.proofs.ListLaws.{and-true, true-not, select-short}
 use Rattle.strand.proofs.VerdictLaws.{accepted-proper}
 use Rattle.octets.specs.Checksum.{blockSize}
 use Rattle.octets.specs.Numbers.{isZero}
@@ -19,7 +19,7 @@ use Rattle.block.proofs.ContentLaws.{molecule-proper}
 use Rattle.strand.specs.declared.Refusal.{Refusal}
 use Rattle.block.specs.Block.{blockOf, soundMolecule}
 use Rattle.block.specs.Content.{emptyBlock, isEmpty, moleculeIn}
-use Rattle.catalog.specs.Limits.{motifVerdict, workVerdict, leastBases, mostMotifBases}
+use Rattle.catalog.specs.Limits.{motifVerdict, workVerdict, mostMotifBases}
 use Rattle.catalog.specs.Buffers.{blockCount, buffersVerdict, slotOf, cleanCache}
 use Rattle.catalog.specs.Calls.{QueryEffect, queried, queryUnless, queryVerdict, queryEntry, queryOutcome, isHit, toSearch}
 use Rattle.strand.specs.declared.Verdict.{Verdict}
@@ -27,24 +27,14 @@ use Rattle.strand.specs.declared.Verdict.the-variants.{Accepted, Refused}
 use Rattle.catalog.specs.declared.Queried.{Queried}
 use Rattle.catalog.specs.declared.Queried.the-variants.{Hits, Refused as NotQueried}
 use Rattle.screening.specs.Text.{line, spaced, hitsText, refusedText, badLengthText, badMotifText, mostOutput, Put}
-use Rattle.screening.specs.Screen.{mostScreened, isInput, isMotif, firstBlock, catalogIn, screenWork, answerText, AnswerFits, effectText, screenQuery, screenOutput, hasRoom, screened, isAsked, cacheLeft, hitsLeft, screenOutcome, workLeft}
+use Rattle.screening.specs.Screen.{mostScreened, isInput, isMotif, firstBlock, catalogIn, screenWork, answerText, AnswerFits, effectText, screenQuery, screenOutput, hasRoom, screened, isAsked, cacheLeft, hitsLeft, screenOutcome, WorkLeft}
 use Rattle.screening.specs.declared.Screened.the-variants.{Written, NoRoom}
 use Rattle.screening.proofs.TextLaws.{most-hits, put-first}
-
--- The numbers selected below n are at most n.
-pub select-few : (p : ℕ → Bool) (n : ℕ) → length (select n p) ≤ n
-unfolding select
-select-few p zero = omega arith
-select-few p (suc n) = omega (arith, length-append (select n p) (choose (p n) (n ∷ []) []), one (p n), select-few p n)
-  where
-    one : (b : Bool) → length (choose b (n ∷ []) []) ≤ 1
-    one true = unfold choose in omega arith
-    one false = unfold choose in omega arith
 
 -- An accepted motif has at most 120 bases.
 motif-short : (p : Strand) → motifVerdict p ≡ Accepted → length (p .bases) ≤ 120
 unfolding motifVerdict
-motif-short p e = accepted-proper motifSide leastBases mostMotifBases (p .bases) (p .mates) e .small
+motif-short p e = accepted-proper motifSide leastLength mostMotifBases (p .bases) (p .mates) e .small
 
 rows-same : (p : Strand) (work room n : ℕ) → n ≤ mostScreened → screenWork ≤ work → mostScreened ≤ room → length (p .bases) ≤ 120
     → first (row wrongSlice noSide (ltb room n) ∷ workVerdict p work ∷ []) ≡ Accepted
@@ -85,8 +75,8 @@ module _ (embeds : Strand → Strand → Bool) (catalog cache entry : List ℕ) 
       let list : List ℕ = select (blockCount catalog) (isHit embeds catalog entry p) in
       let sought : List ℕ = select (blockCount catalog) (toSearch catalog entry p) in
       let e : take (length list) (list ++ drop (length list) hits) ≡ list = take-at list (drop (length list) hits) (length list) refl in
-      let a : length list ≤ blockCount catalog = select-few (isHit embeds catalog entry p) (blockCount catalog) in
-      let b : length sought ≤ blockCount catalog = select-few (toSearch catalog entry p) (blockCount catalog) in (
+      let a : length list ≤ blockCount catalog = select-short (isHit embeds catalog entry p) (blockCount catalog) in
+      let b : length sought ≤ blockCount catalog = select-short (toSearch catalog entry p) (blockCount catalog) in (
         omega (arith, length-append list (drop (length list) hits)),
         rw e (most-hits (length list) (length sought) (blockCount catalog) (isHit embeds catalog entry p) (omega arith) (omega arith) few),
       )
@@ -253,19 +243,13 @@ pub asked-2 : (input : List ℕ) (b : Bool) → isInput input ≡ true → isMot
 unfolding isAsked
 asked-2 input b e m = rw (e, m)
 
-pub work-none : (w : List ℕ) → workLeft NoRoom w w
-unfolding workLeft
+pub work-none : (w : List ℕ) → WorkLeft NoRoom w w
+unfolding WorkLeft
 work-none w = refl
 
-pub work-written : (n : ℕ) (before after : List ℕ) → length after ≡ length before → workLeft (Written n) before after
-unfolding workLeft
+pub work-written : (n : ℕ) (before after : List ℕ) → length after ≡ length before → WorkLeft (Written n) before after
+unfolding WorkLeft
 work-written n before after e = e
-
-pub written-room : (n : ℕ) → Written n ≡ NoRoom → ⊥
-written-room n e = let z : _≡_ {A = ℕ} 0 1 = cc in omega arith
-
-pub written-bound : (k n most : ℕ) → Written k ≡ Written n → k ≤ most → n ≤ most
-written-bound k n most e l = let z : k ≡ n = cc in omega arith
 
 -- ---- the query of an input
 

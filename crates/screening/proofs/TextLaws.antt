@@ -11,7 +11,7 @@ use borrow.Author.Tests.{lt-ltb, le-ltb}
 use lib.ListN.{length, take, drop, set, length-append, take-append-drop}
 use lib.Seq.{set-split, take-at, drop-at, drop-drop, take-suc, take-add, length-take-le, take-length, paste, paste-suc}
 use Rattle.strand.specs.Vocabulary.{nth, choose, select}
-use Rattle.screening.specs.Text.{newline, digit, digitsIn, digits, spaced, line, lines, hitsText, refusedText, badLengthText, badMotifText, mostOutput, Put}
+use Rattle.screening.specs.Text.{newline, digit, digitsIn, digits, valueFrom, DigitsSay, spaced, line, lines, hitsText, refusedText, mostOutput, Put}
 
 -- ---- one text after another
 
@@ -119,11 +119,6 @@ digits-few (suc k) n h =
       | no l ↦ omega (arith, digits-length n (omega arith), digits-few k (n / 10) (omega arith))
     ]
 
--- The number that a list of digits stands for, read from the left; `read` is that of the digits before it.
-unfoldable pub valueFrom : ℕ → List ℕ → ℕ
-valueFrom read [] = read
-valueFrom read (d ∷ ds) = valueFrom (10 * read + (d - 48)) ds
-
 value-append : (read : ℕ) (ds es : List ℕ) → valueFrom read (ds ++ es) ≡ valueFrom (valueFrom read ds) es
 unfolding valueFrom
 value-append read [] es = refl
@@ -144,8 +139,8 @@ value-within (suc k) n h =
     last : valueFrom 0 (digits (n / 10)) ≡ n / 10 → valueFrom (valueFrom 0 (digits (n / 10))) (digit (n % 10) ∷ []) ≡ n
     last e = ap (λ (v : ℕ). valueFrom v (digit (n % 10) ∷ [])) e ∙ value-one (n / 10) (n % 10) ∙ omega arith
 
--- The digits of a number stand for it.
-pub digits-value : (n : ℕ) → valueFrom 0 (digits n) ≡ n
+-- The claim for readers.
+pub digits-value : DigitsSay
 digits-value n = value-within (suc n) n (omega arith)
 
 module _ (n : ℕ) {x y : List ℕ} {a b : ℕ} where
@@ -302,20 +297,7 @@ pub most-hits : (count searched n : ℕ) (p : ℕ → Bool) → count ≤ 64 →
 most-hits count searched n p a b h =
     omega (arith, hits-length count searched (select n p), digits-few 1 count (omega arith), digits-few 1 searched (omega arith), selected-room p n, room-within n h)
 
--- The bound is met: every one of 64 held molecules is a hit.
-pub most-hits-met : length (hitsText 64 64 (select 64 (λ i. true))) ≡ mostOutput
-unfolding hitsText spaced line lines digits digitsIn select choose
-most-hits-met = refl
-
 -- Any refusal.
 pub most-refused : (number side place : ℕ) → number < 256 → side < 256 → place < 2 ^ 64 → length (refusedText number side place) ≤ mostOutput
 most-refused number side place a b h =
     omega (arith, refused-length number side place, digits-few 2 number (omega arith), digits-few 2 side (omega arith), digits-few 19 place (omega arith))
-
-pub most-bad-length : length badLengthText ≤ mostOutput
-unfolding badLengthText line spaced
-most-bad-length = omega arith
-
-pub most-bad-motif : length badMotifText ≤ mostOutput
-unfolding badMotifText line spaced
-most-bad-motif = omega arith

@@ -10,7 +10,7 @@ use Rattle.strand.specs.Strands.{Strand}
 use Rattle.octets.specs.Checksum.{blockSize}
 use Rattle.block.specs.Content.{emptyBlock, isEmpty, moleculeIn}
 use Rattle.block.specs.Block.{soundMolecule}
-use Rattle.matcher.specs.Answers.{workSize}
+use Rattle.rows.specs.Rows.{workSize}
 use Rattle.catalog.specs.Limits.{mostMoleculeBases, mostMotifBases}
 use Rattle.catalog.specs.Calls.{QueryEffect, queryOutcome}
 use Rattle.catalog.specs.declared.Queried.{Queried}
@@ -47,11 +47,12 @@ unfoldable pub answerText : Queried → List ℕ → List ℕ
 answerText (Hits count searched) hits = hitsText count searched (take count hits)
 answerText (Refused r) hits = refusedText (r .number) (r .side) (r .place)
 
--- For proofs: the answer's text fits into that many bytes, and any refusal's too.
+-- The answer's text fits into that many bytes, and any refusal's too: what `put_answer` asks.
 unfoldable pub AnswerFits : Queried → List ℕ → ℕ → Type 0
 AnswerFits (Hits count searched) hits room = (count ≤ length hits) × (length (hitsText count searched (take count hits)) ≤ room)
 AnswerFits (Refused r) hits room = mostOutput ≤ room
 
+-- The text of the answer of a query with these effects.
 abbrev pub effectText : QueryEffect → List ℕ
 effectText e = answerText (e .answer) (e .hits)
 
@@ -101,7 +102,11 @@ module _ (embeds : Strand → Strand → Bool) where
       (cacheLeft input cache work hits) (hitsLeft input work hits))
       (screened NoRoom out cache hits)
 
+-- No output is longer than mostOutput; `output-says`, in proofs/OutputLaws, proves it.
+abbrev pub OutputSays : (Strand → Strand → Bool) → List ℕ → Type 0
+OutputSays embeds input = length (screenOutput embeds input) ≤ mostOutput
+
 -- The work slice keeps its length; where nothing was written it keeps every entry.
-unfoldable pub workLeft : Screened → List ℕ → List ℕ → Type 0
-workLeft (Written n) before after = length after ≡ length before
-workLeft NoRoom before after = after ≡ before
+unfoldable pub WorkLeft : Screened → List ℕ → List ℕ → Type 0
+WorkLeft (Written n) before after = length after ≡ length before
+WorkLeft NoRoom before after = after ≡ before

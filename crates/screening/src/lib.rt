@@ -4,12 +4,12 @@ mod text;
 use catalog::Queried;
 ghost use mathlib.Core.Path.{_≡_};
 ghost use mathlib.Core.Bool.{true};
-ghost use Prim.Native.Nat.{ℕ, _≤_};
+ghost use Prim.Native.Nat.{_≤_};
 ghost use lib.ListN.{length};
 ghost use Rattle.block.specs.Content.{emptyBlock, moleculeIn};
 ghost use Rattle.catalog.specs.Calls.{queried, queryOutcome};
 ghost use Rattle.screening.specs.Text.{refusedText, mostOutput, Put};
-ghost use Rattle.screening.specs.Screen.{isInput, isMotif, firstBlock, catalogIn, answerText, AnswerFits, screenOutput, hasRoom, screened, cacheLeft, hitsLeft, screenOutcome, workLeft};
+ghost use Rattle.screening.specs.Screen.{isInput, isMotif, firstBlock, catalogIn, answerText, AnswerFits, screenOutput, hasRoom, screened, cacheLeft, hitsLeft, screenOutcome, WorkLeft};
 ghost use Rattle.catalog.specs.Motifs.{embeds};
 
 // What screen answers: how many bytes of output it wrote, or that a borrowed buffer is too short or the cache not one block.
@@ -92,7 +92,7 @@ fn ask_afresh(input: &[u8], cache: &mut [u8], work: &mut [u16], hits: &mut [u16]
 // The text of any refusal.
 fn put_row(out: &mut [u8], number: u8, side: u8, place: usize) -> usize
     requires { ⌜ mostOutput ≤ length (now out) ⌝ }
-    ensures { λ r. ⌜ Put (refusedText number side place) (now (out .entry)) (now (out .exit)) 0 r × (r ≤ mostOutput) ⌝ }
+    ensures { λ r. ⌜ Put (refusedText number side place) (now (out .entry)) (now (out .exit)) 0 r ⌝ }
 {
     text::put_refused(out, number, side, place)
 }
@@ -101,7 +101,7 @@ fn put_row(out: &mut [u8], number: u8, side: u8, place: usize) -> usize
 fn put_answer(out: &mut [u8], answer: Queried, hits: &[u16]) -> usize
     requires { ⌜ AnswerFits answer (now hits) mostOutput ⌝ }
     requires { ⌜ mostOutput ≤ length (now out) ⌝ }
-    ensures { λ r. ⌜ Put (answerText answer (now (hits .entry))) (now (out .entry)) (now (out .exit)) 0 r × (r ≤ mostOutput) ⌝ }
+    ensures { λ r. ⌜ Put (answerText answer (now (hits .entry))) (now (out .entry)) (now (out .exit)) 0 r ⌝ }
 {
     match answer {
         Queried::Refused(x) => put_row(out, x.number, x.side, x.place),
@@ -118,7 +118,7 @@ fn write_output(
     hits: &mut [u16],
 ) -> usize
     requires { ⌜ hasRoom (length (now out)) (length (now cache)) (length (now work)) (length (now hits)) ≡ true ⌝ }
-    ensures { λ r. ⌜ Put (screenOutput embeds (now (input .entry))) (now (out .entry)) (now (out .exit)) 0 r × (r ≤ mostOutput) ⌝ }
+    ensures { λ r. ⌜ Put (screenOutput embeds (now (input .entry))) (now (out .entry)) (now (out .exit)) 0 r ⌝ }
     ensures { λ r. ⌜ (now (cache .exit) ≡ cacheLeft embeds (now (input .entry)) (now (cache .entry)) (length (now (work .entry))) (now (hits .entry))) × (now (hits .exit) ≡ hitsLeft embeds (now (input .entry)) (length (now (work .entry))) (now (hits .entry))) ⌝ }
 {
     if !is_input(input) {
@@ -132,7 +132,8 @@ fn write_output(
 }
 
 // From the whole input to the whole output. The cache, the work slice and the hits are scratch: their contents show neither in the answer nor
-// in the output. Where a buffer is too short, or the cache is not one block, nothing is written in any. No output is longer than mostOutput.
+// in the output. Where a buffer is too short, or the cache is not one block, nothing is written in any. No output is longer than
+// mostOutput (`OutputSays`).
 pub fn screen(
     input: &[u8],
     out: &mut [u8],
@@ -141,8 +142,7 @@ pub fn screen(
     hits: &mut [u16],
 ) -> Screened
     ensures { λ r. ⌜ screened r (now (out .exit)) (now (cache .exit)) (now (hits .exit)) ≡ screenOutcome embeds (now (input .entry)) (now (out .entry)) (now (cache .entry)) (length (now (work .entry))) (now (hits .entry)) ⌝ }
-    ensures { λ r. ⌜ workLeft r (now (work .entry)) (now (work .exit)) ⌝ }
-    ensures { λ r. ⌜ ((n : ℕ) → r ≡ Screened.Written n → n ≤ mostOutput) ⌝ }
+    ensures { λ r. ⌜ WorkLeft r (now (work .entry)) (now (work .exit)) ⌝ }
 {
     if !has_room(out.len(), cache.len(), work.len(), hits.len()) {
         return Screened::NoRoom;

@@ -6,7 +6,7 @@ ghost use lib.ListN.{length, take};
 ghost use Rattle.screening.specs.Text.{digits, line, lines, hitsText, refusedText, Put};
 
 // One byte.
-pub fn put_byte(out: &mut [u8], at: usize, b: u8) -> usize
+pub(crate) fn put_byte(out: &mut [u8], at: usize, b: u8) -> usize
     requires { ⌜ at < length (now out) ⌝ }
     ensures { λ r. ⌜ Put (b ∷ []) (now (out .entry)) (now (out .exit)) at r ⌝ }
 {
@@ -15,7 +15,7 @@ pub fn put_byte(out: &mut [u8], at: usize, b: u8) -> usize
 }
 
 // The bytes of a word.
-pub fn put_word(out: &mut [u8], at: usize, word: &[u8]) -> usize
+pub(crate) fn put_word(out: &mut [u8], at: usize, word: &[u8]) -> usize
     requires { ⌜ at + length (now word) ≤ length (now out) ⌝ }
     ensures { λ r. ⌜ Put (now (word .entry)) (now (out .entry)) (now (out .exit)) at r ⌝ }
 {
@@ -28,7 +28,7 @@ pub fn put_word(out: &mut [u8], at: usize, word: &[u8]) -> usize
 }
 
 // A number in decimal: its front digits first, which are those of a tenth of it.
-pub fn put_number(out: &mut [u8], at: usize, n: usize) -> usize
+pub(crate) fn put_number(out: &mut [u8], at: usize, n: usize) -> usize
     requires { ⌜ at + length (digits n) ≤ length (now out) ⌝ }
     ensures { λ r. ⌜ Put (digits n) (now (out .entry)) (now (out .exit)) at r ⌝ }
 {
@@ -40,7 +40,7 @@ pub fn put_number(out: &mut [u8], at: usize, n: usize) -> usize
 }
 
 // A word and a number right after it.
-pub fn put_field(out: &mut [u8], at: usize, word: &[u8], n: usize) -> usize
+pub(crate) fn put_field(out: &mut [u8], at: usize, word: &[u8], n: usize) -> usize
     requires { ⌜ at + (length (now word) + length (digits n)) ≤ length (now out) ⌝ }
     ensures { λ r. ⌜ Put (now (word .entry) ++ digits n) (now (out .entry)) (now (out .exit)) at r ⌝ }
 {
@@ -49,7 +49,7 @@ pub fn put_field(out: &mut [u8], at: usize, word: &[u8], n: usize) -> usize
 }
 
 // A number on its own line.
-pub fn put_line(out: &mut [u8], at: usize, n: usize) -> usize
+pub(crate) fn put_line(out: &mut [u8], at: usize, n: usize) -> usize
     requires { ⌜ at + length (line (digits n)) ≤ length (now out) ⌝ }
     ensures { λ r. ⌜ Put (line (digits n)) (now (out .entry)) (now (out .exit)) at r ⌝ }
 {
@@ -58,7 +58,7 @@ pub fn put_line(out: &mut [u8], at: usize, n: usize) -> usize
 }
 
 // The first `count` of the numbers, each on its own line.
-pub fn put_lines(out: &mut [u8], at: usize, numbers: &[u16], count: usize) -> usize
+pub(crate) fn put_lines(out: &mut [u8], at: usize, numbers: &[u16], count: usize) -> usize
     requires { ⌜ count ≤ length (now numbers) ⌝ }
     requires { ⌜ at + length (lines (take count (now numbers))) ≤ length (now out) ⌝ }
     ensures { λ r. ⌜ Put (lines (take count (now (numbers .entry)))) (now (out .entry)) (now (out .exit)) at r ⌝ }
@@ -73,7 +73,7 @@ pub fn put_lines(out: &mut [u8], at: usize, numbers: &[u16], count: usize) -> us
 }
 
 // The text of an answered query.
-pub fn put_hits(out: &mut [u8], count: usize, searched: usize, numbers: &[u16]) -> usize
+pub(crate) fn put_hits(out: &mut [u8], count: usize, searched: usize, numbers: &[u16]) -> usize
     requires { ⌜ count ≤ length (now numbers) ⌝ }
     requires { ⌜ length (hitsText count searched (take count (now numbers))) ≤ length (now out) ⌝ }
     ensures { λ r. ⌜ Put (hitsText count searched (take count (now (numbers .entry)))) (now (out .entry)) (now (out .exit)) 0 r ⌝ }
@@ -85,7 +85,7 @@ pub fn put_hits(out: &mut [u8], count: usize, searched: usize, numbers: &[u16]) 
 }
 
 // The text of a refusal.
-pub fn put_refused(out: &mut [u8], number: u8, side: u8, place: usize) -> usize
+pub(crate) fn put_refused(out: &mut [u8], number: u8, side: u8, place: usize) -> usize
     requires { ⌜ length (refusedText number side place) ≤ length (now out) ⌝ }
     ensures { λ r. ⌜ Put (refusedText number side place) (now (out .entry)) (now (out .exit)) 0 r ⌝ }
 {

@@ -5,9 +5,12 @@ use mathlib.Core.List.{List}
 use native.Mathlib.Omega.{arith}
 use Rattle.strand.specs.Strands.{motifSide, moleculeSide}
 use Rattle.strand.specs.Refusals.{first, leastLength, greatestLength, checkVerdict, pairVerdict}
-use Rattle.strand.specs.Statements.{StrandSays, CheckSays, PairSays, LowestSays, Claims}
+use Rattle.strand.specs.Statements.{NestedSays, StrandSays, CheckSays, PairSays, LowestSays, Claims}
 use Rattle.strand.proofs.ListLaws.{lowest-before, lowest-upto, lowest-passes}
-use Rattle.strand.proofs.VerdictLaws.{accepted-proper, proper-accepted, pair-proper}
+use Rattle.strand.proofs.VerdictLaws.{nested-yes, nested-test, accepted-proper, proper-accepted, pair-proper}
+
+nested-says : (mates : List ℕ) → NestedSays mates
+nested-says mates = (nested-yes mates, nested-test mates)
 
 strand-says : (side least greatest : ℕ) (bases mates : List ℕ) → StrandSays side least greatest bases mates
 strand-says side least greatest bases mates = (accepted-proper side least greatest bases mates, proper-accepted side least greatest bases mates)
@@ -33,4 +36,4 @@ lowest-says n test =
     }
 
 pub claims : Claims
-claims = record { strand-says = strand-says; check-says = check-says; pair-says = pair-says; lowest-says = lowest-says }
+claims = record { nested-says = nested-says; strand-says = strand-says; check-says = check-says; pair-says = pair-says; lowest-says = lowest-says }

@@ -1,10 +1,10 @@
--- Laws of the shared vocabulary: tests over the numbers below n, the lowest that passes, tabulated lists, sums and equal lists.
+-- Laws of the shared vocabulary: tests over the numbers below n, the lowest that passes, tabulated lists, selections, sums and equal lists.
 -- Assumes nothing.
 use mathlib.Core.Path.{_≡_, refl, sym, ap, ap₂, _∙_}
-use mathlib.Core.Bool.{Bool, true, false, not, _&&_, _||_, and-false}
-use mathlib.Core.List.{List, [], _∷_, _++_}
-use mathlib.Core.Logic.{⊎-elim}
-use Prim.Native.Nat.{ℕ, zero, suc, _+_, _-_, _<_, _≤_}
+use mathlib.Core.Bool.{Bool, true, false, not, _&&_, _||_, and-false, or-true}
+use mathlib.Core.List.{List, [], _∷_, _++_, append-nil}
+use mathlib.Core.Logic.{_⊎_, inl, inr, ⊎-elim}
+use Prim.Native.Nat.{ℕ, zero, suc, _+_, _<_, _≤_}
 use native.Mathlib.Omega.{arith}
 use native.Mathlib.Nat.{le-of-suc-le-suc, not-suc-le-zero, eq-or-lt-of-le}
 use native.Mathlib.Numerals.{add-one}
@@ -13,7 +13,7 @@ use borrow.Author.Tests.{eqb-true, eq-eqb, ne-eqb, not-false, lt-ltb, le-ltb}
 use lib.Dec.{eqb, ltb}
 use lib.ListN.{length, set, drop, length-append, List·getD-append, drop-of-length-le, replicate, getD-replicate, length-replicate, List·getD-eq-default}
 use lib.Seq.{drop-cons, set-at, append-snoc, getD-at, ext-getD}
-use Rattle.strand.specs.Vocabulary.{nth, choose, every, all, some, lowestFrom, lowest, tab, total, sameList}
+use Rattle.strand.specs.Vocabulary.{nth, choose, every, all, some, lowestFrom, lowest, tab, select, total, sameList}
 
 -- ---- Booleans
 
@@ -41,6 +41,11 @@ never q = absurd (let z : _≡_ {A = ℕ} 0 1 = cc in omega arith)
 pub is-true : (b : Bool) → (b ≡ false → ⊥) → b ≡ true
 is-true true f = refl
 is-true false f = absurd (f refl)
+
+-- A test passes or does not.
+pub by-bool : (b : Bool) → (b ≡ true) ⊎ (b ≡ false)
+by-bool true = inl refl
+by-bool false = inr refl
 
 -- Two tests that pass together are equal.
 pub both-ways : (a b : Bool) → (a ≡ true → b ≡ true) → (b ≡ true → a ≡ true) → a ≡ b
@@ -86,10 +91,6 @@ module _ (p : ℕ → Bool) where
   some-yes (suc n) i l e =
       ⊎-elim (λ q. ap (λ (b : Bool). b || some n p) (ap p (sym q) ∙ e))
       (λ k. ap (λ (b : Bool). p n || b) (some-yes n i k e) ∙ or-true (p n)) (eq-or-lt-of-le (le-of-suc-le-suc l))
-    where
-      or-true : (b : Bool) → (b || true) ≡ true
-      or-true true = refl
-      or-true false = refl
 
   pub some-no : (n : ℕ) → ((i : ℕ) → i < n → p i ≡ false) → some n p ≡ false
   unfolding some
@@ -220,6 +221,18 @@ module _ (f : ℕ → ℕ) where
   nth-tab (suc n) i h =
       ⊎-elim (λ q. rw q (getD-at (tab n f) (f n) [] 0 n (length-tab n)))
       (λ k. List·getD-append (tab n f) (f n ∷ []) 0 i (rw length-tab k) ∙ nth-tab n i k) (eq-or-lt-of-le (le-of-suc-le-suc h))
+
+-- ---- select
+
+-- The numbers selected below n are at most n.
+pub select-short : (p : ℕ → Bool) (n : ℕ) → length (select n p) ≤ n
+unfolding select choose
+select-short p zero = omega arith
+select-short p (suc n) = go (p n) (select-short p n)
+  where
+    go : (b : Bool) → length (select n p) ≤ n → length (select n p ++ choose b (n ∷ []) []) ≤ suc n
+    go true i = omega (arith, length-append (select n p) (n ∷ []))
+    go false i = rw append-nil (omega arith)
 
 -- ---- sums
 

@@ -10,7 +10,7 @@ use lib.ListN.{length}
 use lib.Dec.{ltb, leb, eqb}
 use borrow.Author.Tests.{lt-ltb, le-ltb}
 use Rattle.strand.specs.Vocabulary.{nth, some}
-use Rattle.strand.specs.Strands.{isLetter, notLetter, mateOutside, notMutual, crosses, crossedAt, Mutual, Closes}
+use Rattle.strand.specs.Strands.{isLetter, notLetter, mateOutside, notMutual, crosses, crossedAt, Inside, Paired, Apart, Closes}
 use Rattle.strand.proofs.ListLaws.{some-no, some-none}
 
 -- ---- the test of two arcs
@@ -49,9 +49,6 @@ single mates i b e = e
 
 -- ---- no crossing, as a test and as a proposition
 
-abbrev pub Apart : (ℕ → ℕ) → ℕ → Type 0
-Apart mate n = (a i : ℕ) → i < n → a < i → i < mate a → mate a < mate i → ⊥
-
 module _ (mates : List ℕ) (n : ℕ) where
   pub uncrossed-apart : ((i : ℕ) → i < n → crossedAt mates i ≡ false) → Apart (nth mates) n
   unfolding crossedAt
@@ -71,21 +68,21 @@ module _ (mates : List ℕ) (n : ℕ) where
 
 -- ---- arcs that hold their inside
 
-module _ (mate : ℕ → ℕ) (n : ℕ) (M : Mutual mate n) where
+module _ (mate : ℕ → ℕ) (n : ℕ) where
   pub closes-apart : ((k : ℕ) → k < n → Closes mate k) → Apart mate n
   closes-apart h a i l u v w = let z = h a (omega arith) i u v in omega arith
 
-  pub apart-closes : Apart mate n → (k : ℕ) → k < n → Closes mate k
-  apart-closes h k l u a b = go (decLt u (mate u))
+  pub apart-closes : Inside mate n → Paired mate n → Apart mate n → (k : ℕ) → k < n → Closes mate k
+  apart-closes I P h k l u a b = go (decLt u (mate u))
     where
       in-n : u < n
-      in-n = omega (arith, M .inside k l)
+      in-n = omega (arith, I k l)
 
       back : mate (mate u) ≡ u
-      back = M .paired u in-n
+      back = P u in-n
 
       not-end : mate u ≡ mate k → ⊥
-      not-end e = omega (arith, ap mate e, back, M .paired k l)
+      not-end e = omega (arith, ap mate e, back, P k l)
 
       not-start : mate u ≡ k → ⊥
       not-start e = omega (arith, ap mate e, back)
@@ -109,13 +106,13 @@ pub record Passed (mate : ℕ → ℕ) (i k : ℕ) : Type 0 where
   pub begun : i < k
   pub mates-in : (u : ℕ) → i < u → u < k → (i < mate u) × (mate u < k)
 
-module _ (mate : ℕ → ℕ) (n : ℕ) (M : Mutual mate n) (i : ℕ) where
+module _ (mate : ℕ → ℕ) (n : ℕ) (P : Paired mate n) (i : ℕ) where
   pub walk-start : Passed mate i (i + 1)
   walk-start = record { begun = omega arith; mates-in = λ u a b. absurd (omega arith) }
 
   -- A base whose mate was passed, or lies past the end: the arc does not close.
   pub walk-back : (k : ℕ) → i < k → k < n → Passed mate i k → k < mate i → mate k < k → Closes mate i → ⊥
-  walk-back k l h W b e C = let x = C k l b in let y = W .mates-in (mate k) (x .0) e in omega (arith, M .paired k h)
+  walk-back k l h W b e C = let x = C k l b in let y = W .mates-in (mate k) (x .0) e in omega (arith, P k h)
 
   pub walk-past : (k : ℕ) → i < k → k < mate i → mate i ≤ mate k → Closes mate i → ⊥
   walk-past k l b e C = let x = C k l b in omega arith
@@ -130,7 +127,7 @@ module _ (mate : ℕ → ℕ) (n : ℕ) (M : Mutual mate n) (i : ℕ) where
           go : Dec (u < k) → Dec (u ≡ k) → Dec (u ≡ mate k) → (i < mate u) × (mate u < mate k + 1)
           go (yes x) y z = let w = W .mates-in u a x in (omega arith, omega arith)
           go (no x) (yes y) z = (omega (arith, ap mate y), omega (arith, ap mate y))
-          go (no x) (no y) (yes z) = (omega (arith, ap mate z, M .paired k h), omega (arith, ap mate z, M .paired k h))
+          go (no x) (no y) (yes z) = (omega (arith, ap mate z, P k h), omega (arith, ap mate z, P k h))
           go (no x) (no y) (no z) = let w = C (omega arith) u (omega arith) (omega arith) in (omega arith, omega arith)
 
   pub walk-end : (k : ℕ) → Passed mate i k → mate i ≤ k → (i < mate i → k ≤ mate i) → Closes mate i
@@ -142,15 +139,16 @@ pub closes-more : (mate : ℕ → ℕ) (n i : ℕ) → 0 < i → Closes mate (i 
     → (k : ℕ) → i - 1 ≤ k → k < n → Closes mate k
 closes-more mate n i h C rest k a l = elim (ℕ-discrete (i - 1) k) [ yes e ↦ rw e at C | no e ↦ rest k (omega arith) l ]
 
-module _ (mates : List ℕ) (M : Mutual (nth mates) (length mates)) where
+module _ (mates : List ℕ) where
   pub crossed-none : ((k : ℕ) → k < length mates → Closes (nth mates) k) → some (length mates) (crossedAt mates) ≡ false
-  crossed-none h = some-no (crossedAt mates) (length mates) (apart-uncrossed mates (length mates) (closes-apart (nth mates) (length mates) M h))
+  crossed-none h = some-no (crossedAt mates) (length mates) (apart-uncrossed mates (length mates) (closes-apart (nth mates) (length mates) h))
 
-  pub crossed-some : (i : ℕ) → i < length mates → (Closes (nth mates) i → ⊥) → some (length mates) (crossedAt mates) ≡ true
-  crossed-some i l h = go (some (length mates) (crossedAt mates)) refl
+  pub crossed-some : Inside (nth mates) (length mates) → Paired (nth mates) (length mates) → (i : ℕ) → i < length mates → (Closes (nth mates) i → ⊥)
+      → some (length mates) (crossedAt mates) ≡ true
+  crossed-some I P i l h = go (some (length mates) (crossedAt mates)) refl
     where
       go : (b : Bool) → some (length mates) (crossedAt mates) ≡ b → some (length mates) (crossedAt mates) ≡ true
       go true e = e
       go false e =
-          absurd (h (apart-closes (nth mates) (length mates) M
+          absurd (h (apart-closes (nth mates) (length mates) I P
           (uncrossed-apart mates (length mates) (λ k u. some-none (crossedAt mates) (length mates) k e u)) i l))

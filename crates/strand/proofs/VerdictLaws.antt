@@ -12,7 +12,7 @@ use Rattle.strand.specs.declared.Refusal.{Refusal}
 use Rattle.strand.specs.declared.Verdict.{Verdict}
 use Rattle.strand.specs.declared.Verdict.the-variants.{Accepted, Refused}
 use Rattle.strand.specs.Vocabulary.{nth, choose, all, some, lowest, sameList}
-use Rattle.strand.specs.Strands.{Strand, sameStrand, motifSide, moleculeSide, isLetter, notLetter, mateOutside, notMutual, crossedAt, isNested, Mutual, Nested, Proper}
+use Rattle.strand.specs.Strands.{Strand, sameStrand, motifSide, moleculeSide, isLetter, notLetter, mateOutside, notMutual, crossedAt, isNested, Inside, Paired, Nested, Proper}
 use Rattle.strand.specs.Refusals.{refusal, row, rowAt, first, strandVerdict, pairVerdict, leastLength, greatestLength}
 use Rattle.strand.proofs.ListLaws.{and-true, not-not, true-not, every-at, every-true, some-no, some-none, lowest-all, lowest-before, some-lowest, same-eq}
 use Rattle.strand.proofs.NestingLaws.{uncrossed-apart, apart-uncrossed}
@@ -133,13 +133,17 @@ module _ (side least greatest : ℕ) (bs ms : List ℕ) where
 -- ---- the mates: tests and propositions
 
 module _ (ms : List ℕ) where
-  pub mutual-of : ((i : ℕ) → i < length ms → mateOutside ms i ≡ false) → ((i : ℕ) → i < length ms → notMutual ms i ≡ false) → Mutual (nth ms) (length ms)
-  unfolding mateOutside notMutual
-  mutual-of h g = record { inside = λ i l. leb-false (length ms) (nth ms i) (h i l); paired = λ i l. eqb-true _ _ (not-not _ (g i l)) }
+  inside-of : ((i : ℕ) → i < length ms → mateOutside ms i ≡ false) → Inside (nth ms) (length ms)
+  unfolding mateOutside
+  inside-of h i l = leb-false (length ms) (nth ms i) (h i l)
+
+  paired-of : ((i : ℕ) → i < length ms → notMutual ms i ≡ false) → Paired (nth ms) (length ms)
+  unfolding notMutual
+  paired-of h i l = eqb-true _ _ (not-not _ (h i l))
 
   nested-of : ((i : ℕ) → i < length ms → mateOutside ms i ≡ false) → ((i : ℕ) → i < length ms → notMutual ms i ≡ false)
       → ((i : ℕ) → i < length ms → crossedAt ms i ≡ false) → Nested (nth ms) (length ms)
-  nested-of h g k = let M = mutual-of h g in record { inside = M .inside; paired = M .paired; apart = uncrossed-apart ms (length ms) k }
+  nested-of h g k = record { inside = inside-of h; paired = paired-of g; apart = uncrossed-apart ms (length ms) k }
 
   module _ (N : Nested (nth ms) (length ms)) where
     none-outside : (i : ℕ) → i < length ms → mateOutside ms i ≡ false
@@ -178,9 +182,8 @@ module _ (ms : List ℕ) (i5 : ℕ) (is5 : i5 ≡ lowest (length ms) (mateOutsid
     in-range : (i : ℕ) → i < length ms → mateOutside ms i ≡ false
     in-range i l = lowest-before (mateOutside ms) (length ms) i (omega arith) l
 
-    pub found-range : (i : ℕ) → i < length ms → nth ms i < length ms
-    unfolding mateOutside
-    found-range i l = leb-false (length ms) (nth ms i) (in-range i l)
+    pub found-inside : Inside (nth ms) (length ms)
+    found-inside = inside-of ms in-range
 
     module _ (i6 : ℕ) (is6 : i6 ≡ lowest (length ms) (notMutual ms)) where
       pub nested-single : i6 < length ms → false ≡ isNested ms
@@ -188,8 +191,8 @@ module _ (ms : List ℕ) (i5 : ℕ) (is5 : i5 ≡ lowest (length ms) (mateOutsid
       nested-single h = rw (some-lowest (mateOutside ms) (length ms), ← is5, le-ltb i5 (length ms) h5, some-lowest (notMutual ms) (length ms), ← is6, lt-ltb i6 (length ms) h)
 
       module _ (h6 : length ms ≤ i6) where
-        pub found-mutual : Mutual (nth ms) (length ms)
-        found-mutual = mutual-of ms in-range (λ i l. lowest-before (notMutual ms) (length ms) i (omega arith) l)
+        pub found-paired : Paired (nth ms) (length ms)
+        found-paired = paired-of ms (λ i l. lowest-before (notMutual ms) (length ms) i (omega arith) l)
 
         pub nested-arcs : not (some (length ms) (crossedAt ms)) ≡ isNested ms
         unfolding isNested

@@ -52,6 +52,7 @@ alreadyHeld = 13
 abbrev pub notHeld : ℕ
 notHeld = 14
 
+-- A refusal: number, side and place.
 abbrev pub refusal : ℕ → ℕ → ℕ → Verdict
 refusal number side place = Refused (record { number = number; side = side; place = place })
 
@@ -82,7 +83,7 @@ strandVerdict side least greatest bases mates =
     ∷ rowAt arcsCross side (length mates) (crossedAt mates)
     ∷ [])
 
--- The limits of the direct calls.
+-- 01, lengths: 1 base at the least, everywhere; 4,096 at the most in the direct calls.
 abbrev pub leastLength : ℕ
 leastLength = 1
 

@@ -4,10 +4,15 @@ use mathlib.Core.Path.{_≡_}
 use mathlib.Core.Bool.{Bool, true, false}
 use mathlib.Core.Logic.{_↔_}
 use mathlib.Core.List.{List}
+use lib.ListN.{length}
 use Rattle.strand.specs.declared.Verdict.the-variants.{Accepted}
-use Rattle.strand.specs.Vocabulary.{lowest}
-use Rattle.strand.specs.Strands.{motifSide, moleculeSide, Proper}
+use Rattle.strand.specs.Vocabulary.{nth, lowest}
+use Rattle.strand.specs.Strands.{motifSide, moleculeSide, isNested, Nested, Proper}
 use Rattle.strand.specs.Refusals.{strandVerdict, leastLength, greatestLength, checkVerdict, pairVerdict}
+
+-- 01, Molecule and motif: the test of the mates passes exactly when they are in range and mutual and no two arcs cross.
+abbrev pub NestedSays : List ℕ → Type 0
+NestedSays mates = (isNested mates ≡ true) ↔ Nested (nth mates) (length mates)
 
 -- Rows 1 to 7 let a strand pass exactly when it is proper: a nested strand of letters whose length lies within the limits.
 abbrev pub StrandSays : ℕ → ℕ → ℕ → List ℕ → List ℕ → Type 0
@@ -32,6 +37,7 @@ pub record LowestSays (n : ℕ) (test : ℕ → Bool) : Type 0 where
 
 -- All the claims.
 pub record Claims : Type 0 where
+  pub nested-says : (mates : List ℕ) → NestedSays mates
   pub strand-says : (side least greatest : ℕ) (bases mates : List ℕ) → StrandSays side least greatest bases mates
   pub check-says : (bases mates : List ℕ) → CheckSays bases mates
   pub pair-says : (p pm q qm : List ℕ) → PairSays p pm q qm

@@ -66,15 +66,23 @@ unfoldable pub isNested : List ℕ → Bool
 isNested mates =
     not (some (length mates) (mateOutside mates)) && not (some (length mates) (notMutual mates)) && not (some (length mates) (crossedAt mates))
 
--- The same as propositions, for the mates of n bases.
-pub record Mutual (mate : ℕ → ℕ) (n : ℕ) : Type 0 where
-  pub inside : (i : ℕ) → i < n → mate i < n
-  pub paired : (i : ℕ) → i < n → mate (mate i) ≡ i
+-- The same as propositions, for the mates of n bases. The mates are in range.
+abbrev pub Inside : (ℕ → ℕ) → ℕ → Type 0
+Inside mate n = (i : ℕ) → i < n → mate i < n
 
+-- The mates are mutual.
+abbrev pub Paired : (ℕ → ℕ) → ℕ → Type 0
+Paired mate n = (i : ℕ) → i < n → mate (mate i) ≡ i
+
+-- No two arcs cross.
+abbrev pub Apart : (ℕ → ℕ) → ℕ → Type 0
+Apart mate n = (a i : ℕ) → i < n → a < i → i < mate a → mate a < mate i → ⊥
+
+-- The mates are nested.
 pub record Nested (mate : ℕ → ℕ) (n : ℕ) : Type 0 where
-  pub inside : (i : ℕ) → i < n → mate i < n
-  pub paired : (i : ℕ) → i < n → mate (mate i) ≡ i
-  pub apart : (a i : ℕ) → i < n → a < i → i < mate a → mate a < mate i → ⊥
+  pub inside : Inside mate n
+  pub paired : Paired mate n
+  pub apart : Apart mate n
 
 -- A nested strand of letters whose length lies within the limits.
 pub record Proper (side least greatest : ℕ) (bases mates : List ℕ) : Type 0 where
@@ -84,6 +92,6 @@ pub record Proper (side least greatest : ℕ) (bases mates : List ℕ) : Type 0 
   pub letters : all (isLetter side) bases ≡ true
   pub nested : Nested (nth mates) (length bases)
 
--- For proofs: every base strictly inside the arc of k, if k begins one, has its mate there too.
+-- Every base strictly inside the arc of k, if k begins one, has its mate there too: what `nesting::closes` tells.
 abbrev pub Closes : (ℕ → ℕ) → ℕ → Type 0
 Closes mate k = (u : ℕ) → k < u → u < mate k → (k < mate u) × (mate u < mate k)

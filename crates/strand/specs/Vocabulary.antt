@@ -19,7 +19,7 @@ unfoldable pub choose : {A : Type 0} → Bool → A → A → A
 choose true x y = x
 choose false x y = y
 
--- Every number below n passes; some number below n passes.
+-- Every number below n passes; some number below n passes. By the `let` the rest is computed only where p n does not decide.
 unfoldable pub every : ℕ → (ℕ → Bool) → Bool
 every zero p = true
 every (suc n) p = let r = every n p in p n && r

@@ -5,7 +5,7 @@ ghost use Rattle.strand.specs.Vocabulary.{lowest};
 ghost use Rattle.strand.specs.Strands.{isLetter, notLetter};
 
 // A, C, G or U, on either side.
-pub fn is_letter(side: u8, b: u8) -> bool
+fn is_letter(side: u8, b: u8) -> bool
     ensures { λ r. ⌜ r ≡ isLetter side b ⌝ }
 {
     if b == 65 {

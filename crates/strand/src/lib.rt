@@ -13,11 +13,13 @@ pub struct Refusal {
     pub place: usize,
 }
 
+// What a check comes to.
 pub enum Verdict {
     Accepted,
     Refused(Refusal),
 }
 
+// The refusal with this number, side and place.
 pub fn refuse(number: u8, side: u8, place: usize) -> Verdict
     ensures { λ r. ⌜ r ≡ refusal number side place ⌝ }
 {
@@ -28,11 +30,18 @@ pub fn refuse(number: u8, side: u8, place: usize) -> Verdict
     })
 }
 
-// Whether a base of the motif matches a base of the molecule: the one place in the code that knows the letter rule.
-pub fn letters_match(p: u8, q: u8) -> bool
+// Whether a base of the motif matches a base of the molecule, as 16 bits: the one place in the code that knows the letter rule.
+pub fn wide_letters_match(p: u16, q: u16) -> bool
     ensures { λ r. ⌜ r ≡ lettersMatch p q ⌝ }
 {
     p == q
+}
+
+// The same for bytes.
+pub fn letters_match(p: u8, q: u8) -> bool
+    ensures { λ r. ⌜ r ≡ lettersMatch p q ⌝ }
+{
+    wide_letters_match(p as u16, q as u16)
 }
 
 // The check of a strand of one side, its length from least to greatest. The place of a crossing, which takes quadratic time, is looked for

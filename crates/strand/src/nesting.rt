@@ -4,7 +4,7 @@ ghost use mathlib.Core.Bool.{not};
 ghost use Prim.Native.Nat.{ℕ, _<_};
 ghost use lib.ListN.{length};
 ghost use Rattle.strand.specs.Vocabulary.{nth, some, lowest, Tells};
-ghost use Rattle.strand.specs.Strands.{mateOutside, notMutual, crosses, crossedAt, isNested, Mutual, Closes};
+ghost use Rattle.strand.specs.Strands.{mateOutside, notMutual, crosses, crossedAt, isNested, Inside, Paired, Closes};
 
 // The lowest position whose mate is at or above the length, or the length.
 pub(crate) fn lowest_outside(mates: &[u16]) -> usize
@@ -22,7 +22,7 @@ pub(crate) fn lowest_outside(mates: &[u16]) -> usize
 
 // The lowest position whose mate's mate is another position, or the length. Callers have found the mates in range.
 pub(crate) fn lowest_not_mutual(mates: &[u16]) -> usize
-    requires { ⌜ ((i : ℕ) → i < length (now mates) → nth (now mates) i < length (now mates)) ⌝ }
+    requires { ⌜ Inside (nth (now mates)) (length (now mates)) ⌝ }
     ensures { λ r. ⌜ r ≡ lowest (length (now (mates .entry))) (notMutual (now (mates .entry))) ⌝ }
 {
     let mut i = 0;
@@ -39,7 +39,8 @@ pub(crate) fn lowest_not_mutual(mates: &[u16]) -> usize
 // Whether the arc that begins at i, if any, holds the mate of each base inside it, where the arcs that begin later do. The walk jumps over
 // the arcs inside, so all walks together take linear time.
 fn closes(mates: &[u16], i: usize) -> bool
-    requires { ⌜ Mutual (nth (now mates)) (length (now mates)) ⌝ }
+    requires { ⌜ Inside (nth (now mates)) (length (now mates)) ⌝ }
+    requires { ⌜ Paired (nth (now mates)) (length (now mates)) ⌝ }
     requires { ⌜ i < length (now mates) ⌝ }
     requires { ⌜ ((k : ℕ) → i < k → k < length (now mates) → Closes (nth (now mates)) k) ⌝ }
     ensures { λ r. ⌜ Tells r (Closes (nth (now (mates .entry))) i) ⌝ }
@@ -61,7 +62,8 @@ fn closes(mates: &[u16], i: usize) -> bool
 
 // Whether no two arcs cross, in linear time. Callers have found the mates in range and mutual.
 pub(crate) fn arcs_close(mates: &[u16]) -> bool
-    requires { ⌜ Mutual (nth (now mates)) (length (now mates)) ⌝ }
+    requires { ⌜ Inside (nth (now mates)) (length (now mates)) ⌝ }
+    requires { ⌜ Paired (nth (now mates)) (length (now mates)) ⌝ }
     ensures { λ r. ⌜ r ≡ not (some (length (now (mates .entry))) (crossedAt (now (mates .entry)))) ⌝ }
 {
     let mut i = mates.len();

@@ -4,7 +4,7 @@ use mathlib.Core.Path.{refl, sym, _∙_}
 use lib.ListN.{length}
 use Rattle.matcher.specs.Answers.{showAnswer, WorkKept, PlacesShown}
 use Rattle.matcher.proofs.CallLaws.{answer-refused, answer-prefix, show-facts, shown-of}
-use Rattle.matcher.proofs.Top.{walked-longest}
+use Rattle.matcher.proofs.Whole.{walked-longest}
 use Rattle.matcher.proofs.show.Statement.{statement}
 use Rattle.matcher.proofs.show.Tie as tie
 

@@ -1,6 +1,5 @@
 -- `screening::ask_afresh` meets its contract.
 use borrow.Author.Needs.{needs}
-use Prim.Native.Nat.{_-_}
 use native.Mathlib.Omega.{arith}
 use lib.ListN.{length}
 use Rattle.catalog.specs.Motifs.{embeds}

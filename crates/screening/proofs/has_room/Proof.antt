@@ -1,5 +1,4 @@
 -- `screening::has_room` meets its contract.
-use Prim.Native.Nat.{_-_}
 use Rattle.screening.proofs.ScreenLaws as law
 use Rattle.screening.proofs.has_room.Statement.{statement}
 use Rattle.screening.proofs.has_room.Tie as tie

@@ -1,5 +1,4 @@
 -- `screening::is_input` meets its contract.
-use Prim.Native.Nat.{_-_}
 use Rattle.screening.proofs.ScreenLaws as law
 use Rattle.screening.proofs.is_input.Statement.{statement}
 use Rattle.screening.proofs.is_input.Tie as tie

@@ -1,6 +1,5 @@
 -- `screening::is_motif` meets its contract.
 use borrow.Author.Needs.{needs}
-use Prim.Native.Nat.{_-_}
 use Rattle.strand.proofs.ListLaws.{true-not, not-not}
 use Rattle.screening.proofs.ScreenLaws as law
 use Rattle.screening.proofs.is_motif.Statement.{statement}

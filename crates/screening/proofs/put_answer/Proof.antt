@@ -1,6 +1,5 @@
 -- `screening::put_answer` meets its contract.
 use borrow.Author.Needs.{needs}
-use Prim.Native.Nat.{_-_}
 use native.Mathlib.Omega.{arith}
 use Rattle.screening.specs.Text.{mostOutput}
 use Rattle.screening.proofs.ScreenLaws as law
@@ -23,13 +22,13 @@ same-length : tie.Need-same-length
 same-length c = search needs
 
 returns : tie.Need-returns
-returns c = (law.put-refused (c .before .before .before .before .before .answer .given .0 .0) (c .before .before .before .before .before .before .before .before .before .args .answer) (c .before .before .before .before .before .before .before .before .before .args .hits .now) (c .before .before .before .before .before .answer .given .1) (c .before .before .put-row .ensures .0), c .before .before .put-row .ensures .1)
+returns c = law.put-refused (c .before .before .before .before .before .answer .given .0 .0) (c .before .before .before .before .before .before .before .before .before .args .answer) (c .before .before .before .before .before .before .before .before .before .args .hits .now) (c .before .before .before .before .before .answer .given .1) (c .before .before .put-row .ensures)
 
 same-length-2 : tie.Need-same-length-2
 same-length-2 c = search needs
 
 returns-2 : tie.Need-returns-2
-returns-2 c = (law.put-hits (c .before .before .before .before .before .answer2 .given .0 .0) (c .before .before .before .before .before .answer2 .given .0 .1 .0) (c .before .before .before .before .before .before .before .before .before .args .answer) (c .before .before .before .before .before .before .before .before .before .args .hits .now) (c .before .before .before .before .before .answer2 .given .1) (c .before .before .put-hits .ensures), omega (arith, c .before .before .put-hits .ensures .past, law.fits-hits (c .before .before .before .before .before .answer2 .given .0 .0) (c .before .before .before .before .before .answer2 .given .0 .1 .0) (c .before .before .before .before .before .before .before .before .before .args .answer) (c .before .before .before .before .before .before .before .before .before .args .hits .now) mostOutput (c .before .before .before .before .before .answer2 .given .1) (c .before .before .before .before .before .before .before .before .before .pre .0) .1))
+returns-2 c = law.put-hits (c .before .before .before .before .before .answer2 .given .0 .0) (c .before .before .before .before .before .answer2 .given .0 .1 .0) (c .before .before .before .before .before .before .before .before .before .args .answer) (c .before .before .before .before .before .before .before .before .before .args .hits .now) (c .before .before .before .before .before .answer2 .given .1) (c .before .before .put-hits .ensures)
 
 pub put-answer-spec : {M : Type 1} → statement M
 put-answer-spec =

@@ -1,6 +1,5 @@
 -- `screening::put_row` meets its contract.
 use borrow.Author.Needs.{needs}
-use Prim.Native.Nat.{_-_}
 use native.Mathlib.Omega.{arith}
 use Rattle.screening.proofs.TextLaws.{most-refused}
 use Rattle.screening.proofs.put_row.Statement.{statement}
@@ -13,7 +12,7 @@ same-length : tie.Need-same-length
 same-length c = search needs
 
 returns : tie.Need-returns
-returns c = (c .before .before .put-refused .ensures, omega (arith, c .before .before .put-refused .ensures .past, most-refused (c .before .before .before .before .before .args .number) (c .before .before .before .before .before .args .side) (c .before .before .before .before .before .args .place) (omega arith) (omega arith) (omega arith)))
+returns c = c .before .before .put-refused .ensures
 
 pub put-row-spec : {M : Type 1} → statement M
 put-row-spec = tie.close (tie.spec put-refused-requires same-length returns)

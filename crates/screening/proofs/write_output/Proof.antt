@@ -1,6 +1,5 @@
 -- `screening::write_output` meets its contract.
 use borrow.Author.Needs.{needs}
-use Prim.Native.Nat.{_-_}
 use native.Mathlib.Omega.{arith}
 use mathlib.Core.Path.{sym, _∙_}
 use lib.ListN.{length}
@@ -25,7 +24,7 @@ same-length : tie.Need-same-length
 same-length c = search needs
 
 returns : tie.Need-returns
-returns c = ((law.put-bad-length embeds (c .before .before .before .before .before .before .before .before .before .before .before .before .args .input .now) (sym (c .before .before .before .before .before .before .is-input .ensures) ∙ true-not _ (c .before .before .before .before .before .if1 .taken)) (c .before .before .put-word .ensures), omega (arith, c .before .before .put-word .ensures .past)), law.left-unasked embeds (c .before .before .before .before .before .before .before .before .before .before .before .before .args .input .now) (c .before .before .before .before .before .before .before .before .before .before .before .before .args .out .now) (c .before .before .before .before .before .before .before .before .before .before .before .before .args .cache .now) (length (c .before .before .before .before .before .before .before .before .before .before .before .before .args .work .now)) (c .before .before .before .before .before .before .before .before .before .before .before .before .args .hits .now) (law.asked-1 _ (sym (c .before .before .before .before .before .before .is-input .ensures) ∙ true-not _ (c .before .before .before .before .before .if1 .taken))))
+returns c = (law.put-bad-length embeds (c .before .before .before .before .before .before .before .before .before .before .before .before .args .input .now) (sym (c .before .before .before .before .before .before .is-input .ensures) ∙ true-not _ (c .before .before .before .before .before .if1 .taken)) (c .before .before .put-word .ensures), law.left-unasked embeds (c .before .before .before .before .before .before .before .before .before .before .before .before .args .input .now) (c .before .before .before .before .before .before .before .before .before .before .before .before .args .out .now) (c .before .before .before .before .before .before .before .before .before .before .before .before .args .cache .now) (length (c .before .before .before .before .before .before .before .before .before .before .before .before .args .work .now)) (c .before .before .before .before .before .before .before .before .before .before .before .before .args .hits .now) (law.asked-1 _ (sym (c .before .before .before .before .before .before .is-input .ensures) ∙ true-not _ (c .before .before .before .before .before .if1 .taken))))
 
 slice-aggregate-is-motif : tie.Need-slice-aggregate-is-motif
 slice-aggregate-is-motif c = sym (length-take-le 512 (c .before .before .before .before .before .before .before .before .args .input .now) (omega (arith, law.input-few (c .before .before .before .before .before .before .before .before .args .input .now) (sym (c .before .before .is-input .ensures) ∙ not-not _ (c .before .if1 .left)) .0)))
@@ -43,7 +42,7 @@ same-length-2 : tie.Need-same-length-2
 same-length-2 c = search needs
 
 returns-2 : tie.Need-returns-2
-returns-2 c = ((law.put-bad-motif embeds (c .before .before .before .before .before .before .before .before .before .before .before .before .before .before .before .args .input .now) (sym (c .before .before .before .before .before .before .before .before .before .is-input .ensures) ∙ not-not _ (c .before .before .before .before .before .before .before .before .if1 .left)) (sym (c .before .before .before .before .before .before .is-motif .ensures) ∙ true-not _ (c .before .before .before .before .before .if2 .taken)) (c .before .before .put-word2 .ensures), omega (arith, c .before .before .put-word2 .ensures .past)), law.left-unasked embeds (c .before .before .before .before .before .before .before .before .before .before .before .before .before .before .before .args .input .now) (c .before .before .before .before .before .before .before .before .before .before .before .before .before .before .before .args .out .now) (c .before .before .before .before .before .before .before .before .before .before .before .before .before .before .before .args .cache .now) (length (c .before .before .before .before .before .before .before .before .before .before .before .before .before .before .before .args .work .now)) (c .before .before .before .before .before .before .before .before .before .before .before .before .before .before .before .args .hits .now) (law.asked-2 _ _ (sym (c .before .before .before .before .before .before .before .before .before .is-input .ensures) ∙ not-not _ (c .before .before .before .before .before .before .before .before .if1 .left)) (sym (c .before .before .before .before .before .before .is-motif .ensures) ∙ true-not _ (c .before .before .before .before .before .if2 .taken))))
+returns-2 c = (law.put-bad-motif embeds (c .before .before .before .before .before .before .before .before .before .before .before .before .before .before .before .args .input .now) (sym (c .before .before .before .before .before .before .before .before .before .is-input .ensures) ∙ not-not _ (c .before .before .before .before .before .before .before .before .if1 .left)) (sym (c .before .before .before .before .before .before .is-motif .ensures) ∙ true-not _ (c .before .before .before .before .before .if2 .taken)) (c .before .before .put-word2 .ensures), law.left-unasked embeds (c .before .before .before .before .before .before .before .before .before .before .before .before .before .before .before .args .input .now) (c .before .before .before .before .before .before .before .before .before .before .before .before .before .before .before .args .out .now) (c .before .before .before .before .before .before .before .before .before .before .before .before .before .before .before .args .cache .now) (length (c .before .before .before .before .before .before .before .before .before .before .before .before .before .before .before .args .work .now)) (c .before .before .before .before .before .before .before .before .before .before .before .before .before .before .before .args .hits .now) (law.asked-2 _ _ (sym (c .before .before .before .before .before .before .before .before .before .is-input .ensures) ∙ not-not _ (c .before .before .before .before .before .before .before .before .if1 .left)) (sym (c .before .before .before .before .before .before .is-motif .ensures) ∙ true-not _ (c .before .before .before .before .before .if2 .taken))))
 
 ask-afresh-requires : tie.Need-ask-afresh-requires
 ask-afresh-requires c κs = ((sym (c .before .before .before .before .before .before .before .is-input .ensures) ∙ not-not _ (c .before .before .before .before .before .before .if1 .left)), ((sym (c .before .before .before .before .is-motif .ensures) ∙ not-not _ (c .before .before .before .if2 .left)), law.room-facts (length (c .before .before .before .before .before .before .before .before .before .before .before .before .before .args .out .now)) (length (c .before .before .before .before .before .before .before .before .before .before .before .before .before .args .cache .now)) (length (c .before .before .before .before .before .before .before .before .before .before .before .before .before .args .work .now)) (length (c .before .before .before .before .before .before .before .before .before .before .before .before .before .args .hits .now)) (c .before .before .before .before .before .before .before .before .before .before .before .before .before .pre) .1))
@@ -64,7 +63,7 @@ same-length-6 : tie.Need-same-length-6
 same-length-6 c = search needs
 
 returns-3 : tie.Need-returns-3
-returns-3 c = ((law.put-answered embeds (c .before .before .before .before .before .before .before .before .before .before .before .before .before .before .before .before .before .before .before .before .before .before .before .before .before .args .input .now) (length (c .before .before .before .before .before .before .before .before .before .before .before .before .before .before .before .before .before .before .before .before .before .before .before .before .before .args .work .now)) (c .before .before .before .before .before .before .before .before .before .before .before .before .before .before .before .before .before .before .before .before .before .before .before .before .before .args .hits .now) (c .before .before .before .before .before .before .before .before .before .before .before .ask-afresh .result) (c .before .before .before .before .before .before .before .before .before .before .before .ask-afresh .last .1 .0) (c .before .before .before .before .before .before .before .before .before .before .before .ask-afresh .last .1 .1 .1 .0) (sym (c .before .before .before .before .before .before .before .before .before .before .before .before .before .before .before .before .before .before .before .is-input .ensures) ∙ not-not _ (c .before .before .before .before .before .before .before .before .before .before .before .before .before .before .before .before .before .before .if1 .left)) (law.room-facts (length (c .before .before .before .before .before .before .before .before .before .before .before .before .before .before .before .before .before .before .before .before .before .before .before .before .before .args .out .now)) (length (c .before .before .before .before .before .before .before .before .before .before .before .before .before .before .before .before .before .before .before .before .before .before .before .before .before .args .cache .now)) (length (c .before .before .before .before .before .before .before .before .before .before .before .before .before .before .before .before .before .before .before .before .before .before .before .before .before .args .work .now)) (length (c .before .before .before .before .before .before .before .before .before .before .before .before .before .before .before .before .before .before .before .before .before .before .before .before .before .args .hits .now)) (c .before .before .before .before .before .before .before .before .before .before .before .before .before .before .before .before .before .before .before .before .before .before .before .before .before .pre) .2) (law.room-facts (length (c .before .before .before .before .before .before .before .before .before .before .before .before .before .before .before .before .before .before .before .before .before .before .before .before .before .args .out .now)) (length (c .before .before .before .before .before .before .before .before .before .before .before .before .before .before .before .before .before .before .before .before .before .before .before .before .before .args .cache .now)) (length (c .before .before .before .before .before .before .before .before .before .before .before .before .before .before .before .before .before .before .before .before .before .before .before .before .before .args .work .now)) (length (c .before .before .before .before .before .before .before .before .before .before .before .before .before .before .before .before .before .before .before .before .before .before .before .before .before .args .hits .now)) (c .before .before .before .before .before .before .before .before .before .before .before .before .before .before .before .before .before .before .before .before .before .before .before .before .before .pre) .3) (c .before .before .before .before .before .before .before .before .before .before .before .ask-afresh .ensures) (sym (c .before .before .before .before .before .before .before .before .before .before .before .before .before .before .before .before .is-motif .ensures) ∙ not-not _ (c .before .before .before .before .before .before .before .before .before .before .before .before .before .before .before .if2 .left)) (c .before .before .put-answer .ensures .0), c .before .before .put-answer .ensures .1), law.left-asked embeds (c .before .before .before .before .before .before .before .before .before .before .before .before .before .before .before .before .before .before .before .before .before .before .before .before .before .args .input .now) (c .before .before .before .before .before .before .before .before .before .before .before .before .before .before .before .before .before .before .before .before .before .before .before .before .before .args .out .now) (c .before .before .before .before .before .before .before .before .before .before .before .before .before .before .before .before .before .before .before .before .before .before .before .before .before .args .cache .now) (length (c .before .before .before .before .before .before .before .before .before .before .before .before .before .before .before .before .before .before .before .before .before .before .before .before .before .args .work .now)) (c .before .before .before .before .before .before .before .before .before .before .before .before .before .before .before .before .before .before .before .before .before .before .before .before .before .args .hits .now) (law.asked-2 _ _ (sym (c .before .before .before .before .before .before .before .before .before .before .before .before .before .before .before .before .before .before .before .is-input .ensures) ∙ not-not _ (c .before .before .before .before .before .before .before .before .before .before .before .before .before .before .before .before .before .before .if1 .left)) (sym (c .before .before .before .before .before .before .before .before .before .before .before .before .before .before .before .before .is-motif .ensures) ∙ not-not _ (c .before .before .before .before .before .before .before .before .before .before .before .before .before .before .before .if2 .left))) (c .before .before .before .before .before .before .before .before .before .before .before .ask-afresh .ensures))
+returns-3 c = (law.put-answered embeds (c .before .before .before .before .before .before .before .before .before .before .before .before .before .before .before .before .before .before .before .before .before .before .before .before .before .args .input .now) (length (c .before .before .before .before .before .before .before .before .before .before .before .before .before .before .before .before .before .before .before .before .before .before .before .before .before .args .work .now)) (c .before .before .before .before .before .before .before .before .before .before .before .before .before .before .before .before .before .before .before .before .before .before .before .before .before .args .hits .now) (c .before .before .before .before .before .before .before .before .before .before .before .ask-afresh .result) (c .before .before .before .before .before .before .before .before .before .before .before .ask-afresh .last .1 .0) (c .before .before .before .before .before .before .before .before .before .before .before .ask-afresh .last .1 .1 .1 .0) (sym (c .before .before .before .before .before .before .before .before .before .before .before .before .before .before .before .before .before .before .before .is-input .ensures) ∙ not-not _ (c .before .before .before .before .before .before .before .before .before .before .before .before .before .before .before .before .before .before .if1 .left)) (law.room-facts (length (c .before .before .before .before .before .before .before .before .before .before .before .before .before .before .before .before .before .before .before .before .before .before .before .before .before .args .out .now)) (length (c .before .before .before .before .before .before .before .before .before .before .before .before .before .before .before .before .before .before .before .before .before .before .before .before .before .args .cache .now)) (length (c .before .before .before .before .before .before .before .before .before .before .before .before .before .before .before .before .before .before .before .before .before .before .before .before .before .args .work .now)) (length (c .before .before .before .before .before .before .before .before .before .before .before .before .before .before .before .before .before .before .before .before .before .before .before .before .before .args .hits .now)) (c .before .before .before .before .before .before .before .before .before .before .before .before .before .before .before .before .before .before .before .before .before .before .before .before .before .pre) .2) (law.room-facts (length (c .before .before .before .before .before .before .before .before .before .before .before .before .before .before .before .before .before .before .before .before .before .before .before .before .before .args .out .now)) (length (c .before .before .before .before .before .before .before .before .before .before .before .before .before .before .before .before .before .before .before .before .before .before .before .before .before .args .cache .now)) (length (c .before .before .before .before .before .before .before .before .before .before .before .before .before .before .before .before .before .before .before .before .before .before .before .before .before .args .work .now)) (length (c .before .before .before .before .before .before .before .before .before .before .before .before .before .before .before .before .before .before .before .before .before .before .before .before .before .args .hits .now)) (c .before .before .before .before .before .before .before .before .before .before .before .before .before .before .before .before .before .before .before .before .before .before .before .before .before .pre) .3) (c .before .before .before .before .before .before .before .before .before .before .before .ask-afresh .ensures) (sym (c .before .before .before .before .before .before .before .before .before .before .before .before .before .before .before .before .is-motif .ensures) ∙ not-not _ (c .before .before .before .before .before .before .before .before .before .before .before .before .before .before .before .if2 .left)) (c .before .before .put-answer .ensures), law.left-asked embeds (c .before .before .before .before .before .before .before .before .before .before .before .before .before .before .before .before .before .before .before .before .before .before .before .before .before .args .input .now) (c .before .before .before .before .before .before .before .before .before .before .before .before .before .before .before .before .before .before .before .before .before .before .before .before .before .args .out .now) (c .before .before .before .before .before .before .before .before .before .before .before .before .before .before .before .before .before .before .before .before .before .before .before .before .before .args .cache .now) (length (c .before .before .before .before .before .before .before .before .before .before .before .before .before .before .before .before .before .before .before .before .before .before .before .before .before .args .work .now)) (c .before .before .before .before .before .before .before .before .before .before .before .before .before .before .before .before .before .before .before .before .before .before .before .before .before .args .hits .now) (law.asked-2 _ _ (sym (c .before .before .before .before .before .before .before .before .before .before .before .before .before .before .before .before .before .before .before .is-input .ensures) ∙ not-not _ (c .before .before .before .before .before .before .before .before .before .before .before .before .before .before .before .before .before .before .if1 .left)) (sym (c .before .before .before .before .before .before .before .before .before .before .before .before .before .before .before .before .is-motif .ensures) ∙ not-not _ (c .before .before .before .before .before .before .before .before .before .before .before .before .before .before .before .if2 .left))) (c .before .before .before .before .before .before .before .before .before .before .before .ask-afresh .ensures))
 
 pub write-output-spec : {M : Type 1} → statement M
 write-output-spec =

@@ -1,6 +1,5 @@
 -- `strand::check` meets its contract.
 use borrow.Author.Needs.{needs}
-use Prim.Native.Nat.{_-_}
 use Rattle.strand.specs.Refusals.{checkVerdict}
 use Rattle.strand.proofs.check.Statement.{statement}
 use Rattle.strand.proofs.check.Tie as tie

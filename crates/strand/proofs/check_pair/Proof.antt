@@ -1,6 +1,5 @@
 -- `strand::check_pair` meets its contract.
 use borrow.Author.Needs.{needs}
-use Prim.Native.Nat.{_-_}
 use mathlib.Core.Path.{sym, _∙_}
 use Rattle.strand.specs.Refusals.{first, pairVerdict}
 use Rattle.strand.proofs.VerdictLaws.{pair-second}

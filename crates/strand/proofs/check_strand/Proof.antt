@@ -1,9 +1,8 @@
 -- `strand::check_strand` meets its contract.
 use borrow.Author.Needs.{needs}
-use Prim.Native.Nat.{_-_}
 use mathlib.Core.Path.{sym, _∙_}
 use Rattle.strand.proofs.ListLaws.{not-not, true-not}
-use Rattle.strand.proofs.VerdictLaws.{check-1, check-2, check-3, check-4, check-5, check-6, check-7, check-8, found-range, found-mutual}
+use Rattle.strand.proofs.VerdictLaws.{check-1, check-2, check-3, check-4, check-5, check-6, check-7, check-8, found-inside, found-paired}
 use Rattle.strand.proofs.check_strand.Statement.{statement}
 use Rattle.strand.proofs.check_strand.Tie as tie
 
@@ -44,7 +43,7 @@ returns-5 : tie.Need-returns-5
 returns-5 c = c .refuse5 .ensures ∙ check-5 (c .before .before .before .before .before .before .before .before .before .before .args .side) (c .before .before .before .before .before .before .before .before .before .before .args .least) (c .before .before .before .before .before .before .before .before .before .before .args .greatest) (c .before .before .before .before .before .before .before .before .before .before .args .bases .now) (c .before .before .before .before .before .before .before .before .before .before .args .mates .now) (c .before .before .before .before .before .before .before .if1 .left) (c .before .before .before .before .before .before .if2 .left) (c .before .before .before .before .before .if3 .left) (c .before .before .before .before .lowest-stranger .result) (c .before .before .before .before .lowest-stranger .ensures) (c .before .before .before .if4 .left) (c .before .before .lowest-outside .result) (c .before .before .lowest-outside .ensures) (c .before .if5 .taken)
 
 lowest-not-mutual-requires : tie.Need-lowest-not-mutual-requires
-lowest-not-mutual-requires c κs = found-range (c .before .before .before .before .before .before .before .before .before .args .mates .now) (c .before .lowest-outside .result) (c .before .lowest-outside .ensures) (c .if5 .left)
+lowest-not-mutual-requires c κs = found-inside (c .before .before .before .before .before .before .before .before .before .args .mates .now) (c .before .lowest-outside .result) (c .before .lowest-outside .ensures) (c .if5 .left)
 
 refuse-requires-6 : tie.Need-refuse-requires-6
 refuse-requires-6 c κs = search needs
@@ -53,7 +52,7 @@ returns-6 : tie.Need-returns-6
 returns-6 c = c .refuse6 .ensures ∙ check-6 (c .before .before .before .before .before .before .before .before .before .before .before .before .args .side) (c .before .before .before .before .before .before .before .before .before .before .before .before .args .least) (c .before .before .before .before .before .before .before .before .before .before .before .before .args .greatest) (c .before .before .before .before .before .before .before .before .before .before .before .before .args .bases .now) (c .before .before .before .before .before .before .before .before .before .before .before .before .args .mates .now) (c .before .before .before .before .before .before .before .before .before .if1 .left) (c .before .before .before .before .before .before .before .before .if2 .left) (c .before .before .before .before .before .before .before .if3 .left) (c .before .before .before .before .before .before .lowest-stranger .result) (c .before .before .before .before .before .before .lowest-stranger .ensures) (c .before .before .before .before .before .if4 .left) (c .before .before .before .before .lowest-outside .result) (c .before .before .before .before .lowest-outside .ensures) (c .before .before .before .if5 .left) (c .before .before .lowest-not-mutual .result) (c .before .before .lowest-not-mutual .ensures) (c .before .if6 .taken)
 
 arcs-close-requires : tie.Need-arcs-close-requires
-arcs-close-requires c κs = found-mutual (c .before .before .before .before .before .before .before .before .before .before .before .args .mates .now) (c .before .before .before .lowest-outside .result) (c .before .before .before .lowest-outside .ensures) (c .before .before .if5 .left) (c .before .lowest-not-mutual .result) (c .before .lowest-not-mutual .ensures) (c .if6 .left)
+arcs-close-requires c κs = (found-inside (c .before .before .before .before .before .before .before .before .before .before .before .args .mates .now) (c .before .before .before .lowest-outside .result) (c .before .before .before .lowest-outside .ensures) (c .before .before .if5 .left), found-paired (c .before .before .before .before .before .before .before .before .before .before .before .args .mates .now) (c .before .before .before .lowest-outside .result) (c .before .before .before .lowest-outside .ensures) (c .before .before .if5 .left) (c .before .lowest-not-mutual .result) (c .before .lowest-not-mutual .ensures) (c .if6 .left))
 
 returns-7 : tie.Need-returns-7
 returns-7 c = check-8 (c .before .before .before .before .before .before .before .before .before .before .before .before .before .args .side) (c .before .before .before .before .before .before .before .before .before .before .before .before .before .args .least) (c .before .before .before .before .before .before .before .before .before .before .before .before .before .args .greatest) (c .before .before .before .before .before .before .before .before .before .before .before .before .before .args .bases .now) (c .before .before .before .before .before .before .before .before .before .before .before .before .before .args .mates .now) (c .before .before .before .before .before .before .before .before .before .before .if1 .left) (c .before .before .before .before .before .before .before .before .before .if2 .left) (c .before .before .before .before .before .before .before .before .if3 .left) (c .before .before .before .before .before .before .before .lowest-stranger .result) (c .before .before .before .before .before .before .before .lowest-stranger .ensures) (c .before .before .before .before .before .before .if4 .left) (c .before .before .before .before .before .lowest-outside .result) (c .before .before .before .before .before .lowest-outside .ensures) (c .before .before .before .before .if5 .left) (c .before .before .before .lowest-not-mutual .result) (c .before .before .before .lowest-not-mutual .ensures) (c .before .before .if6 .left) (true-not _ (sym (c .before .arcs-close .ensures) ∙ c .if7 .taken))

@@ -2,16 +2,16 @@
 use borrow.Author.Needs.{needs}
 use Prim.Native.Nat.{_-_, _≤_}
 use native.Mathlib.Omega.{arith}
-use mathlib.Core.Path.{_≡_, refl, _∙_}
+use mathlib.Core.Path.{_≡_, refl}
 use lib.ListN.{length}
 use Rattle.block_test.proofs.parts.fill.Statement.{statement}
 use Rattle.block_test.proofs.parts.fill.Tie as tie
 
 abbrev Inv-loop : tie.InvT-loop
-Inv-loop bases₀ mates₀ seed x₀ i₀ bases mates x i = (i ≤ 162) × (length bases ≡ length bases₀) × (length mates ≡ length mates₀)
+Inv-loop bytes₀ words₀ seed x₀ i₀ bytes words x i = (i ≤ 162) × (length bytes ≡ length bytes₀) × (length words ≡ length words₀)
 
 abbrev μ-loop : tie.MeasureT-loop
-μ-loop bases₀ mates₀ seed x₀ i₀ bases mates x i = 162 - i
+μ-loop bytes₀ words₀ seed x₀ i₀ bytes words x i = 162 - i
 
 loop-holds : tie.Need-loop-holds Inv-loop μ-loop
 loop-holds c = (omega arith, refl, refl)
@@ -19,14 +19,17 @@ loop-holds c = (omega arith, refl, refl)
 next-requires : tie.Need-next-requires Inv-loop μ-loop
 next-requires c κs = search needs
 
+add-set-byte : tie.Need-add-set-byte Inv-loop μ-loop
+add-set-byte c = omega arith
+
 letter-requires : tie.Need-letter-requires Inv-loop μ-loop
 letter-requires c κs = search needs
 
 set-byte-requires : tie.Need-set-byte-requires Inv-loop μ-loop
 set-byte-requires c κs = search needs
 
-set-mate-requires : tie.Need-set-mate-requires Inv-loop μ-loop
-set-mate-requires c κs = search needs
+set-word-requires : tie.Need-set-word-requires Inv-loop μ-loop
+set-word-requires c κs = search needs
 
 add-i : tie.Need-add-i Inv-loop μ-loop
 add-i c = omega arith
@@ -35,7 +38,7 @@ loop-less : tie.Need-loop-less Inv-loop μ-loop
 loop-less c = omega arith
 
 loop-again : tie.Need-loop-again Inv-loop μ-loop
-loop-again c = (omega arith, c .before .before .before .before .before .before .set-byte .kept .0 ∙ c .before .before .before .before .before .before .before .before .before .before .before .loop .inv .1, c .before .before .set-mate .kept .0 ∙ c .before .before .before .before .before .before .before .before .before .before .before .loop .inv .2)
+loop-again c = (omega arith, search needs, search needs)
 
 same-length : tie.Need-same-length Inv-loop μ-loop
 same-length c = search needs
@@ -54,9 +57,10 @@ fill-spec =
     μ-loop
     loop-holds
     next-requires
+    add-set-byte
     letter-requires
     set-byte-requires
-    set-mate-requires
+    set-word-requires
     add-i
     loop-less
     loop-again

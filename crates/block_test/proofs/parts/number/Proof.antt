@@ -17,14 +17,17 @@ loop-holds c = omega arith
 mul-n : tie.Need-mul-n Inv-loop μ-loop
 mul-n c = omega arith
 
-add-digit-at : tie.Need-add-digit-at Inv-loop μ-loop
-add-digit-at c = omega arith
+add-value-at : tie.Need-add-value-at Inv-loop μ-loop
+add-value-at c = omega arith
 
-digit-at-requires : tie.Need-digit-at-requires Inv-loop μ-loop
-digit-at-requires c κs = search needs
+value-at-requires : tie.Need-value-at-requires Inv-loop μ-loop
+value-at-requires c κs = search needs
 
 add-n : tie.Need-add-n Inv-loop μ-loop
 add-n c = omega arith
+
+add-n-2 : tie.Need-add-n-2 Inv-loop μ-loop
+add-n-2 c = omega arith
 
 add-k : tie.Need-add-k Inv-loop μ-loop
 add-k c = omega arith
@@ -46,9 +49,10 @@ number-spec =
     μ-loop
     loop-holds
     mul-n
-    add-digit-at
-    digit-at-requires
+    add-value-at
+    value-at-requires
     add-n
+    add-n-2
     add-k
     loop-less
     loop-again

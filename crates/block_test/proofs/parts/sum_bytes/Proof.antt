@@ -22,7 +22,7 @@ further-requires : tie.Need-further-requires Inv-loop μ-loop
 further-requires c κs = search needs
 
 add-i : tie.Need-add-i Inv-loop μ-loop
-add-i c = search needs
+add-i c = omega arith
 
 loop-less : tie.Need-loop-less Inv-loop μ-loop
 loop-less c = omega arith

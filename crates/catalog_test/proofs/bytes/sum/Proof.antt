@@ -5,19 +5,16 @@ use Rattle.catalog_test.proofs.bytes.sum.Statement.{statement}
 use Rattle.catalog_test.proofs.bytes.sum.Tie as tie
 
 abbrev Inv-loop : tie.InvT-loop
-Inv-loop s at later₀ total₀ i₀ later total i = i ≤ 508
+Inv-loop s b later₀ total₀ i₀ later total i = i ≤ 508
 
 abbrev μ-loop : tie.MeasureT-loop
-μ-loop s at later₀ total₀ i₀ later total i = i
+μ-loop s b later₀ total₀ i₀ later total i = i
 
 loop-holds : tie.Need-loop-holds Inv-loop μ-loop
 loop-holds c = search needs
 
 sub-i : tie.Need-sub-i Inv-loop μ-loop
 sub-i c = search needs
-
-off-requires : tie.Need-off-requires Inv-loop μ-loop
-off-requires c κs = search needs
 
 get-requires : tie.Need-get-requires Inv-loop μ-loop
 get-requires c κs = search needs
@@ -45,7 +42,6 @@ sum-spec =
     μ-loop
     loop-holds
     sub-i
-    off-requires
     get-requires
     add-later
     add-total

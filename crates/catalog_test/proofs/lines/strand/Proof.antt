@@ -7,10 +7,10 @@ use Rattle.catalog_test.proofs.lines.strand.Statement.{statement}
 use Rattle.catalog_test.proofs.lines.strand.Tie as tie
 
 abbrev Inv-loop : tie.InvT-loop
-Inv-loop line bases₀ mates₀ i₀ bases mates i = (i ≤ 161) × (length bases ≡ length bases₀) × (length mates ≡ length mates₀)
+Inv-loop line s₀ i₀ s i = (i ≤ 161) × (length s ≡ length s₀)
 
 abbrev μ-loop : tie.MeasureT-loop
-μ-loop line bases₀ mates₀ i₀ bases mates i = 161 - i
+μ-loop line s₀ i₀ s i = 161 - i
 
 loop-holds : tie.Need-loop-holds Inv-loop μ-loop
 loop-holds c = search needs
@@ -24,8 +24,8 @@ put-requires c κs = search needs
 mate-requires : tie.Need-mate-requires Inv-loop μ-loop
 mate-requires c κs = search needs
 
-put-entry-requires : tie.Need-put-entry-requires Inv-loop μ-loop
-put-entry-requires c κs = search needs
+put-word-requires : tie.Need-put-word-requires Inv-loop μ-loop
+put-word-requires c κs = search needs
 
 add-i : tie.Need-add-i Inv-loop μ-loop
 add-i c = search needs
@@ -38,9 +38,6 @@ loop-again c = search needs
 
 same-length : tie.Need-same-length Inv-loop μ-loop
 same-length c = search needs
-
-same-length-2 : tie.Need-same-length-2 Inv-loop μ-loop
-same-length-2 c = search needs
 
 returns : tie.Need-returns Inv-loop μ-loop
 returns c = search needs
@@ -55,10 +52,9 @@ strand-spec =
     base-requires
     put-requires
     mate-requires
-    put-entry-requires
+    put-word-requires
     add-i
     loop-less
     loop-again
     same-length
-    same-length-2
     returns)

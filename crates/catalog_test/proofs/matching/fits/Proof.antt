@@ -5,46 +5,37 @@ use Rattle.catalog_test.proofs.matching.fits.Statement.{statement}
 use Rattle.catalog_test.proofs.matching.fits.Tie as tie
 
 abbrev Inv-loop : tie.InvT-loop
-Inv-loop p pm q places x y mate z₀ z = z ≤ x
+Inv-loop s e b x y n mate z₀ z = 0 ≤ z
 
 abbrev μ-loop : tie.MeasureT-loop
-μ-loop p pm q places x y mate z₀ z = x - z
+μ-loop s e b x y n mate z₀ z = n - z
 
-get-requires : tie.Need-get-requires Inv-loop μ-loop
-get-requires c κs = search needs
-
-off-requires : tie.Need-off-requires Inv-loop μ-loop
-off-requires c κs = search needs
-
-get-requires-2 : tie.Need-get-requires-2 Inv-loop μ-loop
-get-requires-2 c κs = search needs
+equal-requires : tie.Need-equal-requires Inv-loop μ-loop
+equal-requires c κs = search needs
 
 returns : tie.Need-returns Inv-loop μ-loop
 returns c = search needs
 
-off-requires-2 : tie.Need-off-requires-2 Inv-loop μ-loop
-off-requires-2 c κs = search needs
-
-off-requires-3 : tie.Need-off-requires-3 Inv-loop μ-loop
-off-requires-3 c κs = search needs
+get-requires : tie.Need-get-requires Inv-loop μ-loop
+get-requires c κs = search needs
 
 word-requires : tie.Need-word-requires Inv-loop μ-loop
 word-requires c κs = search needs
 
+add-z : tie.Need-add-z Inv-loop μ-loop
+add-z c = search needs
+
 loop-holds : tie.Need-loop-holds Inv-loop μ-loop
 loop-holds c = search needs
 
-entry-requires : tie.Need-entry-requires Inv-loop μ-loop
-entry-requires c κs = search needs
-
-entry-requires-2 : tie.Need-entry-requires-2 Inv-loop μ-loop
-entry-requires-2 c κs = search needs
+agree-requires : tie.Need-agree-requires Inv-loop μ-loop
+agree-requires c κs = search needs
 
 returns-2 : tie.Need-returns-2 Inv-loop μ-loop
 returns-2 c = search needs
 
-add-z : tie.Need-add-z Inv-loop μ-loop
-add-z c = search needs
+add-z-2 : tie.Need-add-z-2 Inv-loop μ-loop
+add-z-2 c = search needs
 
 loop-less : tie.Need-loop-less Inv-loop μ-loop
 loop-less c = search needs
@@ -61,18 +52,15 @@ fits-spec =
     (tie.spec
     Inv-loop
     μ-loop
-    get-requires
-    off-requires
-    get-requires-2
+    equal-requires
     returns
-    off-requires-2
-    off-requires-3
+    get-requires
     word-requires
-    loop-holds
-    entry-requires
-    entry-requires-2
-    returns-2
     add-z
+    loop-holds
+    agree-requires
+    returns-2
+    add-z-2
     loop-less
     loop-again
     returns-3)

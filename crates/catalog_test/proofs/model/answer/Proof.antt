@@ -7,10 +7,10 @@ use Rattle.catalog_test.proofs.model.answer.Statement.{statement}
 use Rattle.catalog_test.proofs.model.answer.Tie as tie
 
 abbrev Inv-loop : tie.InvT-loop
-Inv-loop m₀ at known n bases mates hits₀ count₀ searched₀ d₀ m hits count searched d = (d ≤ 512) × (length m ≡ length m₀) × (length hits ≡ length hits₀)
+Inv-loop s₀ e n r₀ d₀ s r d = (d ≤ 512) × (length s ≡ length s₀)
 
 abbrev μ-loop : tie.MeasureT-loop
-μ-loop m₀ at known n bases mates hits₀ count₀ searched₀ d₀ m hits count searched d = 512 - d
+μ-loop s₀ e n r₀ d₀ s r d = 512 - d
 
 loop-holds : tie.Need-loop-holds Inv-loop μ-loop
 loop-holds c = search needs
@@ -21,14 +21,8 @@ look-requires c κs = search needs
 note-requires : tie.Need-note-requires Inv-loop μ-loop
 note-requires c κs = search needs
 
-list-requires : tie.Need-list-requires Inv-loop μ-loop
-list-requires c κs = search needs
-
-add-count : tie.Need-add-count Inv-loop μ-loop
-add-count c = search needs
-
-add-searched : tie.Need-add-searched Inv-loop μ-loop
-add-searched c = search needs
+longer-requires : tie.Need-longer-requires Inv-loop μ-loop
+longer-requires c κs = search needs
 
 add-d : tie.Need-add-d Inv-loop μ-loop
 add-d c = search needs
@@ -39,20 +33,8 @@ loop-less c = search needs
 loop-again : tie.Need-loop-again Inv-loop μ-loop
 loop-again c = search needs
 
-mul-result : tie.Need-mul-result Inv-loop μ-loop
-mul-result c = search needs
-
-add-result : tie.Need-add-result Inv-loop μ-loop
-add-result c = search needs
-
-add-result-2 : tie.Need-add-result-2 Inv-loop μ-loop
-add-result-2 c = search needs
-
 same-length : tie.Need-same-length Inv-loop μ-loop
 same-length c = search needs
-
-same-length-2 : tie.Need-same-length-2 Inv-loop μ-loop
-same-length-2 c = search needs
 
 returns : tie.Need-returns Inv-loop μ-loop
 returns c = search needs
@@ -66,15 +48,9 @@ answer-spec =
     loop-holds
     look-requires
     note-requires
-    list-requires
-    add-count
-    add-searched
+    longer-requires
     add-d
     loop-less
     loop-again
-    mul-result
-    add-result
-    add-result-2
     same-length
-    same-length-2
     returns)

@@ -1,15 +1,14 @@
 -- `catalog_test::model::slot` meets its contract.
 use Prim.Native.Nat.{_-_, _≤_}
-use lib.ListN.{length}
 use borrow.Author.Needs.{needs}
 use Rattle.catalog_test.proofs.model.slot.Statement.{statement}
 use Rattle.catalog_test.proofs.model.slot.Tie as tie
 
 abbrev Inv-loop : tie.InvT-loop
-Inv-loop bases mates n key₀ i₀ key i = i ≤ length bases
+Inv-loop s bases n key₀ i₀ key i = i ≤ bases
 
 abbrev μ-loop : tie.MeasureT-loop
-μ-loop bases mates n key₀ i₀ key i = length bases - i
+μ-loop s bases n key₀ i₀ key i = bases - i
 
 loop-holds : tie.Need-loop-holds Inv-loop μ-loop
 loop-holds c = search needs
@@ -20,8 +19,8 @@ get-requires c κs = search needs
 add-key : tie.Need-add-key Inv-loop μ-loop
 add-key c = search needs
 
-entry-requires : tie.Need-entry-requires Inv-loop μ-loop
-entry-requires c κs = search needs
+mate-requires : tie.Need-mate-requires Inv-loop μ-loop
+mate-requires c κs = search needs
 
 add-key-2 : tie.Need-add-key-2 Inv-loop μ-loop
 add-key-2 c = search needs
@@ -53,7 +52,7 @@ slot-spec =
     loop-holds
     get-requires
     add-key
-    entry-requires
+    mate-requires
     add-key-2
     add-i
     loop-less

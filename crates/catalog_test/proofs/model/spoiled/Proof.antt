@@ -5,16 +5,13 @@ use Rattle.catalog_test.proofs.model.spoiled.Statement.{statement}
 use Rattle.catalog_test.proofs.model.spoiled.Tie as tie
 
 abbrev Inv-loop : tie.InvT-loop
-Inv-loop m n i₀ i = i ≤ n
+Inv-loop s n i₀ i = i ≤ n
 
 abbrev μ-loop : tie.MeasureT-loop
-μ-loop m n i₀ i = n - i
+μ-loop s n i₀ i = n - i
 
 loop-holds : tie.Need-loop-holds Inv-loop μ-loop
 loop-holds c = search needs
-
-off-requires : tie.Need-off-requires Inv-loop μ-loop
-off-requires c κs = search needs
 
 get-requires : tie.Need-get-requires Inv-loop μ-loop
 get-requires c κs = search needs
@@ -37,14 +34,4 @@ returns-2 c = search needs
 pub spoiled-spec : {M : Type 1} → statement M
 spoiled-spec =
     tie.close
-    (tie.spec
-    Inv-loop
-    μ-loop
-    loop-holds
-    off-requires
-    get-requires
-    returns
-    add-i
-    loop-less
-    loop-again
-    returns-2)
+    (tie.spec Inv-loop μ-loop loop-holds get-requires returns add-i loop-less loop-again returns-2)

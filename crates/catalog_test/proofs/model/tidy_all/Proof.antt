@@ -7,13 +7,16 @@ use Rattle.catalog_test.proofs.model.tidy_all.Statement.{statement}
 use Rattle.catalog_test.proofs.model.tidy_all.Tie as tie
 
 abbrev Inv-loop : tie.InvT-loop
-Inv-loop m₀ n kind d k₀ m k = (k ≤ n) × (length m ≡ length m₀)
+Inv-loop s₀ n kind d k₀ s k = (k ≤ n) × (length s ≡ length s₀)
 
 abbrev μ-loop : tie.MeasureT-loop
-μ-loop m₀ n kind d k₀ m k = n - k
+μ-loop s₀ n kind d k₀ s k = n - k
 
 loop-holds : tie.Need-loop-holds Inv-loop μ-loop
 loop-holds c = search needs
+
+add-tidy : tie.Need-add-tidy Inv-loop μ-loop
+add-tidy c = search needs
 
 tidy-requires : tie.Need-tidy-requires Inv-loop μ-loop
 tidy-requires c κs = search needs
@@ -40,6 +43,7 @@ tidy-all-spec =
     Inv-loop
     μ-loop
     loop-holds
+    add-tidy
     tidy-requires
     add-k
     loop-less

@@ -5,10 +5,10 @@ use Rattle.catalog_test.proofs.strands.answer.Statement.{statement}
 use Rattle.catalog_test.proofs.strands.answer.Tie as tie
 
 abbrev Inv-loop : tie.InvT-loop
-Inv-loop bases mates side greatest row₀ row = row ≤ 8
+Inv-loop s n mates side greatest row₀ row = row ≤ 8
 
 abbrev μ-loop : tie.MeasureT-loop
-μ-loop bases mates side greatest row₀ row = 8 - row
+μ-loop s n mates side greatest row₀ row = 8 - row
 
 code-requires : tie.Need-code-requires Inv-loop μ-loop
 code-requires c κs = search needs

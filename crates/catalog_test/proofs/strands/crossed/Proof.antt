@@ -1,27 +1,26 @@
 -- `catalog_test::strands::crossed` meets its contract.
 use Prim.Native.Nat.{_-_, _≤_}
-use lib.ListN.{length}
 use borrow.Author.Needs.{needs}
 use Rattle.catalog_test.proofs.strands.crossed.Statement.{statement}
 use Rattle.catalog_test.proofs.strands.crossed.Tie as tie
 
 abbrev Inv-loop : tie.InvT-loop
-Inv-loop mates i j a₀ a = a ≤ length mates
+Inv-loop s i j a₀ a = a ≤ i
 
 abbrev μ-loop : tie.MeasureT-loop
-μ-loop mates i j a₀ a = length mates - a
+μ-loop s i j a₀ a = i - a
 
-entry-requires : tie.Need-entry-requires Inv-loop μ-loop
-entry-requires c κs = search needs
+mate-requires : tie.Need-mate-requires Inv-loop μ-loop
+mate-requires c κs = search needs
 
 loop-holds : tie.Need-loop-holds Inv-loop μ-loop
 loop-holds c = search needs
 
-entry-requires-2 : tie.Need-entry-requires-2 Inv-loop μ-loop
-entry-requires-2 c κs = search needs
+mate-requires-2 : tie.Need-mate-requires-2 Inv-loop μ-loop
+mate-requires-2 c κs = search needs
 
-cross-requires : tie.Need-cross-requires Inv-loop μ-loop
-cross-requires c κs = search needs
+between-requires : tie.Need-between-requires Inv-loop μ-loop
+between-requires c κs = search needs
 
 returns : tie.Need-returns Inv-loop μ-loop
 returns c = search needs
@@ -44,10 +43,10 @@ crossed-spec =
     (tie.spec
     Inv-loop
     μ-loop
-    entry-requires
+    mate-requires
     loop-holds
-    entry-requires-2
-    cross-requires
+    mate-requires-2
+    between-requires
     returns
     add-a
     loop-less

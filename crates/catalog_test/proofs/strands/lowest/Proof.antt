@@ -1,15 +1,14 @@
 -- `catalog_test::strands::lowest` meets its contract.
 use Prim.Native.Nat.{_-_, _≤_}
-use lib.ListN.{length}
 use borrow.Author.Needs.{needs}
 use Rattle.catalog_test.proofs.strands.lowest.Statement.{statement}
 use Rattle.catalog_test.proofs.strands.lowest.Tie as tie
 
 abbrev Inv-loop : tie.InvT-loop
-Inv-loop row bases mates i₀ i = i ≤ length bases
+Inv-loop s row n i₀ i = i ≤ n
 
 abbrev μ-loop : tie.MeasureT-loop
-μ-loop row bases mates i₀ i = length bases - i
+μ-loop s row n i₀ i = n - i
 
 loop-holds : tie.Need-loop-holds Inv-loop μ-loop
 loop-holds c = search needs

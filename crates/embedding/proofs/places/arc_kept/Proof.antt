@@ -1,5 +1,4 @@
 -- `embedding::places::arc_kept` meets its contract.
-use Prim.Native.Nat.{_-_}
 use native.Mathlib.Omega.{arith}
 use borrow.Author.Needs.{needs}
 use Rattle.embedding.proofs.Answers.{tells-yes}

@@ -1,5 +1,4 @@
 -- `embedding::places::is_embedding` meets its contract.
-use Prim.Native.Nat.{_-_}
 use native.Mathlib.Omega.{arith}
 use borrow.Author.Needs.{needs}
 use Rattle.strand.proofs.ListLaws.{not-not, true-not}

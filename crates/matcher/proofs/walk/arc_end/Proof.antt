@@ -1,8 +1,8 @@
 -- `matcher::walk::arc_end` meets its contract.
-use Prim.Native.Nat.{_-_}
 use borrow.Author.Needs.{needs}
 use Rattle.rows.proofs.Made.{no-box}
-use Rattle.matcher.proofs.Top.{room-whole, window-of, window-best}
+use Rattle.trace.proofs.Top.{window-of, window-best}
+use Rattle.matcher.proofs.Whole.{room-whole}
 use Rattle.matcher.proofs.walk.arc_end.Statement.{statement}
 use Rattle.matcher.proofs.walk.arc_end.Tie as tie
 

@@ -4,15 +4,16 @@ use mathlib.Core.Logic.{⊎-elim}
 use Prim.Native.Nat.{_-_}
 use native.Mathlib.Omega.{arith}
 use lib.ListN.{length}
-use Rattle.matcher.proofs.Top.{narrow, all-sealed, best-all, best-end, Walked, walked-none, walked-up, walked-in, walked-step, walked-unit, walked-longest}
+use Rattle.trace.proofs.Top.{narrow, all-sealed, best-all, best-end, Walked, walked-none, walked-up, walked-in, walked-step, walked-unit}
+use Rattle.matcher.proofs.Whole.{walked-longest}
 use Rattle.matcher.proofs.walk.whole_end.Statement.{statement}
 use Rattle.matcher.proofs.walk.whole_end.Tie as tie
 
 abbrev Inv-loop : tie.InvT-loop
-Inv-loop p pm q qm work₀ partner m cur₀ i₀ work cur i = Walked p pm q qm (length p) 0 0 (length q) cur i × (length work ≡ length work₀)
+Inv-loop p pm q qm work₀ tables m cur₀ i₀ work cur i = Walked p pm q qm (length p) 0 0 (length q) cur i × (length work ≡ length work₀)
 
 abbrev μ-loop : tie.MeasureT-loop
-μ-loop p pm q qm work₀ partner m cur₀ i₀ work cur i = length q - i
+μ-loop p pm q qm work₀ tables m cur₀ i₀ work cur i = length q - i
 
 loop-holds : tie.Need-loop-holds Inv-loop μ-loop
 loop-holds c = (walked-none (omega arith) (omega arith), refl)

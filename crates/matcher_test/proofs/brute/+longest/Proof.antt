@@ -8,9 +8,9 @@ use borrow.Fn.PlainCycle.{Measures, is, falls, and}
 use Rattle.matcher_test.proofs.brute.longest.Reads as longest
 use Rattle.matcher_test.proofs.brute.longest.Kinds as longest-kinds
 use Rattle.matcher_test.proofs.brute.+longest.Lts-longest as longest-lts
-use Rattle.matcher_test.proofs.brute.closed.Reads as closed-reads
 use Rattle.matcher_test.proofs.brute.fits.Reads as fits-reads
 use Rattle.matcher_test.proofs.brute.greater.Reads as greater-reads
+use Rattle.matcher_test.proofs.brute.prefix.Reads as prefix-reads
 use Rattle.matcher_test.proofs.strands.put.Reads as put-reads
 use Rattle.matcher_test.proofs.brute.+longest.{statement}
 use Rattle.matcher_test.proofs.brute.+longest.Tie.{close}
@@ -24,258 +24,258 @@ longest-at t = and 5 longest-kinds.ps (is 5 longest-kinds.ps μ-longest t) longe
 abbrev longest-below : ℕ → In 5 longest-kinds.ps
 longest-below t = and 5 longest-kinds.ps (falls 5 longest-kinds.ps _<_ μ-longest t) longest.Pre
 
-longest-closed-requires : (t : ℕ) → longest-lts.Need-closed-requires (
-  closed-reads.Asked,
-  closed-reads.Learnt,
+longest-prefix-requires : (t : ℕ) → longest-lts.Need-prefix-requires (
+  prefix-reads.Asked,
+  prefix-reads.Learnt,
   longest-below t,
   longest.Post,
-  greater-reads.Asked,
-  greater-reads.Learnt,
   fits-reads.Asked,
   fits-reads.Learnt,
   put-reads.Asked,
   put-reads.Learnt,
+  greater-reads.Asked,
+  greater-reads.Learnt,
 ) (longest-at t) longest.Post
-longest-closed-requires t c κs = tt
+longest-prefix-requires t c κs = tt
 
 longest-returns : (t : ℕ) → longest-lts.Need-returns (
-  closed-reads.Asked,
-  closed-reads.Learnt,
+  prefix-reads.Asked,
+  prefix-reads.Learnt,
   longest-below t,
   longest.Post,
-  greater-reads.Asked,
-  greater-reads.Learnt,
   fits-reads.Asked,
   fits-reads.Learnt,
   put-reads.Asked,
   put-reads.Learnt,
+  greater-reads.Asked,
+  greater-reads.Learnt,
 ) (longest-at t) longest.Post
 longest-returns t c = tt
 
-longest-returns-2 : (t : ℕ) → longest-lts.Need-returns-2 (
-  closed-reads.Asked,
-  closed-reads.Learnt,
+longest-prefix-requires-2 : (t : ℕ) → longest-lts.Need-prefix-requires-2 (
+  prefix-reads.Asked,
+  prefix-reads.Learnt,
   longest-below t,
   longest.Post,
-  greater-reads.Asked,
-  greater-reads.Learnt,
   fits-reads.Asked,
   fits-reads.Learnt,
   put-reads.Asked,
   put-reads.Learnt,
+  greater-reads.Asked,
+  greater-reads.Learnt,
+) (longest-at t) longest.Post
+longest-prefix-requires-2 t c κs = tt
+
+longest-returns-2 : (t : ℕ) → longest-lts.Need-returns-2 (
+  prefix-reads.Asked,
+  prefix-reads.Learnt,
+  longest-below t,
+  longest.Post,
+  fits-reads.Asked,
+  fits-reads.Learnt,
+  put-reads.Asked,
+  put-reads.Learnt,
+  greater-reads.Asked,
+  greater-reads.Learnt,
 ) (longest-at t) longest.Post
 longest-returns-2 t c = tt
 
 longest-add-longest : (t : ℕ) → longest-lts.Need-add-longest (
-  closed-reads.Asked,
-  closed-reads.Learnt,
+  prefix-reads.Asked,
+  prefix-reads.Learnt,
   longest-below t,
   longest.Post,
-  greater-reads.Asked,
-  greater-reads.Learnt,
   fits-reads.Asked,
   fits-reads.Learnt,
   put-reads.Asked,
   put-reads.Learnt,
+  greater-reads.Asked,
+  greater-reads.Learnt,
 ) (longest-at t) longest.Post
 longest-add-longest t c = omega arith
 
 longest-longest-requires : (t : ℕ) → longest-lts.Need-longest-requires (
-  closed-reads.Asked,
-  closed-reads.Learnt,
+  prefix-reads.Asked,
+  prefix-reads.Learnt,
   longest-below t,
   longest.Post,
-  greater-reads.Asked,
-  greater-reads.Learnt,
   fits-reads.Asked,
   fits-reads.Learnt,
   put-reads.Asked,
   put-reads.Learnt,
-) (longest-at t) longest.Post
-longest-longest-requires t c κs = (omega (arith, c .before .before .before .before .before .before .before .before .before .before .pre .0), tt)
-
-longest-greater-requires : (t : ℕ) → longest-lts.Need-greater-requires (
-  closed-reads.Asked,
-  closed-reads.Learnt,
-  longest-below t,
-  longest.Post,
   greater-reads.Asked,
   greater-reads.Learnt,
-  fits-reads.Asked,
-  fits-reads.Learnt,
-  put-reads.Asked,
-  put-reads.Learnt,
 ) (longest-at t) longest.Post
-longest-greater-requires t c κs = tt
+longest-longest-requires t c κs = (omega (arith, c .before .before .before .before .before .before .before .before .pre .0), tt)
 
 longest-fits-requires : (t : ℕ) → longest-lts.Need-fits-requires (
-  closed-reads.Asked,
-  closed-reads.Learnt,
+  prefix-reads.Asked,
+  prefix-reads.Learnt,
   longest-below t,
   longest.Post,
-  greater-reads.Asked,
-  greater-reads.Learnt,
   fits-reads.Asked,
   fits-reads.Learnt,
   put-reads.Asked,
   put-reads.Learnt,
+  greater-reads.Asked,
+  greater-reads.Learnt,
 ) (longest-at t) longest.Post
 longest-fits-requires t c κs = tt
 
-longest-put-requires : (t : ℕ) → longest-lts.Need-put-requires (
-  closed-reads.Asked,
-  closed-reads.Learnt,
+longest-same-length : (t : ℕ) → longest-lts.Need-same-length (
+  prefix-reads.Asked,
+  prefix-reads.Learnt,
   longest-below t,
   longest.Post,
-  greater-reads.Asked,
-  greater-reads.Learnt,
   fits-reads.Asked,
   fits-reads.Learnt,
   put-reads.Asked,
   put-reads.Learnt,
+  greater-reads.Asked,
+  greater-reads.Learnt,
+) (longest-at t) longest.Post
+longest-same-length t c = c .before .before .before .before .before .longest .kept .1 .1 .1 .1 .0
+
+longest-returns-3 : (t : ℕ) → longest-lts.Need-returns-3 (
+  prefix-reads.Asked,
+  prefix-reads.Learnt,
+  longest-below t,
+  longest.Post,
+  fits-reads.Asked,
+  fits-reads.Learnt,
+  put-reads.Asked,
+  put-reads.Learnt,
+  greater-reads.Asked,
+  greater-reads.Learnt,
+) (longest-at t) longest.Post
+longest-returns-3 t c = tt
+
+longest-put-requires : (t : ℕ) → longest-lts.Need-put-requires (
+  prefix-reads.Asked,
+  prefix-reads.Learnt,
+  longest-below t,
+  longest.Post,
+  fits-reads.Asked,
+  fits-reads.Learnt,
+  put-reads.Asked,
+  put-reads.Learnt,
+  greater-reads.Asked,
+  greater-reads.Learnt,
 ) (longest-at t) longest.Post
 longest-put-requires t c κs = tt
 
 longest-add-longest-2 : (t : ℕ) → longest-lts.Need-add-longest-2 (
-  closed-reads.Asked,
-  closed-reads.Learnt,
+  prefix-reads.Asked,
+  prefix-reads.Learnt,
   longest-below t,
   longest.Post,
-  greater-reads.Asked,
-  greater-reads.Learnt,
   fits-reads.Asked,
   fits-reads.Learnt,
   put-reads.Asked,
   put-reads.Learnt,
+  greater-reads.Asked,
+  greater-reads.Learnt,
 ) (longest-at t) longest.Post
 longest-add-longest-2 t c = omega arith
 
 longest-add-longest-3 : (t : ℕ) → longest-lts.Need-add-longest-3 (
-  closed-reads.Asked,
-  closed-reads.Learnt,
+  prefix-reads.Asked,
+  prefix-reads.Learnt,
   longest-below t,
   longest.Post,
-  greater-reads.Asked,
-  greater-reads.Learnt,
   fits-reads.Asked,
   fits-reads.Learnt,
   put-reads.Asked,
   put-reads.Learnt,
+  greater-reads.Asked,
+  greater-reads.Learnt,
 ) (longest-at t) longest.Post
 longest-add-longest-3 t c = omega arith
 
 longest-longest-requires-2 : (t : ℕ) → longest-lts.Need-longest-requires-2 (
-  closed-reads.Asked,
-  closed-reads.Learnt,
+  prefix-reads.Asked,
+  prefix-reads.Learnt,
   longest-below t,
   longest.Post,
-  greater-reads.Asked,
-  greater-reads.Learnt,
   fits-reads.Asked,
   fits-reads.Learnt,
   put-reads.Asked,
   put-reads.Learnt,
+  greater-reads.Asked,
+  greater-reads.Learnt,
 ) (longest-at t) longest.Post
-longest-longest-requires-2 t c κs = (omega (arith, c .before .before .before .before .before .before .before .before .before .before .before .before .before .before .before .before .before .before .before .before .before .before .pre .0), tt)
+longest-longest-requires-2 t c κs = (omega (arith, c .before .before .before .before .before .before .before .before .before .before .before .before .before .before .before .before .before .before .before .pre .0), tt)
 
-longest-greater-requires-2 : (t : ℕ) → longest-lts.Need-greater-requires-2 (
-  closed-reads.Asked,
-  closed-reads.Learnt,
+longest-greater-requires : (t : ℕ) → longest-lts.Need-greater-requires (
+  prefix-reads.Asked,
+  prefix-reads.Learnt,
   longest-below t,
   longest.Post,
-  greater-reads.Asked,
-  greater-reads.Learnt,
   fits-reads.Asked,
   fits-reads.Learnt,
   put-reads.Asked,
   put-reads.Learnt,
-) (longest-at t) longest.Post
-longest-greater-requires-2 t c κs = tt
-
-longest-same-length : (t : ℕ) → longest-lts.Need-same-length (
-  closed-reads.Asked,
-  closed-reads.Learnt,
-  longest-below t,
-  longest.Post,
   greater-reads.Asked,
   greater-reads.Learnt,
-  fits-reads.Asked,
-  fits-reads.Learnt,
-  put-reads.Asked,
-  put-reads.Learnt,
 ) (longest-at t) longest.Post
-longest-same-length t c = c .before .before .before .longest2 .kept .1 .1 .1 .1 .0 ∙ c .before .before .before .before .before .before .before .put .kept .0 ∙ c .before .before .before .before .before .before .before .before .before .before .before .before .before .before .before .longest .kept .1 .1 .1 .1 .0
-
-longest-returns-3 : (t : ℕ) → longest-lts.Need-returns-3 (
-  closed-reads.Asked,
-  closed-reads.Learnt,
-  longest-below t,
-  longest.Post,
-  greater-reads.Asked,
-  greater-reads.Learnt,
-  fits-reads.Asked,
-  fits-reads.Learnt,
-  put-reads.Asked,
-  put-reads.Learnt,
-) (longest-at t) longest.Post
-longest-returns-3 t c = tt
+longest-greater-requires t c κs = tt
 
 longest-same-length-2 : (t : ℕ) → longest-lts.Need-same-length-2 (
-  closed-reads.Asked,
-  closed-reads.Learnt,
+  prefix-reads.Asked,
+  prefix-reads.Learnt,
   longest-below t,
   longest.Post,
-  greater-reads.Asked,
-  greater-reads.Learnt,
   fits-reads.Asked,
   fits-reads.Learnt,
   put-reads.Asked,
   put-reads.Learnt,
+  greater-reads.Asked,
+  greater-reads.Learnt,
 ) (longest-at t) longest.Post
-longest-same-length-2 t c = c .before .before .before .before .before .before .longest .kept .1 .1 .1 .1 .0
+longest-same-length-2 t c = c .before .before .before .longest2 .kept .1 .1 .1 .1 .0 ∙ c .before .before .before .before .before .before .before .put .kept .0 ∙ c .before .before .before .before .before .before .before .before .before .before .before .before .before .before .longest .kept .1 .1 .1 .1 .0
 
 longest-returns-4 : (t : ℕ) → longest-lts.Need-returns-4 (
-  closed-reads.Asked,
-  closed-reads.Learnt,
+  prefix-reads.Asked,
+  prefix-reads.Learnt,
   longest-below t,
   longest.Post,
-  greater-reads.Asked,
-  greater-reads.Learnt,
   fits-reads.Asked,
   fits-reads.Learnt,
   put-reads.Asked,
   put-reads.Learnt,
+  greater-reads.Asked,
+  greater-reads.Learnt,
 ) (longest-at t) longest.Post
 longest-returns-4 t c = tt
 
 pub +longest-spec : {M : Type 1} → statement M
 +longest-spec = close μ-longest λ t. longest-lts.spec (
-  closed-reads.Asked,
-  closed-reads.Learnt,
+  prefix-reads.Asked,
+  prefix-reads.Learnt,
   longest-below t,
   longest.Post,
-  greater-reads.Asked,
-  greater-reads.Learnt,
   fits-reads.Asked,
   fits-reads.Learnt,
   put-reads.Asked,
   put-reads.Learnt,
+  greater-reads.Asked,
+  greater-reads.Learnt,
 )
     (longest-at t)
     longest.Post
-    (longest-closed-requires t)
+    (longest-prefix-requires t)
     (longest-returns t)
+    (longest-prefix-requires-2 t)
     (longest-returns-2 t)
     (longest-add-longest t)
     (longest-longest-requires t)
-    (longest-greater-requires t)
     (longest-fits-requires t)
+    (longest-same-length t)
+    (longest-returns-3 t)
     (longest-put-requires t)
     (longest-add-longest-2 t)
     (longest-add-longest-3 t)
     (longest-longest-requires-2 t)
-    (longest-greater-requires-2 t)
-    (longest-same-length t)
-    (longest-returns-3 t)
+    (longest-greater-requires t)
     (longest-same-length-2 t)
     (longest-returns-4 t)

@@ -1,53 +1,88 @@
 -- `rows::row::close_short` meets its contract.
-use mathlib.Core.Path.{_≡_, _∙_}
-use mathlib.Core.Bool.{Bool}
-use mathlib.Core.List.{List}
-use Prim.Native.Nat.{ℕ, _+_, _-_, _≤_}
+use borrow.Author.Needs.{needs}
+use Prim.Native.Nat.{ℕ, _+_, _-_, _≤_, min, max}
 use native.Mathlib.Omega.{arith}
+use mathlib.Core.Path.{ap}
 use Rattle.strand.specs.Vocabulary.{nth}
-use Rattle.embedding.specs.Row.{arcAt}
+use Rattle.strand.specs.Strands.{lettersMatch}
+use Rattle.embedding.specs.Row.{overAt}
 use Rattle.rows.specs.Rows.{Written, matches}
 use Rattle.rows.proofs.Pass.{pass-none, pass-set, pass-end}
+use Rattle.rows.proofs.Passes as passes
 use Rattle.rows.proofs.row.close_short.Statement.{statement}
 use Rattle.rows.proofs.row.close_short.Tie as tie
 
-entry : (left right : ℕ → Bool) (pm : ℕ → ℕ) (z : ℕ) (row₀ row : List ℕ) (from j r : ℕ)
-    → Written (λ j. arcAt left right pm z (nth row₀ j) (nth row₀ (j + 1)) j) row₀ row from j
-    → r ≡ arcAt left right pm z (nth row j) (nth row (j + 1)) j → r ≡ arcAt left right pm z (nth row₀ j) (nth row₀ (j + 1)) j
-entry left right pm z row₀ row from j r w e = e ∙ rw (w .past j (omega arith), w .past (j + 1) (omega arith))
-
 abbrev Inv-loop : tie.InvT-loop
-Inv-loop row₀ p pm from to x y j₀ row j = (from ≤ j) × (j ≤ to) × Written (λ k. arcAt (matches p x) (matches p y) (nth pm) to (nth row₀ k) (nth row₀ (k + 1)) k) row₀ row from j
+Inv-loop row₀ p pm tables steps from to x y j₀ row j = (from ≤ j) × (j ≤ to) × Written (λ k. max (min (nth steps (nth row₀ k)) to) (overAt (matches p x) (matches p y) (nth pm) to (nth row₀ (k + 1)) k)) row₀ row from j
 
 abbrev μ-loop : tie.MeasureT-loop
-μ-loop row₀ p pm from to x y j₀ row j = to - j
+μ-loop row₀ p pm tables steps from to x y j₀ row j = to - j
 
 loop-holds : tie.Need-loop-holds Inv-loop μ-loop
 loop-holds c = (omega arith, omega arith, pass-none _ _ _)
 
-mul-arc-entry : tie.Need-mul-arc-entry Inv-loop μ-loop
-mul-arc-entry c = omega (arith, (c .before .loop) .inv .2 .long)
+mul-k : tie.Need-mul-k Inv-loop μ-loop
+mul-k c = omega (arith, c .before .loop .inv .2 .long)
 
-slice-read-arc-entry : tie.Need-slice-read-arc-entry Inv-loop μ-loop
-slice-read-arc-entry c = omega (arith, (c .before .before .loop) .inv .2 .long)
+slice-read-k : tie.Need-slice-read-k Inv-loop μ-loop
+slice-read-k c = omega (arith, c .before .before .loop .inv .2 .long)
 
-add-arc-entry : tie.Need-add-arc-entry Inv-loop μ-loop
-add-arc-entry c = omega arith
+cast-k : tie.Need-cast-k Inv-loop μ-loop
+cast-k c = omega (arith, passes.short-index (matches (c .before .before .before .before .before .before .before .before .args .p .now) (c .before .before .before .before .before .before .before .before .args .x)) (matches (c .before .before .before .before .before .before .before .before .args .p .now) (c .before .before .before .before .before .before .before .before .args .y)) (nth (c .before .before .before .before .before .before .before .before .args .pm .now)) (c .before .before .before .before .before .before .before .before .args .to) (c .before .before .before .before .before .before .before .before .args .steps .now) (c .before .before .before .before .before .before .before .before .args .row .now) (c .before .before .loop .row) (c .before .before .before .before .before .before .before .before .args .from) (c .before .before .loop .j) (c .before .before .loop .inv .2) (c .before .before .loop .inv .0) (c .before .before .loop .inv .1) (c .before .before .before .before .before .before .before .before .pre .1 .1 .1 .1))
 
-mul-arc-entry-2 : tie.Need-mul-arc-entry-2 Inv-loop μ-loop
-mul-arc-entry-2 c = omega (arith, (c .before .before .loop) .inv .2 .long)
+mul-capped : tie.Need-mul-capped Inv-loop μ-loop
+mul-capped c = omega (arith, passes.short-index (matches (c .before .before .before .before .before .before .before .before .args .p .now) (c .before .before .before .before .before .before .before .before .args .x)) (matches (c .before .before .before .before .before .before .before .before .args .p .now) (c .before .before .before .before .before .before .before .before .args .y)) (nth (c .before .before .before .before .before .before .before .before .args .pm .now)) (c .before .before .before .before .before .before .before .before .args .to) (c .before .before .before .before .before .before .before .before .args .steps .now) (c .before .before .before .before .before .before .before .before .args .row .now) (c .before .before .loop .row) (c .before .before .before .before .before .before .before .before .args .from) (c .before .before .loop .j) (c .before .before .loop .inv .2) (c .before .before .loop .inv .0) (c .before .before .loop .inv .1) (c .before .before .before .before .before .before .before .before .pre .1 .1 .1 .1), c .before .before .before .before .before .before .before .before .pre .1 .1 .0 .long)
 
-slice-read-arc-entry-2 : tie.Need-slice-read-arc-entry-2 Inv-loop μ-loop
-slice-read-arc-entry-2 c = omega (arith, (c .before .before .before .loop) .inv .2 .long)
+shared-slice-read-capped : tie.Need-shared-slice-read-capped Inv-loop μ-loop
+shared-slice-read-capped c = omega (arith, passes.short-index (matches (c .before .before .before .before .before .before .before .before .before .args .p .now) (c .before .before .before .before .before .before .before .before .before .args .x)) (matches (c .before .before .before .before .before .before .before .before .before .args .p .now) (c .before .before .before .before .before .before .before .before .before .args .y)) (nth (c .before .before .before .before .before .before .before .before .before .args .pm .now)) (c .before .before .before .before .before .before .before .before .before .args .to) (c .before .before .before .before .before .before .before .before .before .args .steps .now) (c .before .before .before .before .before .before .before .before .before .args .row .now) (c .before .before .before .loop .row) (c .before .before .before .before .before .before .before .before .before .args .from) (c .before .before .before .loop .j) (c .before .before .before .loop .inv .2) (c .before .before .before .loop .inv .0) (c .before .before .before .loop .inv .1) (c .before .before .before .before .before .before .before .before .before .pre .1 .1 .1 .1), c .before .before .before .before .before .before .before .before .before .pre .1 .1 .0 .long)
 
-arc-entry-requires : tie.Need-arc-entry-requires Inv-loop μ-loop
-arc-entry-requires c κs = omega arith
+cast-capped : tie.Need-cast-capped Inv-loop μ-loop
+cast-capped c = omega arith
+
+capped-requires : tie.Need-capped-requires Inv-loop μ-loop
+capped-requires c κs = omega (arith, passes.short-index (matches (c .before .before .before .before .before .before .before .before .before .args .p .now) (c .before .before .before .before .before .before .before .before .before .args .x)) (matches (c .before .before .before .before .before .before .before .before .before .args .p .now) (c .before .before .before .before .before .before .before .before .before .args .y)) (nth (c .before .before .before .before .before .before .before .before .before .args .pm .now)) (c .before .before .before .before .before .before .before .before .before .args .to) (c .before .before .before .before .before .before .before .before .before .args .steps .now) (c .before .before .before .before .before .before .before .before .before .args .row .now) (c .before .before .before .loop .row) (c .before .before .before .before .before .before .before .before .before .args .from) (c .before .before .before .loop .j) (c .before .before .before .loop .inv .2) (c .before .before .before .loop .inv .0) (c .before .before .before .loop .inv .1) (c .before .before .before .before .before .before .before .before .before .pre .1 .1 .1 .1), c .before .before .before .before .before .before .before .before .before .pre .1 .1 .0 .high (nth (c .before .before .before .loop .row) (c .before .before .before .loop .j)) (passes.short-index (matches (c .before .before .before .before .before .before .before .before .before .args .p .now) (c .before .before .before .before .before .before .before .before .before .args .x)) (matches (c .before .before .before .before .before .before .before .before .before .args .p .now) (c .before .before .before .before .before .before .before .before .before .args .y)) (nth (c .before .before .before .before .before .before .before .before .before .args .pm .now)) (c .before .before .before .before .before .before .before .before .before .args .to) (c .before .before .before .before .before .before .before .before .before .args .steps .now) (c .before .before .before .before .before .before .before .before .before .args .row .now) (c .before .before .before .loop .row) (c .before .before .before .before .before .before .before .before .before .args .from) (c .before .before .before .loop .j) (c .before .before .before .loop .inv .2) (c .before .before .before .loop .inv .0) (c .before .before .before .loop .inv .1) (c .before .before .before .before .before .before .before .before .before .pre .1 .1 .1 .1)))
+
+shared-slice-read-over-entry : tie.Need-shared-slice-read-over-entry Inv-loop μ-loop
+shared-slice-read-over-entry c = omega arith
+
+mul-over-entry : tie.Need-mul-over-entry Inv-loop μ-loop
+mul-over-entry c = omega arith
+
+shared-slice-read-over-entry-2 : tie.Need-shared-slice-read-over-entry-2 Inv-loop μ-loop
+shared-slice-read-over-entry-2 c = omega arith
+
+cast-over-entry : tie.Need-cast-over-entry Inv-loop μ-loop
+cast-over-entry c = omega arith
+
+cast-over-entry-2 : tie.Need-cast-over-entry-2 Inv-loop μ-loop
+cast-over-entry-2 c = omega arith
+
+mul-over-entry-2 : tie.Need-mul-over-entry-2 Inv-loop μ-loop
+mul-over-entry-2 c = omega (arith, c .before .before .before .before .before .before .before .before .before .before .before .before .pre .1 .0 .long)
+
+shared-slice-read-over-entry-3 : tie.Need-shared-slice-read-over-entry-3 Inv-loop μ-loop
+shared-slice-read-over-entry-3 c = omega (arith, c .before .before .before .before .before .before .before .before .before .before .before .before .before .pre .1 .0 .long)
+
+add-over-entry : tie.Need-add-over-entry Inv-loop μ-loop
+add-over-entry c = omega arith
+
+mul-over-entry-3 : tie.Need-mul-over-entry-3 Inv-loop μ-loop
+mul-over-entry-3 c = omega (arith, c .before .before .before .before .before .before .before .loop .inv .2 .long)
+
+slice-read-over-entry : tie.Need-slice-read-over-entry Inv-loop μ-loop
+slice-read-over-entry c = omega (arith, c .before .before .before .before .before .before .before .before .loop .inv .2 .long)
+
+over-entry-requires : tie.Need-over-entry-requires Inv-loop μ-loop
+over-entry-requires c κs = search needs
+
+larger-requires : tie.Need-larger-requires Inv-loop μ-loop
+larger-requires c κs = search needs
 
 mul-row : tie.Need-mul-row Inv-loop μ-loop
-mul-row c = omega (arith, (c .before .before .before .before .loop) .inv .2 .long)
+mul-row c = omega (arith, c .before .before .before .before .before .before .before .before .before .before .loop .inv .2 .long)
 
 slice-write-row : tie.Need-slice-write-row Inv-loop μ-loop
-slice-write-row c = omega (arith, (c .before .before .before .before .loop) .inv .2 .long)
+slice-write-row c = omega (arith, c .before .before .before .before .before .before .before .before .before .before .loop .inv .2 .long)
 
 add-j : tie.Need-add-j Inv-loop μ-loop
 add-j c = omega arith
@@ -56,13 +91,13 @@ loop-less : tie.Need-loop-less Inv-loop μ-loop
 loop-less c = omega arith
 
 loop-again : tie.Need-loop-again Inv-loop μ-loop
-loop-again c = (omega arith, omega arith, pass-set _ _ _ _ _ _ ((c .before .before .before .before .loop) .inv .2) ((c .before .before .before .before .loop) .inv .0) (omega arith) (entry _ _ _ _ _ _ _ _ _ ((c .before .before .before .before .loop) .inv .2) ((c .arc-entry) .ensures)))
+loop-again c = (omega arith, omega arith, pass-set _ _ _ _ _ _ (c .before .before .before .before .before .before .before .before .before .before .loop .inv .2) (c .before .before .before .before .before .before .before .before .before .before .loop .inv .0) (omega arith) (passes.short-step (matches (c .before .before .before .before .before .before .before .before .before .before .before .before .before .before .before .before .args .p .now) (c .before .before .before .before .before .before .before .before .before .before .before .before .before .before .before .before .args .x)) (matches (c .before .before .before .before .before .before .before .before .before .before .before .before .before .before .before .before .args .p .now) (c .before .before .before .before .before .before .before .before .before .before .before .before .before .before .before .before .args .y)) (nth (c .before .before .before .before .before .before .before .before .before .before .before .before .before .before .before .before .args .pm .now)) (c .before .before .before .before .before .before .before .before .before .before .before .before .before .before .before .before .args .to) (c .before .before .before .before .before .before .before .before .before .before .before .before .before .before .before .before .args .steps .now) (c .before .before .before .before .before .before .before .before .before .before .before .before .before .before .before .before .args .row .now) (c .before .before .before .before .before .before .before .before .before .before .loop .row) (c .before .before .before .before .before .before .before .before .before .before .before .before .before .before .before .before .args .from) (c .before .before .before .before .before .before .before .before .before .before .loop .j) (c .before .before .before .before .before .before .before .before .before .before .loop .inv .2) _ _ _ (lettersMatch (nth (c .before .before .before .before .before .before .before .before .before .before .before .before .before .before .before .before .args .tables .now) (c .before .before .before .before .before .before .before .before .before .before .loop .j)) (c .before .before .before .before .before .before .before .before .before .before .before .before .before .before .before .before .args .y)) (c .before .before .before .before .before .before .before .before .before .loop-test .taken) (c .before .before .before .before .before .before .capped .ensures) (ap (λ (b : ℕ). lettersMatch b (c .before .before .before .before .before .before .before .before .before .before .before .before .before .before .before .before .args .y)) (c .before .before .before .before .before .before .before .before .before .before .before .before .before .before .before .before .pre .1 .0 .letter (c .before .before .before .before .before .before .before .before .before .before .loop .j) (omega arith))) (c .before .over-entry .ensures) (c .larger .ensures)))
 
 same-length : tie.Need-same-length Inv-loop μ-loop
-same-length c = (c .before .loop) .inv .2 .long
+same-length c = c .before .loop .inv .2 .long
 
 returns : tie.Need-returns Inv-loop μ-loop
-returns c = pass-end _ _ _ _ _ _ ((c .before .loop) .inv .2) ((c .before .loop) .inv .1) ((c .loop-test) .left)
+returns c = pass-end _ _ _ _ _ _ (c .before .loop .inv .2) (c .before .loop .inv .1) (c .loop-test .left)
 
 pub close-short-spec : {M : Type 1} → statement M
 close-short-spec =
@@ -71,12 +106,25 @@ close-short-spec =
     Inv-loop
     μ-loop
     loop-holds
-    mul-arc-entry
-    slice-read-arc-entry
-    add-arc-entry
-    mul-arc-entry-2
-    slice-read-arc-entry-2
-    arc-entry-requires
+    mul-k
+    slice-read-k
+    cast-k
+    mul-capped
+    shared-slice-read-capped
+    cast-capped
+    capped-requires
+    shared-slice-read-over-entry
+    mul-over-entry
+    shared-slice-read-over-entry-2
+    cast-over-entry
+    cast-over-entry-2
+    mul-over-entry-2
+    shared-slice-read-over-entry-3
+    add-over-entry
+    mul-over-entry-3
+    slice-read-over-entry
+    over-entry-requires
+    larger-requires
     mul-row
     slice-write-row
     add-j

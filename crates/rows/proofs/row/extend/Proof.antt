@@ -1,104 +1,48 @@
 -- `rows::row::extend` meets its contract.
-use mathlib.Core.Path.{_≡_, _∙_}
-use mathlib.Core.Bool.{Bool}
-use mathlib.Core.List.{List}
-use Prim.Native.Nat.{ℕ, _+_, _-_, _≤_, _<_}
-use native.Mathlib.Omega.{arith}
-use lib.Dec.{leb}
 use borrow.Author.Needs.{needs}
-use Rattle.strand.specs.Vocabulary.{nth, choose}
-use Rattle.embedding.specs.Row.{unitAt}
-use Rattle.rows.specs.Rows.{Written, matches}
-use Rattle.rows.proofs.Pass.{pass-none, pass-set, pass-end}
-use Rattle.rows.proofs.Entries.{unit-read}
+use Prim.Native.Nat.{ℕ}
+use native.Mathlib.Omega.{arith}
+use mathlib.Core.Path.{ap}
+use Rattle.strand.specs.Vocabulary.{nth}
+use Rattle.rows.proofs.Pass.{pass-as}
+use Rattle.rows.proofs.TableLaws as tables
+use Rattle.rows.proofs.Parts.{part}
 use Rattle.rows.proofs.row.extend.Statement.{statement}
 use Rattle.rows.proofs.row.extend.Tie as tie
 
-entry : (has : ℕ → Bool) (pm : ℕ → ℕ) (z : ℕ) (row₀ row : List ℕ) (from j r : ℕ) → Written (λ j. nth row₀ (unitAt has pm z j)) row₀ row from j → j < z
-    → r ≡ choose (leb (pm j) j) (choose (has j) (nth row (j + 1)) (nth row j)) (nth row j) → r ≡ nth row₀ (unitAt has pm z j)
-entry has pm z row₀ row from j r w lt e = e ∙ rw (w .past j (omega arith), w .past (j + 1) (omega arith)) (unit-read has pm z j (nth row₀) lt)
+steps-at-requires : tie.Need-steps-at-requires
+steps-at-requires c κs = search needs
 
-abbrev Inv-loop : tie.InvT-loop
-Inv-loop row₀ p pm from to b j₀ row j = (from ≤ j) × (j ≤ to) × Written (λ k. nth row₀ (unitAt (matches p b) (nth pm) to k)) row₀ row from j
+mul-extend-by : tie.Need-mul-extend-by
+mul-extend-by c = search needs
 
-abbrev μ-loop : tie.MeasureT-loop
-μ-loop row₀ p pm from to b j₀ row j = to - j
+sub-extend-by : tie.Need-sub-extend-by
+sub-extend-by c = search needs
 
-loop-holds : tie.Need-loop-holds Inv-loop μ-loop
-loop-holds c = (omega arith, omega arith, pass-none _ _ _)
+part-extend-by-start : tie.Need-part-extend-by-start
+part-extend-by-start c = search needs
 
-shared-slice-read-extend-entry : tie.Need-shared-slice-read-extend-entry Inv-loop μ-loop
-shared-slice-read-extend-entry c = omega arith
+part-extend-by-end : tie.Need-part-extend-by-end
+part-extend-by-end c = search needs
 
-mul-extend-entry : tie.Need-mul-extend-entry Inv-loop μ-loop
-mul-extend-entry c = omega arith
+extend-by-requires : tie.Need-extend-by-requires
+extend-by-requires c κs = ((omega arith, (omega arith, omega arith)), tables.steps-of (c .before .before .before .before .before .before .before .args .p .now) (c .before .before .before .before .before .before .before .args .pm .now) (c .before .before .before .before .before .before .before .args .tables .now) (c .before .before .before .before .before .before .before .args .b) (c .before .before .steps-at .result) (c .before .before .before .before .before .before .before .args .to) (c .before .before .before .before .before .before .before .pre .1 .0) (c .before .before .before .before .before .before .before .pre .1 .1 .0) (c .before .before .steps-at .ensures .0) (c .before .before .before .before .before .before .before .pre .0 .ends))
 
-shared-slice-read-extend-entry-2 : tie.Need-shared-slice-read-extend-entry-2 Inv-loop μ-loop
-shared-slice-read-extend-entry-2 c = omega arith
+same-length : tie.Need-same-length
+same-length c = search needs
 
-cast-extend-entry : tie.Need-cast-extend-entry Inv-loop μ-loop
-cast-extend-entry c = omega arith
-
-mul-extend-entry-2 : tie.Need-mul-extend-entry-2 Inv-loop μ-loop
-mul-extend-entry-2 c = omega (arith, (c .before .before .before .loop) .inv .2 .long)
-
-slice-read-extend-entry : tie.Need-slice-read-extend-entry Inv-loop μ-loop
-slice-read-extend-entry c = omega (arith, (c .before .before .before .before .loop) .inv .2 .long)
-
-add-extend-entry : tie.Need-add-extend-entry Inv-loop μ-loop
-add-extend-entry c = omega arith
-
-mul-extend-entry-3 : tie.Need-mul-extend-entry-3 Inv-loop μ-loop
-mul-extend-entry-3 c = omega (arith, (c .before .before .before .before .loop) .inv .2 .long)
-
-slice-read-extend-entry-2 : tie.Need-slice-read-extend-entry-2 Inv-loop μ-loop
-slice-read-extend-entry-2 c = omega (arith, (c .before .before .before .before .before .loop) .inv .2 .long)
-
-extend-entry-requires : tie.Need-extend-entry-requires Inv-loop μ-loop
-extend-entry-requires c κs = search needs
-
-mul-row : tie.Need-mul-row Inv-loop μ-loop
-mul-row c = omega (arith, (c .before .before .before .before .before .before .loop) .inv .2 .long)
-
-slice-write-row : tie.Need-slice-write-row Inv-loop μ-loop
-slice-write-row c = omega (arith, (c .before .before .before .before .before .before .loop) .inv .2 .long)
-
-add-j : tie.Need-add-j Inv-loop μ-loop
-add-j c = omega arith
-
-loop-less : tie.Need-loop-less Inv-loop μ-loop
-loop-less c = omega arith
-
-loop-again : tie.Need-loop-again Inv-loop μ-loop
-loop-again c = (omega arith, omega arith, pass-set _ _ _ _ _ _ ((c .before .before .before .before .before .before .loop) .inv .2) ((c .before .before .before .before .before .before .loop) .inv .0) (omega arith) (entry _ _ _ _ _ _ _ _ ((c .before .before .before .before .before .before .loop) .inv .2) ((c .before .before .before .before .before .loop-test) .taken) ((c .extend-entry) .ensures)))
-
-same-length : tie.Need-same-length Inv-loop μ-loop
-same-length c = (c .before .loop) .inv .2 .long
-
-returns : tie.Need-returns Inv-loop μ-loop
-returns c = pass-end _ _ _ _ _ _ ((c .before .loop) .inv .2) ((c .before .loop) .inv .1) ((c .loop-test) .left)
+returns : tie.Need-returns
+returns c = pass-as (λ (j : ℕ). nth (c .before .before .before .before .before .before .before .before .before .before .args .row .now) (nth (part (c .before .before .before .before .before .steps-at .result) (c .before .before .before .before .before .before .before .before .before .before .args .tables .now)) j)) _ _ _ _ _ (c .before .before .extend-by .ensures) (λ k h. ap (nth (c .before .before .before .before .before .before .before .before .before .before .args .row .now)) (tables.step-unit (c .before .before .before .before .before .before .before .before .before .before .args .p .now) (c .before .before .before .before .before .before .before .before .before .before .args .pm .now) (c .before .before .before .before .before .before .before .before .before .before .args .tables .now) (c .before .before .before .before .before .before .before .before .before .before .args .b) (c .before .before .before .before .before .steps-at .result) (c .before .before .before .before .before .before .before .before .before .before .args .to) (c .before .before .before .before .before .before .before .before .before .before .pre .1 .0) (c .before .before .before .before .before .before .before .before .before .before .pre .1 .1 .0) (c .before .before .before .before .before .steps-at .ensures .0) (c .before .before .before .before .before .before .before .before .before .before .pre .0 .ends) k h))
 
 pub extend-spec : {M : Type 1} → statement M
 extend-spec =
     tie.close
     (tie.spec
-    Inv-loop
-    μ-loop
-    loop-holds
-    shared-slice-read-extend-entry
-    mul-extend-entry
-    shared-slice-read-extend-entry-2
-    cast-extend-entry
-    mul-extend-entry-2
-    slice-read-extend-entry
-    add-extend-entry
-    mul-extend-entry-3
-    slice-read-extend-entry-2
-    extend-entry-requires
-    mul-row
-    slice-write-row
-    add-j
-    loop-less
-    loop-again
+    steps-at-requires
+    mul-extend-by
+    sub-extend-by
+    part-extend-by-start
+    part-extend-by-end
+    extend-by-requires
     same-length
     returns)

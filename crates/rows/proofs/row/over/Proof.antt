@@ -13,10 +13,10 @@ use Rattle.rows.proofs.row.over.Statement.{statement}
 use Rattle.rows.proofs.row.over.Tie as tie
 
 abbrev Inv-loop : tie.InvT-loop
-Inv-loop row₀ p pm partner from to at x y j₀ row j = (from ≤ j) × (j ≤ to) × Written (λ k. overAt (matches p x) (matches p y) (nth pm) to (nth row₀ (k - at + 1)) (k - at)) row₀ row (at + from) (at + j)
+Inv-loop row₀ p pm tables from to at x y j₀ row j = (from ≤ j) × (j ≤ to) × Written (λ k. overAt (matches p x) (matches p y) (nth pm) to (nth row₀ (k - at + 1)) (k - at)) row₀ row (at + from) (at + j)
 
 abbrev μ-loop : tie.MeasureT-loop
-μ-loop row₀ p pm partner from to at x y j₀ row j = to - j
+μ-loop row₀ p pm tables from to at x y j₀ row j = to - j
 
 loop-holds : tie.Need-loop-holds Inv-loop μ-loop
 loop-holds c = (omega arith, omega arith, pass-none _ _ _)
@@ -36,14 +36,17 @@ cast-over-entry c = omega arith
 cast-over-entry-2 : tie.Need-cast-over-entry-2 Inv-loop μ-loop
 cast-over-entry-2 c = omega arith
 
+mul-over-entry-2 : tie.Need-mul-over-entry-2 Inv-loop μ-loop
+mul-over-entry-2 c = omega (arith, c .before .before .before .before .before .before .before .before .pre .1 .0 .long)
+
 shared-slice-read-over-entry-3 : tie.Need-shared-slice-read-over-entry-3 Inv-loop μ-loop
 shared-slice-read-over-entry-3 c = omega (arith, c .before .before .before .before .before .before .before .before .before .pre .1 .0 .long)
 
 add-over-entry : tie.Need-add-over-entry Inv-loop μ-loop
 add-over-entry c = omega arith
 
-mul-over-entry-2 : tie.Need-mul-over-entry-2 Inv-loop μ-loop
-mul-over-entry-2 c = omega (arith, c .before .before .before .before .loop .inv .2 .long)
+mul-over-entry-3 : tie.Need-mul-over-entry-3 Inv-loop μ-loop
+mul-over-entry-3 c = omega (arith, c .before .before .before .before .loop .inv .2 .long)
 
 slice-read-over-entry : tie.Need-slice-read-over-entry Inv-loop μ-loop
 slice-read-over-entry c = omega (arith, c .before .before .before .before .before .loop .inv .2 .long)
@@ -67,7 +70,7 @@ loop-less : tie.Need-loop-less Inv-loop μ-loop
 loop-less c = omega arith
 
 loop-again : tie.Need-loop-again Inv-loop μ-loop
-loop-again c = (omega arith, omega arith, passes.set-at _ _ _ _ _ _ _ (c .before .before .before .before .before .before .loop .inv .2) (c .before .before .before .before .before .before .loop .inv .0) (omega (arith, c .before .before .before .before .before .loop-test .taken)) (passes.over-step (matches (c .before .before .before .before .before .before .before .before .before .before .before .args .p .now) (c .before .before .before .before .before .before .before .before .before .before .before .args .x)) (matches (c .before .before .before .before .before .before .before .before .before .before .before .args .p .now) (c .before .before .before .before .before .before .before .before .before .before .before .args .y)) (nth (c .before .before .before .before .before .before .before .before .before .before .before .args .pm .now)) (c .before .before .before .before .before .before .before .before .before .before .before .args .to) (c .before .before .before .before .before .before .before .before .before .before .before .args .at) (c .before .before .before .before .before .before .before .before .before .before .before .args .row .now) (c .before .before .before .before .before .before .loop .row) (c .before .before .before .before .before .before .before .before .before .before .before .args .from) (c .before .before .before .before .before .before .loop .j) _ (c .before .before .before .before .before .before .loop .inv .2) (c .before .before .before .before .before .loop-test .taken) (omega arith) (lettersMatch (nth (c .before .before .before .before .before .before .before .before .before .before .before .args .partner .now) (c .before .before .before .before .before .before .loop .j)) (c .before .before .before .before .before .before .before .before .before .before .before .args .y)) (ap (λ (b : ℕ). lettersMatch b (c .before .before .before .before .before .before .before .before .before .before .before .args .y)) (c .before .before .before .before .before .before .before .before .before .before .before .pre .1 .0 .letter (c .before .before .before .before .before .before .loop .j) (omega arith))) (c .over-entry .ensures)))
+loop-again c = (omega arith, omega arith, passes.set-at _ _ _ _ _ _ _ (c .before .before .before .before .before .before .loop .inv .2) (c .before .before .before .before .before .before .loop .inv .0) (omega (arith, c .before .before .before .before .before .loop-test .taken)) (passes.over-step (matches (c .before .before .before .before .before .before .before .before .before .before .before .args .p .now) (c .before .before .before .before .before .before .before .before .before .before .before .args .x)) (matches (c .before .before .before .before .before .before .before .before .before .before .before .args .p .now) (c .before .before .before .before .before .before .before .before .before .before .before .args .y)) (nth (c .before .before .before .before .before .before .before .before .before .before .before .args .pm .now)) (c .before .before .before .before .before .before .before .before .before .before .before .args .to) (c .before .before .before .before .before .before .before .before .before .before .before .args .at) (c .before .before .before .before .before .before .before .before .before .before .before .args .row .now) (c .before .before .before .before .before .before .loop .row) (c .before .before .before .before .before .before .before .before .before .before .before .args .from) (c .before .before .before .before .before .before .loop .j) _ (c .before .before .before .before .before .before .loop .inv .2) (c .before .before .before .before .before .loop-test .taken) (omega arith) (lettersMatch (nth (c .before .before .before .before .before .before .before .before .before .before .before .args .tables .now) (c .before .before .before .before .before .before .loop .j)) (c .before .before .before .before .before .before .before .before .before .before .before .args .y)) (ap (λ (b : ℕ). lettersMatch b (c .before .before .before .before .before .before .before .before .before .before .before .args .y)) (c .before .before .before .before .before .before .before .before .before .before .before .pre .1 .0 .letter (c .before .before .before .before .before .before .loop .j) (omega arith))) (c .over-entry .ensures)))
 
 same-length : tie.Need-same-length Inv-loop μ-loop
 same-length c = c .before .loop .inv .2 .long
@@ -87,9 +90,10 @@ over-spec =
     shared-slice-read-over-entry-2
     cast-over-entry
     cast-over-entry-2
+    mul-over-entry-2
     shared-slice-read-over-entry-3
     add-over-entry
-    mul-over-entry-2
+    mul-over-entry-3
     slice-read-over-entry
     over-entry-requires
     add-row

@@ -1,6 +1,5 @@
 -- `rows::row::over_entry` meets its contract.
 use borrow.Author.Needs.{needs}
-use Prim.Native.Nat.{_-_}
 use mathlib.Core.Path.{sym, _∙_}
 use native.Mathlib.Numerals.{add-one}
 use Rattle.strand.proofs.ListLaws.{not-not, true-not}
@@ -20,20 +19,20 @@ returns-2 c = sym (passes.by-free _ _ _ _ _ _ (sym (c .before .before .letters-m
 returns-3 : tie.Need-returns-3
 returns-3 c = sym (passes.by-far _ _ _ _ _ _ (sym (c .before .before .before .letters-match .ensures) ∙ not-not _ (c .before .before .if1 .left)) (c .before .if2 .left) (c .if3 .taken))
 
-letters-match-requires-2 : tie.Need-letters-match-requires-2
-letters-match-requires-2 c κs = search needs
+wide-letters-match-requires : tie.Need-wide-letters-match-requires
+wide-letters-match-requires c κs = search needs
 
 returns-4 : tie.Need-returns-4
-returns-4 c = sym (passes.by-unlike _ _ _ _ _ _ (sym (c .before .before .before .before .before .letters-match .ensures) ∙ not-not _ (c .before .before .before .before .if1 .left)) (c .before .before .before .if2 .left) (c .before .before .if3 .left) (sym (c .before .letters-match2 .ensures) ∙ true-not _ (c .if4 .taken)))
+returns-4 c = sym (passes.by-unlike _ _ _ _ _ _ (sym (c .before .before .before .before .before .letters-match .ensures) ∙ not-not _ (c .before .before .before .before .if1 .left)) (c .before .before .before .if2 .left) (c .before .before .if3 .left) (sym (c .before .wide-letters-match .ensures) ∙ true-not _ (c .if4 .taken)))
 
 returns-5 : tie.Need-returns-5
-returns-5 c = sym (passes.by-short _ _ _ _ _ _ (sym (c .before .before .before .before .before .before .letters-match .ensures) ∙ not-not _ (c .before .before .before .before .before .if1 .left)) (c .before .before .before .before .if2 .left) (c .before .before .before .if3 .left) (sym (c .before .before .letters-match2 .ensures) ∙ not-not _ (c .before .if4 .left)) (c .if5 .taken))
+returns-5 c = sym (passes.by-short _ _ _ _ _ _ (sym (c .before .before .before .before .before .before .letters-match .ensures) ∙ not-not _ (c .before .before .before .before .before .if1 .left)) (c .before .before .before .before .if2 .left) (c .before .before .before .if3 .left) (sym (c .before .before .wide-letters-match .ensures) ∙ not-not _ (c .before .if4 .left)) (c .if5 .taken))
 
 add-result : tie.Need-add-result
 add-result c = search needs
 
 returns-6 : tie.Need-returns-6
-returns-6 c = add-one _ ∙ sym (passes.by-arc _ _ _ _ _ _ (sym (c .before .before .before .before .before .before .letters-match .ensures) ∙ not-not _ (c .before .before .before .before .before .if1 .left)) (c .before .before .before .before .if2 .left) (c .before .before .before .if3 .left) (sym (c .before .before .letters-match2 .ensures) ∙ not-not _ (c .before .if4 .left)) (c .if5 .left))
+returns-6 c = add-one _ ∙ sym (passes.by-arc _ _ _ _ _ _ (sym (c .before .before .before .before .before .before .letters-match .ensures) ∙ not-not _ (c .before .before .before .before .before .if1 .left)) (c .before .before .before .before .if2 .left) (c .before .before .before .if3 .left) (sym (c .before .before .wide-letters-match .ensures) ∙ not-not _ (c .before .if4 .left)) (c .if5 .left))
 
 pub over-entry-spec : {M : Type 1} → statement M
 over-entry-spec =
@@ -43,7 +42,7 @@ over-entry-spec =
     returns
     returns-2
     returns-3
-    letters-match-requires-2
+    wide-letters-match-requires
     returns-4
     returns-5
     add-result

@@ -1,8 +1,7 @@
 -- `rows::row::raise` meets its contract.
 use borrow.Author.Needs.{needs}
-use Prim.Native.Nat.{_+_, _-_, _≤_}
+use Prim.Native.Nat.{_+_, _-_, _≤_, min, max}
 use native.Mathlib.Omega.{arith}
-use Prim.Native.Nat.{max}
 use Rattle.strand.specs.Vocabulary.{nth}
 use Rattle.rows.specs.Rows.{Written}
 use Rattle.rows.proofs.Pass.{pass-none, pass-set, pass-end}
@@ -11,7 +10,7 @@ use Rattle.rows.proofs.row.raise.Statement.{statement}
 use Rattle.rows.proofs.row.raise.Tie as tie
 
 abbrev Inv-loop : tie.InvT-loop
-Inv-loop row₀ from to at j₀ row j = (from ≤ j) × (j ≤ to) × Written (λ k. max (nth row₀ k) (nth row₀ (at + k))) row₀ row from j
+Inv-loop row₀ from to at j₀ row j = (from ≤ j) × (j ≤ to) × Written (λ k. max (min (nth row₀ k) to) (nth row₀ (at + k))) row₀ row from j
 
 abbrev μ-loop : tie.MeasureT-loop
 μ-loop row₀ from to at j₀ row j = to - j
@@ -19,29 +18,35 @@ abbrev μ-loop : tie.MeasureT-loop
 loop-holds : tie.Need-loop-holds Inv-loop μ-loop
 loop-holds c = (omega arith, omega arith, pass-none _ _ _)
 
-mul-larger : tie.Need-mul-larger Inv-loop μ-loop
-mul-larger c = omega (arith, c .before .loop .inv .2 .long)
+mul-smaller : tie.Need-mul-smaller Inv-loop μ-loop
+mul-smaller c = omega (arith, c .before .loop .inv .2 .long)
 
-slice-read-larger : tie.Need-slice-read-larger Inv-loop μ-loop
-slice-read-larger c = omega (arith, c .before .before .loop .inv .2 .long)
+slice-read-smaller : tie.Need-slice-read-smaller Inv-loop μ-loop
+slice-read-smaller c = omega (arith, c .before .before .loop .inv .2 .long)
+
+cast-smaller : tie.Need-cast-smaller Inv-loop μ-loop
+cast-smaller c = omega arith
+
+smaller-requires : tie.Need-smaller-requires Inv-loop μ-loop
+smaller-requires c κs = search needs
 
 add-larger : tie.Need-add-larger Inv-loop μ-loop
 add-larger c = omega arith
 
-mul-larger-2 : tie.Need-mul-larger-2 Inv-loop μ-loop
-mul-larger-2 c = omega (arith, c .before .before .loop .inv .2 .long)
+mul-larger : tie.Need-mul-larger Inv-loop μ-loop
+mul-larger c = omega (arith, c .before .before .before .loop .inv .2 .long)
 
-slice-read-larger-2 : tie.Need-slice-read-larger-2 Inv-loop μ-loop
-slice-read-larger-2 c = omega (arith, c .before .before .before .loop .inv .2 .long)
+slice-read-larger : tie.Need-slice-read-larger Inv-loop μ-loop
+slice-read-larger c = omega (arith, c .before .before .before .before .loop .inv .2 .long)
 
 larger-requires : tie.Need-larger-requires Inv-loop μ-loop
 larger-requires c κs = search needs
 
 mul-row : tie.Need-mul-row Inv-loop μ-loop
-mul-row c = omega (arith, c .before .before .before .before .loop .inv .2 .long)
+mul-row c = omega (arith, c .before .before .before .before .before .loop .inv .2 .long)
 
 slice-write-row : tie.Need-slice-write-row Inv-loop μ-loop
-slice-write-row c = omega (arith, c .before .before .before .before .loop .inv .2 .long)
+slice-write-row c = omega (arith, c .before .before .before .before .before .loop .inv .2 .long)
 
 add-j : tie.Need-add-j Inv-loop μ-loop
 add-j c = omega arith
@@ -50,7 +55,7 @@ loop-less : tie.Need-loop-less Inv-loop μ-loop
 loop-less c = omega arith
 
 loop-again : tie.Need-loop-again Inv-loop μ-loop
-loop-again c = (omega arith, omega arith, pass-set _ _ _ _ _ _ (c .before .before .before .before .loop .inv .2) (c .before .before .before .before .loop .inv .0) (omega arith) (passes.raise-step _ _ _ _ _ _ _ (c .before .before .before .before .loop .inv .2) (c .larger .ensures)))
+loop-again c = (omega arith, omega arith, pass-set _ _ _ _ _ _ (c .before .before .before .before .before .loop .inv .2) (c .before .before .before .before .before .loop .inv .0) (omega arith) (passes.raise-step _ _ _ _ _ _ _ _ _ (c .before .before .before .before .before .loop .inv .2) (c .before .before .smaller .ensures) (c .larger .ensures)))
 
 same-length : tie.Need-same-length Inv-loop μ-loop
 same-length c = c .before .loop .inv .2 .long
@@ -65,11 +70,13 @@ raise-spec =
     Inv-loop
     μ-loop
     loop-holds
+    mul-smaller
+    slice-read-smaller
+    cast-smaller
+    smaller-requires
+    add-larger
     mul-larger
     slice-read-larger
-    add-larger
-    mul-larger-2
-    slice-read-larger-2
     larger-requires
     mul-row
     slice-write-row

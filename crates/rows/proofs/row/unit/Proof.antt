@@ -1,6 +1,5 @@
 -- `rows::row::unit` meets its contract.
 use mathlib.Core.Path.{sym, _∙_}
-use Prim.Native.Nat.{_-_}
 use native.Mathlib.Omega.{arith}
 use borrow.Author.Needs.{needs}
 use Rattle.strand.specs.Vocabulary.{nth}

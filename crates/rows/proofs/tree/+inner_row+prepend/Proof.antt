@@ -1,13 +1,14 @@
 -- `rows::tree::inner_row` and `prepend` meet their contracts.
-use mathlib.Core.Path.{_≡_, refl, subst, _∙_}
+use mathlib.Core.Path.{_≡_, refl, subst, ap, _∙_}
+use mathlib.Core.Logic.{⊎-elim}
 use Prim.Native.Nat.{_+_, _-_, _≤_}
 use native.Mathlib.Omega.{arith}
 use lib.ListN.{length}
-use Rattle.embedding.proofs.Rows.{combine-row, row-from}
+use Rattle.embedding.proofs.Rows.{row-from}
 use Rattle.rows.specs.Rows.{Sealed, Prepended}
-use Rattle.rows.proofs.Parts.{back, part-length, back-length}
-use Rattle.rows.proofs.Arcs.{inner-sealed, room-less, room-one, room-child, light-one, room-light, room-past, room-at, light-at, around, back-of}
-use Rattle.rows.proofs.Made.{prepend-none, prepend-step, closed-row, looked, looked-into, fresh-row, prepended-row, prepend-front, arc-front, no-box, box-row, range-over, range-under}
+use Rattle.rows.proofs.Parts.{part-length, back-length}
+use Rattle.rows.proofs.Arcs.{inner-sealed, no-arcs, room-less, room-one, room-child, light-one, room-light, room-past, room-at, light-at, around, back-of}
+use Rattle.rows.proofs.Made.{letter-at, row-at, row-is, right-row, prepend-none, prepend-step, closed-row, looked, fresh-row, prepended-row, prepend-front, arc-front, no-box, box-row, range-over, range-under}
 use Prim.Native.Nat.{ℕ, _<_}
 use borrow.Fn.Kinds.{In}
 use borrow.Fn.PlainCycle.{Measures, is, falls, and}
@@ -22,6 +23,7 @@ use Rattle.rows.proofs.row.combine.Reads as combine-reads
 use Rattle.rows.proofs.row.combine_into.Reads as combine-into-reads
 use Rattle.rows.proofs.row.extend.Reads as extend-reads
 use Rattle.rows.proofs.row.identity.Reads as identity-reads
+use Rattle.rows.proofs.tree.flat_row.Reads as flat-row-reads
 use Rattle.rows.proofs.tree.heaviest.Reads as heaviest-reads
 use Rattle.rows.proofs.tree.mate.Reads as mate-reads
 use Rattle.rows.proofs.tree.+inner_row+prepend.{statement}
@@ -49,16 +51,18 @@ prepend-below t = and 6 prepend-kinds.ps (falls 6 prepend-kinds.ps _<_ μ-prepen
 inner-row-returns : (t : ℕ) → inner-row-lts.Need-returns (
   heaviest-reads.Asked,
   heaviest-reads.Learnt,
-  identity-reads.Asked,
-  identity-reads.Learnt,
-  prepend-below t,
-  prepend.Post,
+  flat-row-reads.Asked,
+  flat-row-reads.Learnt,
   mate-reads.Asked,
   mate-reads.Learnt,
   inner-row-below t,
   inner-row.Post,
   close-arc-reads.Asked,
   close-arc-reads.Learnt,
+  identity-reads.Asked,
+  identity-reads.Learnt,
+  prepend-below t,
+  prepend.Post,
   combine-into-reads.Asked,
   combine-into-reads.Learnt,
 ) (inner-row-at t) inner-row.Post
@@ -67,16 +71,18 @@ inner-row-returns t c = box-row ((c .before .before .before .before .before .bef
 inner-row-add-w : (t : ℕ) → inner-row-lts.Need-add-w (
   heaviest-reads.Asked,
   heaviest-reads.Learnt,
-  identity-reads.Asked,
-  identity-reads.Learnt,
-  prepend-below t,
-  prepend.Post,
+  flat-row-reads.Asked,
+  flat-row-reads.Learnt,
   mate-reads.Asked,
   mate-reads.Learnt,
   inner-row-below t,
   inner-row.Post,
   close-arc-reads.Asked,
   close-arc-reads.Learnt,
+  identity-reads.Asked,
+  identity-reads.Learnt,
+  prepend-below t,
+  prepend.Post,
   combine-into-reads.Asked,
   combine-into-reads.Learnt,
 ) (inner-row-at t) inner-row.Post
@@ -85,16 +91,18 @@ inner-row-add-w t c = omega arith
 inner-row-add-heaviest : (t : ℕ) → inner-row-lts.Need-add-heaviest (
   heaviest-reads.Asked,
   heaviest-reads.Learnt,
-  identity-reads.Asked,
-  identity-reads.Learnt,
-  prepend-below t,
-  prepend.Post,
+  flat-row-reads.Asked,
+  flat-row-reads.Learnt,
   mate-reads.Asked,
   mate-reads.Learnt,
   inner-row-below t,
   inner-row.Post,
   close-arc-reads.Asked,
   close-arc-reads.Learnt,
+  identity-reads.Asked,
+  identity-reads.Learnt,
+  prepend-below t,
+  prepend.Post,
   combine-into-reads.Asked,
   combine-into-reads.Learnt,
 ) (inner-row-at t) inner-row.Post
@@ -103,124 +111,118 @@ inner-row-add-heaviest t c = omega arith
 inner-row-heaviest-requires : (t : ℕ) → inner-row-lts.Need-heaviest-requires (
   heaviest-reads.Asked,
   heaviest-reads.Learnt,
-  identity-reads.Asked,
-  identity-reads.Learnt,
-  prepend-below t,
-  prepend.Post,
+  flat-row-reads.Asked,
+  flat-row-reads.Learnt,
   mate-reads.Asked,
   mate-reads.Learnt,
   inner-row-below t,
   inner-row.Post,
   close-arc-reads.Asked,
   close-arc-reads.Learnt,
+  identity-reads.Asked,
+  identity-reads.Learnt,
+  prepend-below t,
+  prepend.Post,
   combine-into-reads.Asked,
   combine-into-reads.Learnt,
 ) (inner-row-at t) inner-row.Post
 inner-row-heaviest-requires t c κs = (rw (((c .before .before .before .before .before .before .before .pre) .1 .0) .equal) (((c .before .before .before .before .before .before .before .pre) .1 .0) .molecule), (omega (arith, ((c .before .before .before .before .before .before .before .pre) .1 .0) .equal), inner-sealed (((c .before .before .before .before .before .before .before .pre) .1 .0) .molecule) _ _ ((c .before .before .before .before .before .before .before .pre) .1 .1 .0 .0) ((c .before .before .before .before .before .before .before .pre) .1 .1 .0 .1 .0) ((c .before .before .before .before .before .before .before .pre) .1 .1 .0 .1 .1)))
 
-inner-row-identity-requires : (t : ℕ) → inner-row-lts.Need-identity-requires (
+inner-row-add-flat-row : (t : ℕ) → inner-row-lts.Need-add-flat-row (
   heaviest-reads.Asked,
   heaviest-reads.Learnt,
-  identity-reads.Asked,
-  identity-reads.Learnt,
-  prepend-below t,
-  prepend.Post,
+  flat-row-reads.Asked,
+  flat-row-reads.Learnt,
   mate-reads.Asked,
   mate-reads.Learnt,
   inner-row-below t,
   inner-row.Post,
   close-arc-reads.Asked,
   close-arc-reads.Learnt,
+  identity-reads.Asked,
+  identity-reads.Learnt,
+  prepend-below t,
+  prepend.Post,
   combine-into-reads.Asked,
   combine-into-reads.Learnt,
 ) (inner-row-at t) inner-row.Post
-inner-row-identity-requires t c κs = (((c .before .before .before .before .before .before .before .before .before .before .pre) .1 .0) .window .order, (omega (arith, ((c .before .before .before .before .before .before .before .before .before .before .pre) .1 .0) .window .ends, ((c .before .before .before .before .before .before .before .before .before .before .pre) .1 .0) .window .small), omega (arith, ((c .before .before .before .before .before .before .before .before .before .before .pre) .1 .0) .window .ends, room-one ((c .before .before .before .before .before .before .before .before .before .before .pre) .1 .1 .1 .0))))
+inner-row-add-flat-row t c = omega arith
 
-inner-row-add-prepend : (t : ℕ) → inner-row-lts.Need-add-prepend (
+inner-row-flat-row-requires : (t : ℕ) → inner-row-lts.Need-flat-row-requires (
   heaviest-reads.Asked,
   heaviest-reads.Learnt,
-  identity-reads.Asked,
-  identity-reads.Learnt,
-  prepend-below t,
-  prepend.Post,
+  flat-row-reads.Asked,
+  flat-row-reads.Learnt,
   mate-reads.Asked,
   mate-reads.Learnt,
   inner-row-below t,
   inner-row.Post,
   close-arc-reads.Asked,
   close-arc-reads.Learnt,
-  combine-into-reads.Asked,
-  combine-into-reads.Learnt,
-) (inner-row-at t) inner-row.Post
-inner-row-add-prepend t c = omega arith
-
-inner-row-prepend-requires : (t : ℕ) → inner-row-lts.Need-prepend-requires (
-  heaviest-reads.Asked,
-  heaviest-reads.Learnt,
   identity-reads.Asked,
   identity-reads.Learnt,
   prepend-below t,
   prepend.Post,
-  mate-reads.Asked,
-  mate-reads.Learnt,
-  inner-row-below t,
-  inner-row.Post,
-  close-arc-reads.Asked,
-  close-arc-reads.Learnt,
   combine-into-reads.Asked,
   combine-into-reads.Learnt,
 ) (inner-row-at t) inner-row.Post
-inner-row-prepend-requires t c κs = (omega (arith, (c .before .before .before .before .before .before .before .before .before .before .before .before .before .before .pre) .0), (((c .before .before .before .before .before .before .before .before .before .before .before .before .before .before .pre) .1 .0), (omega arith, (inner-sealed (((c .before .before .before .before .before .before .before .before .before .before .before .before .before .before .pre) .1 .0) .molecule) _ _ ((c .before .before .before .before .before .before .before .before .before .before .before .before .before .before .pre) .1 .1 .0 .0) ((c .before .before .before .before .before .before .before .before .before .before .before .before .before .before .pre) .1 .1 .0 .1 .0) ((c .before .before .before .before .before .before .before .before .before .before .before .before .before .before .pre) .1 .1 .0 .1 .1), (light-at (room-light _ _ _ ((c .before .before .before .before .before .before .before .before .before .before .before .before .before .before .pre) .1 .1 .1 .0) (λ x a b d. absurd (omega (arith, (c .before .before .before .before .before .before .heaviest) .ensures .most x a b d .0, (c .before .before .before .before .before .if2) .taken))) ((c .before .before .before .before .before .before .before .before .before .before .before .before .before .before .pre) .1 .1 .0 .0)) ((c .before .before .before .identity) .kept .0), ((c .before .before .before .before .before .before .before .before .before .before .before .before .before .before .pre) .1 .1 .1 .1 .0))))))
+inner-row-flat-row-requires t c κs = (((c .before .before .before .before .before .before .before .before .before .before .pre) .1 .0), (omega arith, (no-arcs (((c .before .before .before .before .before .before .before .before .before .before .pre) .1 .0) .molecule) (omega arith) (inner-sealed (((c .before .before .before .before .before .before .before .before .before .before .pre) .1 .0) .molecule) _ _ ((c .before .before .before .before .before .before .before .before .before .before .pre) .1 .1 .0 .0) ((c .before .before .before .before .before .before .before .before .before .before .pre) .1 .1 .0 .1 .0) ((c .before .before .before .before .before .before .before .before .before .before .pre) .1 .1 .0 .1 .1)) ((c .before .before .heaviest) .ensures) ((c .before .if2) .taken), (omega (arith, room-one ((c .before .before .before .before .before .before .before .before .before .before .pre) .1 .1 .1 .0)), ((c .before .before .before .before .before .before .before .before .before .before .pre) .1 .1 .1 .1 .0)))))
 
 inner-row-same-length : (t : ℕ) → inner-row-lts.Need-same-length (
   heaviest-reads.Asked,
   heaviest-reads.Learnt,
-  identity-reads.Asked,
-  identity-reads.Learnt,
-  prepend-below t,
-  prepend.Post,
+  flat-row-reads.Asked,
+  flat-row-reads.Learnt,
   mate-reads.Asked,
   mate-reads.Learnt,
   inner-row-below t,
   inner-row.Post,
   close-arc-reads.Asked,
   close-arc-reads.Learnt,
+  identity-reads.Asked,
+  identity-reads.Learnt,
+  prepend-below t,
+  prepend.Post,
   combine-into-reads.Asked,
   combine-into-reads.Learnt,
 ) (inner-row-at t) inner-row.Post
-inner-row-same-length t c = (c .before .before .prepend) .kept .1 .1 .1 .1 .1 .1 .1 .1 .0 ∙ (c .before .before .before .before .before .before .identity) .kept .0
+inner-row-same-length t c = (c .before .before .flat-row) .kept .1 .1 .1 .1 .1 .1 .1 .1 .0
 
 inner-row-returns-2 : (t : ℕ) → inner-row-lts.Need-returns-2 (
   heaviest-reads.Asked,
   heaviest-reads.Learnt,
-  identity-reads.Asked,
-  identity-reads.Learnt,
-  prepend-below t,
-  prepend.Post,
+  flat-row-reads.Asked,
+  flat-row-reads.Learnt,
   mate-reads.Asked,
   mate-reads.Learnt,
   inner-row-below t,
   inner-row.Post,
   close-arc-reads.Asked,
   close-arc-reads.Learnt,
+  identity-reads.Asked,
+  identity-reads.Learnt,
+  prepend-below t,
+  prepend.Post,
   combine-into-reads.Asked,
   combine-into-reads.Learnt,
 ) (inner-row-at t) inner-row.Post
-inner-row-returns-2 t c = fresh-row (λ j a b. (c .before .before .before .before .before .before .identity) .ensures .done j a (omega arith)) ((c .before .before .prepend) .ensures)
+inner-row-returns-2 t c = (c .before .before .flat-row) .ensures
 
 inner-row-mate-requires : (t : ℕ) → inner-row-lts.Need-mate-requires (
   heaviest-reads.Asked,
   heaviest-reads.Learnt,
-  identity-reads.Asked,
-  identity-reads.Learnt,
-  prepend-below t,
-  prepend.Post,
+  flat-row-reads.Asked,
+  flat-row-reads.Learnt,
   mate-reads.Asked,
   mate-reads.Learnt,
   inner-row-below t,
   inner-row.Post,
   close-arc-reads.Asked,
   close-arc-reads.Learnt,
+  identity-reads.Asked,
+  identity-reads.Learnt,
+  prepend-below t,
+  prepend.Post,
   combine-into-reads.Asked,
   combine-into-reads.Learnt,
 ) (inner-row-at t) inner-row.Post
@@ -229,16 +231,18 @@ inner-row-mate-requires t c κs = omega (arith, ((c .before .before .before .bef
 inner-row-inner-row-requires : (t : ℕ) → inner-row-lts.Need-inner-row-requires (
   heaviest-reads.Asked,
   heaviest-reads.Learnt,
-  identity-reads.Asked,
-  identity-reads.Learnt,
-  prepend-below t,
-  prepend.Post,
+  flat-row-reads.Asked,
+  flat-row-reads.Learnt,
   mate-reads.Asked,
   mate-reads.Learnt,
   inner-row-below t,
   inner-row.Post,
   close-arc-reads.Asked,
   close-arc-reads.Learnt,
+  identity-reads.Asked,
+  identity-reads.Learnt,
+  prepend-below t,
+  prepend.Post,
   combine-into-reads.Asked,
   combine-into-reads.Learnt,
 ) (inner-row-at t) inner-row.Post
@@ -247,16 +251,18 @@ inner-row-inner-row-requires t c κs = let A = (around (((c .before .before .bef
 inner-row-shared-slice-read-close-arc : (t : ℕ) → inner-row-lts.Need-shared-slice-read-close-arc (
   heaviest-reads.Asked,
   heaviest-reads.Learnt,
-  identity-reads.Asked,
-  identity-reads.Learnt,
-  prepend-below t,
-  prepend.Post,
+  flat-row-reads.Asked,
+  flat-row-reads.Learnt,
   mate-reads.Asked,
   mate-reads.Learnt,
   inner-row-below t,
   inner-row.Post,
   close-arc-reads.Asked,
   close-arc-reads.Learnt,
+  identity-reads.Asked,
+  identity-reads.Learnt,
+  prepend-below t,
+  prepend.Post,
   combine-into-reads.Asked,
   combine-into-reads.Learnt,
 ) (inner-row-at t) inner-row.Post
@@ -266,16 +272,18 @@ inner-row-shared-slice-read-close-arc-2 :
     (t : ℕ) → inner-row-lts.Need-shared-slice-read-close-arc-2 (
       heaviest-reads.Asked,
       heaviest-reads.Learnt,
-      identity-reads.Asked,
-      identity-reads.Learnt,
-      prepend-below t,
-      prepend.Post,
+      flat-row-reads.Asked,
+      flat-row-reads.Learnt,
       mate-reads.Asked,
       mate-reads.Learnt,
       inner-row-below t,
       inner-row.Post,
       close-arc-reads.Asked,
       close-arc-reads.Learnt,
+      identity-reads.Asked,
+      identity-reads.Learnt,
+      prepend-below t,
+      prepend.Post,
       combine-into-reads.Asked,
       combine-into-reads.Learnt,
     ) (inner-row-at t) inner-row.Post
@@ -284,124 +292,58 @@ inner-row-shared-slice-read-close-arc-2 t c = let A = (around (((c .before .befo
 inner-row-close-arc-requires : (t : ℕ) → inner-row-lts.Need-close-arc-requires (
   heaviest-reads.Asked,
   heaviest-reads.Learnt,
-  identity-reads.Asked,
-  identity-reads.Learnt,
-  prepend-below t,
-  prepend.Post,
+  flat-row-reads.Asked,
+  flat-row-reads.Learnt,
   mate-reads.Asked,
   mate-reads.Learnt,
   inner-row-below t,
   inner-row.Post,
   close-arc-reads.Asked,
   close-arc-reads.Learnt,
+  identity-reads.Asked,
+  identity-reads.Learnt,
+  prepend-below t,
+  prepend.Post,
   combine-into-reads.Asked,
   combine-into-reads.Learnt,
 ) (inner-row-at t) inner-row.Post
-inner-row-close-arc-requires t c κs = (((c .before .before .before .before .before .before .before .before .before .before .before .before .before .before .before .before .before .pre) .1 .0) .window, (((c .before .before .before .before .before .before .before .before .before .before .before .before .before .before .before .before .before .pre) .1 .1 .1 .1 .0), (omega (arith, room-one ((c .before .before .before .before .before .before .before .before .before .before .before .before .before .before .before .before .before .pre) .1 .1 .1 .0), (c .before .before .before .before .before .inner-row) .kept .1 .1 .1 .1 .1 .1 .1 .1 .1 .0), row-from ((c .before .before .before .before .before .inner-row) .ensures))))
+inner-row-close-arc-requires t c κs = let A = (around (((c .before .before .before .before .before .before .before .before .before .before .before .before .before .before .before .before .before .pre) .1 .0) .molecule) ((c .before .before .before .before .before .before .before .before .before .before .before .before .before .before .before .before .before .pre) .1 .1 .0 .0) ((c .before .before .before .before .before .before .before .before .before .before .before .before .before .before .before .before .before .pre) .1 .1 .0 .1 .0) ((c .before .before .before .before .before .before .before .before .before .before .before .before .before .before .before .before .before .pre) .1 .1 .0 .1 .1) ((c .before .before .before .before .before .before .before .before .before .heaviest) .ensures) ((c .before .before .before .before .before .before .before .before .if2) .left) ((c .before .before .before .before .before .before .before .mate) .ensures)) in (((c .before .before .before .before .before .before .before .before .before .before .before .before .before .before .before .before .before .pre) .1 .0) .window, (((c .before .before .before .before .before .before .before .before .before .before .before .before .before .before .before .before .before .pre) .1 .1 .1 .1 .0), (letter-at ((c .before .before .before .before .before .before .before .before .before .before .before .before .before .before .before .before .before .pre) .1 .0) _ (A .inside), (omega (arith, room-one ((c .before .before .before .before .before .before .before .before .before .before .before .before .before .before .before .before .before .pre) .1 .1 .1 .0), (c .before .before .before .before .before .inner-row) .kept .1 .1 .1 .1 .1 .1 .1 .1 .1 .0), row-from ((c .before .before .before .before .before .inner-row) .ensures)))))
 
 inner-row-add-if3 : (t : ℕ) → inner-row-lts.Need-add-if3 (
   heaviest-reads.Asked,
   heaviest-reads.Learnt,
-  identity-reads.Asked,
-  identity-reads.Learnt,
-  prepend-below t,
-  prepend.Post,
+  flat-row-reads.Asked,
+  flat-row-reads.Learnt,
   mate-reads.Asked,
   mate-reads.Learnt,
   inner-row-below t,
   inner-row.Post,
   close-arc-reads.Asked,
   close-arc-reads.Learnt,
+  identity-reads.Asked,
+  identity-reads.Learnt,
+  prepend-below t,
+  prepend.Post,
   combine-into-reads.Asked,
   combine-into-reads.Learnt,
 ) (inner-row-at t) inner-row.Post
 inner-row-add-if3 t c = let A = (around (((c .before .before .before .before .before .before .before .before .before .before .before .before .before .before .before .before .before .before .before .before .pre) .1 .0) .molecule) ((c .before .before .before .before .before .before .before .before .before .before .before .before .before .before .before .before .before .before .before .before .pre) .1 .1 .0 .0) ((c .before .before .before .before .before .before .before .before .before .before .before .before .before .before .before .before .before .before .before .before .pre) .1 .1 .0 .1 .0) ((c .before .before .before .before .before .before .before .before .before .before .before .before .before .before .before .before .before .before .before .before .pre) .1 .1 .0 .1 .1) ((c .before .before .before .before .before .before .before .before .before .before .before .before .heaviest) .ensures) ((c .before .before .before .before .before .before .before .before .before .before .before .if2) .left) ((c .before .before .before .before .before .before .before .before .before .before .mate) .ensures)) in omega (arith, A .inside, ((c .before .before .before .before .before .before .before .before .before .before .before .before .before .before .before .before .before .before .before .before .pre) .1 .0) .short)
 
-inner-row-add-prepend-2 : (t : ℕ) → inner-row-lts.Need-add-prepend-2 (
-  heaviest-reads.Asked,
-  heaviest-reads.Learnt,
-  identity-reads.Asked,
-  identity-reads.Learnt,
-  prepend-below t,
-  prepend.Post,
-  mate-reads.Asked,
-  mate-reads.Learnt,
-  inner-row-below t,
-  inner-row.Post,
-  close-arc-reads.Asked,
-  close-arc-reads.Learnt,
-  combine-into-reads.Asked,
-  combine-into-reads.Learnt,
-) (inner-row-at t) inner-row.Post
-inner-row-add-prepend-2 t c = omega arith
-
-inner-row-prepend-requires-2 : (t : ℕ) → inner-row-lts.Need-prepend-requires-2 (
-  heaviest-reads.Asked,
-  heaviest-reads.Learnt,
-  identity-reads.Asked,
-  identity-reads.Learnt,
-  prepend-below t,
-  prepend.Post,
-  mate-reads.Asked,
-  mate-reads.Learnt,
-  inner-row-below t,
-  inner-row.Post,
-  close-arc-reads.Asked,
-  close-arc-reads.Learnt,
-  combine-into-reads.Asked,
-  combine-into-reads.Learnt,
-) (inner-row-at t) inner-row.Post
-inner-row-prepend-requires-2 t c κs = let A = (around (((c .before .before .before .before .before .before .before .before .before .before .before .before .before .before .before .before .before .before .before .before .before .before .pre) .1 .0) .molecule) ((c .before .before .before .before .before .before .before .before .before .before .before .before .before .before .before .before .before .before .before .before .before .before .pre) .1 .1 .0 .0) ((c .before .before .before .before .before .before .before .before .before .before .before .before .before .before .before .before .before .before .before .before .before .before .pre) .1 .1 .0 .1 .0) ((c .before .before .before .before .before .before .before .before .before .before .before .before .before .before .before .before .before .before .before .before .before .before .pre) .1 .1 .0 .1 .1) ((c .before .before .before .before .before .before .before .before .before .before .before .before .before .before .heaviest) .ensures) ((c .before .before .before .before .before .before .before .before .before .before .before .before .before .if2) .left) ((c .before .before .before .before .before .before .before .before .before .before .before .before .mate) .ensures)) in (omega (arith, (c .before .before .before .before .before .before .before .before .before .before .before .before .before .before .before .before .before .before .before .before .before .before .pre) .0, A .low, A .up, A .end), (((c .before .before .before .before .before .before .before .before .before .before .before .before .before .before .before .before .before .before .before .before .before .before .pre) .1 .0), (omega (arith, A .low, A .up, A .end, ((c .before .before .before .before .before .before .before .before .before .before .before .before .before .before .before .before .before .before .before .before .before .before .pre) .1 .1 .0 .1 .0)), (A .left, (light-at (room-light _ _ _ ((c .before .before .before .before .before .before .before .before .before .before .before .before .before .before .before .before .before .before .before .before .before .before .pre) .1 .1 .1 .0) (A .light-l) ((c .before .before .before .before .before .before .before .before .before .before .before .before .before .before .before .before .before .before .before .before .before .before .pre) .1 .1 .0 .0)) ((c .before .before .before .before .close-arc) .kept .0 ∙ (c .before .before .before .before .before .before .before .before .before .before .inner-row) .kept .1 .1 .1 .1 .1 .1 .1 .1 .1 .0), ((c .before .before .before .before .before .before .before .before .before .before .before .before .before .before .before .before .before .before .before .before .before .before .pre) .1 .1 .1 .1 .0))))))
-
-inner-row-same-length-2 : (t : ℕ) → inner-row-lts.Need-same-length-2 (
-  heaviest-reads.Asked,
-  heaviest-reads.Learnt,
-  identity-reads.Asked,
-  identity-reads.Learnt,
-  prepend-below t,
-  prepend.Post,
-  mate-reads.Asked,
-  mate-reads.Learnt,
-  inner-row-below t,
-  inner-row.Post,
-  close-arc-reads.Asked,
-  close-arc-reads.Learnt,
-  combine-into-reads.Asked,
-  combine-into-reads.Learnt,
-) (inner-row-at t) inner-row.Post
-inner-row-same-length-2 t c = (c .before .before .prepend2) .kept .1 .1 .1 .1 .1 .1 .1 .1 .0 ∙ (c .before .before .before .before .before .before .before .close-arc) .kept .0 ∙ (c .before .before .before .before .before .before .before .before .before .before .before .before .before .inner-row) .kept .1 .1 .1 .1 .1 .1 .1 .1 .1 .0
-
-inner-row-returns-3 : (t : ℕ) → inner-row-lts.Need-returns-3 (
-  heaviest-reads.Asked,
-  heaviest-reads.Learnt,
-  identity-reads.Asked,
-  identity-reads.Learnt,
-  prepend-below t,
-  prepend.Post,
-  mate-reads.Asked,
-  mate-reads.Learnt,
-  inner-row-below t,
-  inner-row.Post,
-  close-arc-reads.Asked,
-  close-arc-reads.Learnt,
-  combine-into-reads.Asked,
-  combine-into-reads.Learnt,
-) (inner-row-at t) inner-row.Post
-inner-row-returns-3 t c = let A = (around (((c .before .before .before .before .before .before .before .before .before .before .before .before .before .before .before .before .before .before .before .before .before .before .before .before .before .pre) .1 .0) .molecule) ((c .before .before .before .before .before .before .before .before .before .before .before .before .before .before .before .before .before .before .before .before .before .before .before .before .before .pre) .1 .1 .0 .0) ((c .before .before .before .before .before .before .before .before .before .before .before .before .before .before .before .before .before .before .before .before .before .before .before .before .before .pre) .1 .1 .0 .1 .0) ((c .before .before .before .before .before .before .before .before .before .before .before .before .before .before .before .before .before .before .before .before .before .before .before .before .before .pre) .1 .1 .0 .1 .1) ((c .before .before .before .before .before .before .before .before .before .before .before .before .before .before .before .before .before .heaviest) .ensures) ((c .before .before .before .before .before .before .before .before .before .before .before .before .before .before .before .before .if2) .left) ((c .before .before .before .before .before .before .before .before .before .before .before .before .before .before .before .mate) .ensures)) in prepended-row (A .low) (omega (arith, A .up, A .end)) (A .split-l) (arc-front _ _ ((c .before .before .before .before .before .before .before .before .before .before .before .before .before .before .before .before .before .before .before .before .before .before .before .before .before .args) .r) (omega (arith, A .end, (c .before .before .before .before .if3) .taken)) ((c .before .before .before .before .before .before .before .before .before .before .before .before .before .before .before .before .before .before .before .before .before .before .before .before .before .pre) .1 .0) (A .up) (A .inside) (A .mate) ((c .before .before .before .before .before .before .before .before .before .before .before .before .before .inner-row) .ensures) ((c .before .before .before .before .before .before .before .close-arc) .ensures)) ((c .before .before .prepend2) .ensures)
-
 inner-row-mul-part : (t : ℕ) → inner-row-lts.Need-mul-part (
   heaviest-reads.Asked,
   heaviest-reads.Learnt,
-  identity-reads.Asked,
-  identity-reads.Learnt,
-  prepend-below t,
-  prepend.Post,
+  flat-row-reads.Asked,
+  flat-row-reads.Learnt,
   mate-reads.Asked,
   mate-reads.Learnt,
   inner-row-below t,
   inner-row.Post,
   close-arc-reads.Asked,
   close-arc-reads.Learnt,
+  identity-reads.Asked,
+  identity-reads.Learnt,
+  prepend-below t,
+  prepend.Post,
   combine-into-reads.Asked,
   combine-into-reads.Learnt,
 ) (inner-row-at t) inner-row.Post
@@ -410,16 +352,18 @@ inner-row-mul-part t c = omega (arith, (c .before .before .before .before .befor
 inner-row-sub-part : (t : ℕ) → inner-row-lts.Need-sub-part (
   heaviest-reads.Asked,
   heaviest-reads.Learnt,
-  identity-reads.Asked,
-  identity-reads.Learnt,
-  prepend-below t,
-  prepend.Post,
+  flat-row-reads.Asked,
+  flat-row-reads.Learnt,
   mate-reads.Asked,
   mate-reads.Learnt,
   inner-row-below t,
   inner-row.Post,
   close-arc-reads.Asked,
   close-arc-reads.Learnt,
+  identity-reads.Asked,
+  identity-reads.Learnt,
+  prepend-below t,
+  prepend.Post,
   combine-into-reads.Asked,
   combine-into-reads.Learnt,
 ) (inner-row-at t) inner-row.Post
@@ -428,16 +372,18 @@ inner-row-sub-part t c = omega (arith, (c .before .before .before .close-arc) .k
 inner-row-part-part-start : (t : ℕ) → inner-row-lts.Need-part-part-start (
   heaviest-reads.Asked,
   heaviest-reads.Learnt,
-  identity-reads.Asked,
-  identity-reads.Learnt,
-  prepend-below t,
-  prepend.Post,
+  flat-row-reads.Asked,
+  flat-row-reads.Learnt,
   mate-reads.Asked,
   mate-reads.Learnt,
   inner-row-below t,
   inner-row.Post,
   close-arc-reads.Asked,
   close-arc-reads.Learnt,
+  identity-reads.Asked,
+  identity-reads.Learnt,
+  prepend-below t,
+  prepend.Post,
   combine-into-reads.Asked,
   combine-into-reads.Learnt,
 ) (inner-row-at t) inner-row.Post
@@ -446,170 +392,248 @@ inner-row-part-part-start t c = omega (arith, (c .before .before .before .close-
 inner-row-part-part-end : (t : ℕ) → inner-row-lts.Need-part-part-end (
   heaviest-reads.Asked,
   heaviest-reads.Learnt,
-  identity-reads.Asked,
-  identity-reads.Learnt,
-  prepend-below t,
-  prepend.Post,
+  flat-row-reads.Asked,
+  flat-row-reads.Learnt,
   mate-reads.Asked,
   mate-reads.Learnt,
   inner-row-below t,
   inner-row.Post,
   close-arc-reads.Asked,
   close-arc-reads.Learnt,
+  identity-reads.Asked,
+  identity-reads.Learnt,
+  prepend-below t,
+  prepend.Post,
   combine-into-reads.Asked,
   combine-into-reads.Learnt,
 ) (inner-row-at t) inner-row.Post
 inner-row-part-part-end t c = omega (arith, (c .before .before .before .close-arc) .kept .0, (c .before .before .before .before .before .before .before .before .before .inner-row) .kept .1 .1 .1 .1 .1 .1 .1 .1 .1 .0, room-one ((c .before .before .before .before .before .before .before .before .before .before .before .before .before .before .before .before .before .before .before .before .before .pre) .1 .1 .1 .0))
 
-inner-row-identity-requires-2 : (t : ℕ) → inner-row-lts.Need-identity-requires-2 (
+inner-row-identity-requires : (t : ℕ) → inner-row-lts.Need-identity-requires (
   heaviest-reads.Asked,
   heaviest-reads.Learnt,
-  identity-reads.Asked,
-  identity-reads.Learnt,
-  prepend-below t,
-  prepend.Post,
+  flat-row-reads.Asked,
+  flat-row-reads.Learnt,
   mate-reads.Asked,
   mate-reads.Learnt,
   inner-row-below t,
   inner-row.Post,
   close-arc-reads.Asked,
   close-arc-reads.Learnt,
+  identity-reads.Asked,
+  identity-reads.Learnt,
+  prepend-below t,
+  prepend.Post,
   combine-into-reads.Asked,
   combine-into-reads.Learnt,
 ) (inner-row-at t) inner-row.Post
-inner-row-identity-requires-2 t c κs = (((c .before .before .before .before .before .before .before .before .before .before .before .before .before .before .before .before .before .before .before .before .before .before .before .pre) .1 .0) .window .order, (omega (arith, ((c .before .before .before .before .before .before .before .before .before .before .before .before .before .before .before .before .before .before .before .before .before .before .before .pre) .1 .0) .window .ends, ((c .before .before .before .before .before .before .before .before .before .before .before .before .before .before .before .before .before .before .before .before .before .before .before .pre) .1 .0) .window .small), omega (arith, ((c .before .before .before .before .before .before .before .before .before .before .before .before .before .before .before .before .before .before .before .before .before .before .before .pre) .1 .0) .window .ends, (c .before .before .before .before .before .close-arc) .kept .0, (c .before .before .before .before .before .before .before .before .before .before .before .inner-row) .kept .1 .1 .1 .1 .1 .1 .1 .1 .1 .0, room-one ((c .before .before .before .before .before .before .before .before .before .before .before .before .before .before .before .before .before .before .before .before .before .before .before .pre) .1 .1 .1 .0), part-length (length ((c .before .before .before .before .before .before .before .before .before .before .before .before .before .before .before .before .before .before .before .before .before .before .before .args) .p .now) + 1) ((c .before .before .before .before .before .close-arc) .last .0) (omega (arith, (c .before .before .before .before .before .close-arc) .kept .0, (c .before .before .before .before .before .before .before .before .before .before .before .inner-row) .kept .1 .1 .1 .1 .1 .1 .1 .1 .1 .0, room-one ((c .before .before .before .before .before .before .before .before .before .before .before .before .before .before .before .before .before .before .before .before .before .before .before .pre) .1 .1 .1 .0))))))
+inner-row-identity-requires t c κs = (((c .before .before .before .before .before .before .before .before .before .before .before .before .before .before .before .before .before .before .before .before .before .before .before .pre) .1 .0) .window .order, (omega (arith, ((c .before .before .before .before .before .before .before .before .before .before .before .before .before .before .before .before .before .before .before .before .before .before .before .pre) .1 .0) .window .ends, ((c .before .before .before .before .before .before .before .before .before .before .before .before .before .before .before .before .before .before .before .before .before .before .before .pre) .1 .0) .window .small), omega (arith, ((c .before .before .before .before .before .before .before .before .before .before .before .before .before .before .before .before .before .before .before .before .before .before .before .pre) .1 .0) .window .ends, (c .before .before .before .before .before .close-arc) .kept .0, (c .before .before .before .before .before .before .before .before .before .before .before .inner-row) .kept .1 .1 .1 .1 .1 .1 .1 .1 .1 .0, room-one ((c .before .before .before .before .before .before .before .before .before .before .before .before .before .before .before .before .before .before .before .before .before .before .before .pre) .1 .1 .1 .0), part-length (length ((c .before .before .before .before .before .before .before .before .before .before .before .before .before .before .before .before .before .before .before .before .before .before .before .args) .p .now) + 1) ((c .before .before .before .before .before .close-arc) .last .0) (omega (arith, (c .before .before .before .before .before .close-arc) .kept .0, (c .before .before .before .before .before .before .before .before .before .before .before .inner-row) .kept .1 .1 .1 .1 .1 .1 .1 .1 .1 .0, room-one ((c .before .before .before .before .before .before .before .before .before .before .before .before .before .before .before .before .before .before .before .before .before .before .before .pre) .1 .1 .1 .0))))))
 
-inner-row-add-prepend-3 : (t : ℕ) → inner-row-lts.Need-add-prepend-3 (
+inner-row-add-prepend : (t : ℕ) → inner-row-lts.Need-add-prepend (
   heaviest-reads.Asked,
   heaviest-reads.Learnt,
-  identity-reads.Asked,
-  identity-reads.Learnt,
-  prepend-below t,
-  prepend.Post,
+  flat-row-reads.Asked,
+  flat-row-reads.Learnt,
   mate-reads.Asked,
   mate-reads.Learnt,
   inner-row-below t,
   inner-row.Post,
   close-arc-reads.Asked,
   close-arc-reads.Learnt,
+  identity-reads.Asked,
+  identity-reads.Learnt,
+  prepend-below t,
+  prepend.Post,
   combine-into-reads.Asked,
   combine-into-reads.Learnt,
 ) (inner-row-at t) inner-row.Post
-inner-row-add-prepend-3 t c = let A = (around (((c .before .before .before .before .before .before .before .before .before .before .before .before .before .before .before .before .before .before .before .before .before .before .before .before .before .before .pre) .1 .0) .molecule) ((c .before .before .before .before .before .before .before .before .before .before .before .before .before .before .before .before .before .before .before .before .before .before .before .before .before .before .pre) .1 .1 .0 .0) ((c .before .before .before .before .before .before .before .before .before .before .before .before .before .before .before .before .before .before .before .before .before .before .before .before .before .before .pre) .1 .1 .0 .1 .0) ((c .before .before .before .before .before .before .before .before .before .before .before .before .before .before .before .before .before .before .before .before .before .before .before .before .before .before .pre) .1 .1 .0 .1 .1) ((c .before .before .before .before .before .before .before .before .before .before .before .before .before .before .before .before .before .before .heaviest) .ensures) ((c .before .before .before .before .before .before .before .before .before .before .before .before .before .before .before .before .before .if2) .left) ((c .before .before .before .before .before .before .before .before .before .before .before .before .before .before .before .before .mate) .ensures)) in omega (arith, A .inside, ((c .before .before .before .before .before .before .before .before .before .before .before .before .before .before .before .before .before .before .before .before .before .before .before .before .before .before .pre) .1 .0) .short)
+inner-row-add-prepend t c = let A = (around (((c .before .before .before .before .before .before .before .before .before .before .before .before .before .before .before .before .before .before .before .before .before .before .before .before .before .before .pre) .1 .0) .molecule) ((c .before .before .before .before .before .before .before .before .before .before .before .before .before .before .before .before .before .before .before .before .before .before .before .before .before .before .pre) .1 .1 .0 .0) ((c .before .before .before .before .before .before .before .before .before .before .before .before .before .before .before .before .before .before .before .before .before .before .before .before .before .before .pre) .1 .1 .0 .1 .0) ((c .before .before .before .before .before .before .before .before .before .before .before .before .before .before .before .before .before .before .before .before .before .before .before .before .before .before .pre) .1 .1 .0 .1 .1) ((c .before .before .before .before .before .before .before .before .before .before .before .before .before .before .before .before .before .before .heaviest) .ensures) ((c .before .before .before .before .before .before .before .before .before .before .before .before .before .before .before .before .before .if2) .left) ((c .before .before .before .before .before .before .before .before .before .before .before .before .before .before .before .before .mate) .ensures)) in omega (arith, A .inside, ((c .before .before .before .before .before .before .before .before .before .before .before .before .before .before .before .before .before .before .before .before .before .before .before .before .before .before .pre) .1 .0) .short)
 
-inner-row-prepend-requires-3 : (t : ℕ) → inner-row-lts.Need-prepend-requires-3 (
+inner-row-prepend-requires : (t : ℕ) → inner-row-lts.Need-prepend-requires (
   heaviest-reads.Asked,
   heaviest-reads.Learnt,
-  identity-reads.Asked,
-  identity-reads.Learnt,
-  prepend-below t,
-  prepend.Post,
+  flat-row-reads.Asked,
+  flat-row-reads.Learnt,
   mate-reads.Asked,
   mate-reads.Learnt,
   inner-row-below t,
   inner-row.Post,
   close-arc-reads.Asked,
   close-arc-reads.Learnt,
+  identity-reads.Asked,
+  identity-reads.Learnt,
+  prepend-below t,
+  prepend.Post,
   combine-into-reads.Asked,
   combine-into-reads.Learnt,
 ) (inner-row-at t) inner-row.Post
-inner-row-prepend-requires-3 t c κs = let A = (around (((c .before .before .before .before .before .before .before .before .before .before .before .before .before .before .before .before .before .before .before .before .before .before .before .before .before .before .pre) .1 .0) .molecule) ((c .before .before .before .before .before .before .before .before .before .before .before .before .before .before .before .before .before .before .before .before .before .before .before .before .before .before .pre) .1 .1 .0 .0) ((c .before .before .before .before .before .before .before .before .before .before .before .before .before .before .before .before .before .before .before .before .before .before .before .before .before .before .pre) .1 .1 .0 .1 .0) ((c .before .before .before .before .before .before .before .before .before .before .before .before .before .before .before .before .before .before .before .before .before .before .before .before .before .before .pre) .1 .1 .0 .1 .1) ((c .before .before .before .before .before .before .before .before .before .before .before .before .before .before .before .before .before .before .heaviest) .ensures) ((c .before .before .before .before .before .before .before .before .before .before .before .before .before .before .before .before .before .if2) .left) ((c .before .before .before .before .before .before .before .before .before .before .before .before .before .before .before .before .mate) .ensures)) in (omega (arith, (c .before .before .before .before .before .before .before .before .before .before .before .before .before .before .before .before .before .before .before .before .before .before .before .before .before .before .pre) .0, A .low, A .up, A .end), (((c .before .before .before .before .before .before .before .before .before .before .before .before .before .before .before .before .before .before .before .before .before .before .before .before .before .before .pre) .1 .0), (omega (arith, A .end, ((c .before .before .before .before .before .before .before .before .before .before .before .before .before .before .before .before .before .before .before .before .before .before .before .before .before .before .pre) .1 .1 .0 .1 .0)), (A .right, (light-at (room-past _ _ _ ((c .before .before .before .before .before .before .before .before .before .before .before .before .before .before .before .before .before .before .before .before .before .before .before .before .before .before .pre) .1 .1 .1 .0) (A .light-r) ((c .before .before .before .before .before .before .before .before .before .before .before .before .before .before .before .before .before .before .before .before .before .before .before .before .before .before .pre) .1 .1 .0 .0)) (omega (arith, (c .before .before .identity2) .kept .0, part-length (length ((c .before .before .before .before .before .before .before .before .before .before .before .before .before .before .before .before .before .before .before .before .before .before .before .before .before .before .args) .p .now) + 1) ((c .before .before .before .before .before .before .before .before .close-arc) .last .0) (omega (arith, (c .before .before .before .before .before .before .before .before .close-arc) .kept .0, (c .before .before .before .before .before .before .before .before .before .before .before .before .before .before .inner-row) .kept .1 .1 .1 .1 .1 .1 .1 .1 .1 .0, room-one ((c .before .before .before .before .before .before .before .before .before .before .before .before .before .before .before .before .before .before .before .before .before .before .before .before .before .before .pre) .1 .1 .1 .0))), (c .before .before .before .before .before .before .before .before .close-arc) .kept .0, (c .before .before .before .before .before .before .before .before .before .before .before .before .before .before .inner-row) .kept .1 .1 .1 .1 .1 .1 .1 .1 .1 .0, room-one ((c .before .before .before .before .before .before .before .before .before .before .before .before .before .before .before .before .before .before .before .before .before .before .before .before .before .before .pre) .1 .1 .1 .0))), ((c .before .before .before .before .before .before .before .before .before .before .before .before .before .before .before .before .before .before .before .before .before .before .before .before .before .before .pre) .1 .1 .1 .1 .0))))))
+inner-row-prepend-requires t c κs = let A = (around (((c .before .before .before .before .before .before .before .before .before .before .before .before .before .before .before .before .before .before .before .before .before .before .before .before .before .before .pre) .1 .0) .molecule) ((c .before .before .before .before .before .before .before .before .before .before .before .before .before .before .before .before .before .before .before .before .before .before .before .before .before .before .pre) .1 .1 .0 .0) ((c .before .before .before .before .before .before .before .before .before .before .before .before .before .before .before .before .before .before .before .before .before .before .before .before .before .before .pre) .1 .1 .0 .1 .0) ((c .before .before .before .before .before .before .before .before .before .before .before .before .before .before .before .before .before .before .before .before .before .before .before .before .before .before .pre) .1 .1 .0 .1 .1) ((c .before .before .before .before .before .before .before .before .before .before .before .before .before .before .before .before .before .before .heaviest) .ensures) ((c .before .before .before .before .before .before .before .before .before .before .before .before .before .before .before .before .before .if2) .left) ((c .before .before .before .before .before .before .before .before .before .before .before .before .before .before .before .before .mate) .ensures)) in (omega (arith, (c .before .before .before .before .before .before .before .before .before .before .before .before .before .before .before .before .before .before .before .before .before .before .before .before .before .before .pre) .0, A .low, A .up, A .end), (((c .before .before .before .before .before .before .before .before .before .before .before .before .before .before .before .before .before .before .before .before .before .before .before .before .before .before .pre) .1 .0), (omega (arith, A .end, ((c .before .before .before .before .before .before .before .before .before .before .before .before .before .before .before .before .before .before .before .before .before .before .before .before .before .before .pre) .1 .1 .0 .1 .0)), (A .right, (light-at (room-past _ _ _ ((c .before .before .before .before .before .before .before .before .before .before .before .before .before .before .before .before .before .before .before .before .before .before .before .before .before .before .pre) .1 .1 .1 .0) (A .light-r) ((c .before .before .before .before .before .before .before .before .before .before .before .before .before .before .before .before .before .before .before .before .before .before .before .before .before .before .pre) .1 .1 .0 .0)) (omega (arith, (c .before .before .identity) .kept .0, part-length (length ((c .before .before .before .before .before .before .before .before .before .before .before .before .before .before .before .before .before .before .before .before .before .before .before .before .before .before .args) .p .now) + 1) ((c .before .before .before .before .before .before .before .before .close-arc) .last .0) (omega (arith, (c .before .before .before .before .before .before .before .before .close-arc) .kept .0, (c .before .before .before .before .before .before .before .before .before .before .before .before .before .before .inner-row) .kept .1 .1 .1 .1 .1 .1 .1 .1 .1 .0, room-one ((c .before .before .before .before .before .before .before .before .before .before .before .before .before .before .before .before .before .before .before .before .before .before .before .before .before .before .pre) .1 .1 .1 .0))), (c .before .before .before .before .before .before .before .before .close-arc) .kept .0, (c .before .before .before .before .before .before .before .before .before .before .before .before .before .before .inner-row) .kept .1 .1 .1 .1 .1 .1 .1 .1 .1 .0, room-one ((c .before .before .before .before .before .before .before .before .before .before .before .before .before .before .before .before .before .before .before .before .before .before .before .before .before .before .pre) .1 .1 .1 .0))), ((c .before .before .before .before .before .before .before .before .before .before .before .before .before .before .before .before .before .before .before .before .before .before .before .before .before .before .pre) .1 .1 .1 .1 .0))))))
 
 inner-row-combine-into-requires : (t : ℕ) → inner-row-lts.Need-combine-into-requires (
   heaviest-reads.Asked,
   heaviest-reads.Learnt,
-  identity-reads.Asked,
-  identity-reads.Learnt,
-  prepend-below t,
-  prepend.Post,
+  flat-row-reads.Asked,
+  flat-row-reads.Learnt,
   mate-reads.Asked,
   mate-reads.Learnt,
   inner-row-below t,
   inner-row.Post,
   close-arc-reads.Asked,
   close-arc-reads.Learnt,
+  identity-reads.Asked,
+  identity-reads.Learnt,
+  prepend-below t,
+  prepend.Post,
   combine-into-reads.Asked,
   combine-into-reads.Learnt,
 ) (inner-row-at t) inner-row.Post
-inner-row-combine-into-requires t c κs = ((((c .before .before .before .before .before .before .before .before .before .before .before .before .before .before .before .before .before .before .before .before .before .before .before .before .before .before .before .before .before .before .pre) .1 .0) .window .order, (omega (arith, ((c .before .before .before .before .before .before .before .before .before .before .before .before .before .before .before .before .before .before .before .before .before .before .before .before .before .before .before .before .before .before .pre) .1 .0) .window .ends, ((c .before .before .before .before .before .before .before .before .before .before .before .before .before .before .before .before .before .before .before .before .before .before .before .before .before .before .before .before .before .before .pre) .1 .0) .window .small), (omega (arith, ((c .before .before .before .before .before .before .before .before .before .before .before .before .before .before .before .before .before .before .before .before .before .before .before .before .before .before .before .before .before .before .pre) .1 .0) .window .ends), omega (arith, ((c .before .before .before .before .before .before .before .before .before .before .before .before .before .before .before .before .before .before .before .before .before .before .before .before .before .before .before .before .before .before .pre) .1 .0) .window .ends, (c .before .before .before .before .before .before .before .before .before .before .before .before .close-arc) .kept .0, (c .before .before .before .before .before .before .before .before .before .before .before .before .before .before .before .before .before .before .inner-row) .kept .1 .1 .1 .1 .1 .1 .1 .1 .1 .0, room-one ((c .before .before .before .before .before .before .before .before .before .before .before .before .before .before .before .before .before .before .before .before .before .before .before .before .before .before .before .before .before .before .pre) .1 .1 .1 .0), back-length (length ((c .before .before .before .before .before .before .before .before .before .before .before .before .before .before .before .before .before .before .before .before .before .before .before .before .before .before .before .before .before .before .args) .p .now) + 1) ((c .before .before .before .before .before .before .before .before .before .before .before .before .close-arc) .last .0) (omega (arith, (c .before .before .before .before .before .before .before .before .before .before .before .before .close-arc) .kept .0, (c .before .before .before .before .before .before .before .before .before .before .before .before .before .before .before .before .before .before .inner-row) .kept .1 .1 .1 .1 .1 .1 .1 .1 .1 .0, room-one ((c .before .before .before .before .before .before .before .before .before .before .before .before .before .before .before .before .before .before .before .before .before .before .before .before .before .before .before .before .before .before .pre) .1 .1 .1 .0))) ((c .before .before .before .prepend3) .last .1 .1 .1 .1 .1 .1 .1 .1 .0) ((c .before .before .before .prepend3) .kept .1 .1 .1 .1 .1 .1 .1 .1 .0 ∙ (c .before .before .before .before .before .before .identity2) .kept .0))))), range-under (length ((c .before .before .before .before .before .before .before .before .before .before .before .before .before .before .before .before .before .before .before .before .before .before .before .before .before .before .before .before .before .before .args) .p .now) + 1) ((c .before .before .before .before .before .before .before .before .before .before .before .before .close-arc) .last .0) ((c .before .before .before .prepend3) .last .1 .1 .1 .1 .1 .1 .1 .1 .0) (omega (arith, (c .before .before .before .before .before .before .before .before .before .before .before .before .close-arc) .kept .0, (c .before .before .before .before .before .before .before .before .before .before .before .before .before .before .before .before .before .before .inner-row) .kept .1 .1 .1 .1 .1 .1 .1 .1 .1 .0, room-one ((c .before .before .before .before .before .before .before .before .before .before .before .before .before .before .before .before .before .before .before .before .before .before .before .before .before .before .before .before .before .before .pre) .1 .1 .1 .0))) (omega (arith, ((c .before .before .before .before .before .before .before .before .before .before .before .before .before .before .before .before .before .before .before .before .before .before .before .before .before .before .before .before .before .before .pre) .1 .0) .window .ends)) (closed-row _ _ ((c .before .before .before .before .before .before .before .before .before .before .before .before .before .before .before .before .before .before .before .before .before .before .before .before .before .before .before .before .before .before .pre) .1 .0) ((around (((c .before .before .before .before .before .before .before .before .before .before .before .before .before .before .before .before .before .before .before .before .before .before .before .before .before .before .before .before .before .before .pre) .1 .0) .molecule) ((c .before .before .before .before .before .before .before .before .before .before .before .before .before .before .before .before .before .before .before .before .before .before .before .before .before .before .before .before .before .before .pre) .1 .1 .0 .0) ((c .before .before .before .before .before .before .before .before .before .before .before .before .before .before .before .before .before .before .before .before .before .before .before .before .before .before .before .before .before .before .pre) .1 .1 .0 .1 .0) ((c .before .before .before .before .before .before .before .before .before .before .before .before .before .before .before .before .before .before .before .before .before .before .before .before .before .before .before .before .before .before .pre) .1 .1 .0 .1 .1) ((c .before .before .before .before .before .before .before .before .before .before .before .before .before .before .before .before .before .before .before .before .before .before .heaviest) .ensures) ((c .before .before .before .before .before .before .before .before .before .before .before .before .before .before .before .before .before .before .before .before .before .if2) .left) ((c .before .before .before .before .before .before .before .before .before .before .before .before .before .before .before .before .before .before .before .before .mate) .ensures)) .up) ((around (((c .before .before .before .before .before .before .before .before .before .before .before .before .before .before .before .before .before .before .before .before .before .before .before .before .before .before .before .before .before .before .pre) .1 .0) .molecule) ((c .before .before .before .before .before .before .before .before .before .before .before .before .before .before .before .before .before .before .before .before .before .before .before .before .before .before .before .before .before .before .pre) .1 .1 .0 .0) ((c .before .before .before .before .before .before .before .before .before .before .before .before .before .before .before .before .before .before .before .before .before .before .before .before .before .before .before .before .before .before .pre) .1 .1 .0 .1 .0) ((c .before .before .before .before .before .before .before .before .before .before .before .before .before .before .before .before .before .before .before .before .before .before .before .before .before .before .before .before .before .before .pre) .1 .1 .0 .1 .1) ((c .before .before .before .before .before .before .before .before .before .before .before .before .before .before .before .before .before .before .before .before .before .before .heaviest) .ensures) ((c .before .before .before .before .before .before .before .before .before .before .before .before .before .before .before .before .before .before .before .before .before .if2) .left) ((c .before .before .before .before .before .before .before .before .before .before .before .before .before .before .before .before .before .before .before .before .mate) .ensures)) .inside) ((around (((c .before .before .before .before .before .before .before .before .before .before .before .before .before .before .before .before .before .before .before .before .before .before .before .before .before .before .before .before .before .before .pre) .1 .0) .molecule) ((c .before .before .before .before .before .before .before .before .before .before .before .before .before .before .before .before .before .before .before .before .before .before .before .before .before .before .before .before .before .before .pre) .1 .1 .0 .0) ((c .before .before .before .before .before .before .before .before .before .before .before .before .before .before .before .before .before .before .before .before .before .before .before .before .before .before .before .before .before .before .pre) .1 .1 .0 .1 .0) ((c .before .before .before .before .before .before .before .before .before .before .before .before .before .before .before .before .before .before .before .before .before .before .before .before .before .before .before .before .before .before .pre) .1 .1 .0 .1 .1) ((c .before .before .before .before .before .before .before .before .before .before .before .before .before .before .before .before .before .before .before .before .before .before .heaviest) .ensures) ((c .before .before .before .before .before .before .before .before .before .before .before .before .before .before .before .before .before .before .before .before .before .if2) .left) ((c .before .before .before .before .before .before .before .before .before .before .before .before .before .before .before .before .before .before .before .before .mate) .ensures)) .mate) ((c .before .before .before .before .before .before .before .before .before .before .before .before .before .before .before .before .before .before .inner-row) .ensures) ((c .before .before .before .before .before .before .before .before .before .before .before .before .close-arc) .ensures)))
+inner-row-combine-into-requires t c κs = let A = (around (((c .before .before .before .before .before .before .before .before .before .before .before .before .before .before .before .before .before .before .before .before .before .before .before .before .before .before .before .before .before .before .pre) .1 .0) .molecule) ((c .before .before .before .before .before .before .before .before .before .before .before .before .before .before .before .before .before .before .before .before .before .before .before .before .before .before .before .before .before .before .pre) .1 .1 .0 .0) ((c .before .before .before .before .before .before .before .before .before .before .before .before .before .before .before .before .before .before .before .before .before .before .before .before .before .before .before .before .before .before .pre) .1 .1 .0 .1 .0) ((c .before .before .before .before .before .before .before .before .before .before .before .before .before .before .before .before .before .before .before .before .before .before .before .before .before .before .before .before .before .before .pre) .1 .1 .0 .1 .1) ((c .before .before .before .before .before .before .before .before .before .before .before .before .before .before .before .before .before .before .before .before .before .before .heaviest) .ensures) ((c .before .before .before .before .before .before .before .before .before .before .before .before .before .before .before .before .before .before .before .before .before .if2) .left) ((c .before .before .before .before .before .before .before .before .before .before .before .before .before .before .before .before .before .before .before .before .mate) .ensures)) in ((((c .before .before .before .before .before .before .before .before .before .before .before .before .before .before .before .before .before .before .before .before .before .before .before .before .before .before .before .before .before .before .pre) .1 .0) .window .order, (omega (arith, ((c .before .before .before .before .before .before .before .before .before .before .before .before .before .before .before .before .before .before .before .before .before .before .before .before .before .before .before .before .before .before .pre) .1 .0) .window .ends, ((c .before .before .before .before .before .before .before .before .before .before .before .before .before .before .before .before .before .before .before .before .before .before .before .before .before .before .before .before .before .before .pre) .1 .0) .window .small), (omega (arith, ((c .before .before .before .before .before .before .before .before .before .before .before .before .before .before .before .before .before .before .before .before .before .before .before .before .before .before .before .before .before .before .pre) .1 .0) .window .ends), omega (arith, ((c .before .before .before .before .before .before .before .before .before .before .before .before .before .before .before .before .before .before .before .before .before .before .before .before .before .before .before .before .before .before .pre) .1 .0) .window .ends, (c .before .before .before .before .before .before .before .before .before .before .before .before .close-arc) .kept .0, (c .before .before .before .before .before .before .before .before .before .before .before .before .before .before .before .before .before .before .inner-row) .kept .1 .1 .1 .1 .1 .1 .1 .1 .1 .0, room-one ((c .before .before .before .before .before .before .before .before .before .before .before .before .before .before .before .before .before .before .before .before .before .before .before .before .before .before .before .before .before .before .pre) .1 .1 .1 .0), back-length (length ((c .before .before .before .before .before .before .before .before .before .before .before .before .before .before .before .before .before .before .before .before .before .before .before .before .before .before .before .before .before .before .args) .p .now) + 1) ((c .before .before .before .before .before .before .before .before .before .before .before .before .close-arc) .last .0) (omega (arith, (c .before .before .before .before .before .before .before .before .before .before .before .before .close-arc) .kept .0, (c .before .before .before .before .before .before .before .before .before .before .before .before .before .before .before .before .before .before .inner-row) .kept .1 .1 .1 .1 .1 .1 .1 .1 .1 .0, room-one ((c .before .before .before .before .before .before .before .before .before .before .before .before .before .before .before .before .before .before .before .before .before .before .before .before .before .before .before .before .before .before .pre) .1 .1 .1 .0))) ((c .before .before .before .prepend) .last .1 .1 .1 .1 .1 .1 .1 .1 .0) ((c .before .before .before .prepend) .kept .1 .1 .1 .1 .1 .1 .1 .1 .0 ∙ (c .before .before .before .before .before .before .identity) .kept .0))))), range-under (length ((c .before .before .before .before .before .before .before .before .before .before .before .before .before .before .before .before .before .before .before .before .before .before .before .before .before .before .before .before .before .before .args) .p .now) + 1) ((c .before .before .before .before .before .before .before .before .before .before .before .before .close-arc) .last .0) ((c .before .before .before .prepend) .last .1 .1 .1 .1 .1 .1 .1 .1 .0) (omega (arith, (c .before .before .before .before .before .before .before .before .before .before .before .before .close-arc) .kept .0, (c .before .before .before .before .before .before .before .before .before .before .before .before .before .before .before .before .before .before .inner-row) .kept .1 .1 .1 .1 .1 .1 .1 .1 .1 .0, room-one ((c .before .before .before .before .before .before .before .before .before .before .before .before .before .before .before .before .before .before .before .before .before .before .before .before .before .before .before .before .before .before .pre) .1 .1 .1 .0))) (omega (arith, ((c .before .before .before .before .before .before .before .before .before .before .before .before .before .before .before .before .before .before .before .before .before .before .before .before .before .before .before .before .before .before .pre) .1 .0) .window .ends)) (closed-row _ _ ((c .before .before .before .before .before .before .before .before .before .before .before .before .before .before .before .before .before .before .before .before .before .before .before .before .before .before .before .before .before .before .pre) .1 .0) (A .up) (A .inside) (A .mate) ((c .before .before .before .before .before .before .before .before .before .before .before .before .before .before .before .before .before .before .inner-row) .ensures) ((c .before .before .before .before .before .before .before .before .before .before .before .before .close-arc) .ensures)))
 
-inner-row-add-prepend-4 : (t : ℕ) → inner-row-lts.Need-add-prepend-4 (
+inner-row-add-if4 : (t : ℕ) → inner-row-lts.Need-add-if4 (
   heaviest-reads.Asked,
   heaviest-reads.Learnt,
-  identity-reads.Asked,
-  identity-reads.Learnt,
-  prepend-below t,
-  prepend.Post,
+  flat-row-reads.Asked,
+  flat-row-reads.Learnt,
   mate-reads.Asked,
   mate-reads.Learnt,
   inner-row-below t,
   inner-row.Post,
   close-arc-reads.Asked,
   close-arc-reads.Learnt,
+  identity-reads.Asked,
+  identity-reads.Learnt,
+  prepend-below t,
+  prepend.Post,
   combine-into-reads.Asked,
   combine-into-reads.Learnt,
 ) (inner-row-at t) inner-row.Post
-inner-row-add-prepend-4 t c = omega (arith, ((c .before .before .before .before .before .before .before .before .before .before .before .before .before .before .before .before .before .before .before .before .before .before .before .before .before .before .before .before .before .before .before .before .before .pre) .1 .0) .short, ((c .before .before .before .before .before .before .before .before .before .before .before .before .before .before .before .before .before .before .before .before .before .before .before .before .before .before .before .before .before .before .before .before .before .pre) .1 .1 .0 .0), ((c .before .before .before .before .before .before .before .before .before .before .before .before .before .before .before .before .before .before .before .before .before .before .before .before .before .before .before .before .before .before .before .before .before .pre) .1 .1 .0 .1 .0))
+inner-row-add-if4 t c = omega arith
 
-inner-row-prepend-requires-4 : (t : ℕ) → inner-row-lts.Need-prepend-requires-4 (
+inner-row-add-prepend-2 : (t : ℕ) → inner-row-lts.Need-add-prepend-2 (
   heaviest-reads.Asked,
   heaviest-reads.Learnt,
-  identity-reads.Asked,
-  identity-reads.Learnt,
-  prepend-below t,
-  prepend.Post,
+  flat-row-reads.Asked,
+  flat-row-reads.Learnt,
   mate-reads.Asked,
   mate-reads.Learnt,
   inner-row-below t,
   inner-row.Post,
   close-arc-reads.Asked,
   close-arc-reads.Learnt,
+  identity-reads.Asked,
+  identity-reads.Learnt,
+  prepend-below t,
+  prepend.Post,
   combine-into-reads.Asked,
   combine-into-reads.Learnt,
 ) (inner-row-at t) inner-row.Post
-inner-row-prepend-requires-4 t c κs = let A = (around (((c .before .before .before .before .before .before .before .before .before .before .before .before .before .before .before .before .before .before .before .before .before .before .before .before .before .before .before .before .before .before .before .before .before .before .pre) .1 .0) .molecule) ((c .before .before .before .before .before .before .before .before .before .before .before .before .before .before .before .before .before .before .before .before .before .before .before .before .before .before .before .before .before .before .before .before .before .before .pre) .1 .1 .0 .0) ((c .before .before .before .before .before .before .before .before .before .before .before .before .before .before .before .before .before .before .before .before .before .before .before .before .before .before .before .before .before .before .before .before .before .before .pre) .1 .1 .0 .1 .0) ((c .before .before .before .before .before .before .before .before .before .before .before .before .before .before .before .before .before .before .before .before .before .before .before .before .before .before .before .before .before .before .before .before .before .before .pre) .1 .1 .0 .1 .1) ((c .before .before .before .before .before .before .before .before .before .before .before .before .before .before .before .before .before .before .before .before .before .before .before .before .before .before .heaviest) .ensures) ((c .before .before .before .before .before .before .before .before .before .before .before .before .before .before .before .before .before .before .before .before .before .before .before .before .before .if2) .left) ((c .before .before .before .before .before .before .before .before .before .before .before .before .before .before .before .before .before .before .before .before .before .before .before .before .mate) .ensures)) in (omega (arith, (c .before .before .before .before .before .before .before .before .before .before .before .before .before .before .before .before .before .before .before .before .before .before .before .before .before .before .before .before .before .before .before .before .before .before .pre) .0, A .low, A .up, A .end), (((c .before .before .before .before .before .before .before .before .before .before .before .before .before .before .before .before .before .before .before .before .before .before .before .before .before .before .before .before .before .before .before .before .before .before .pre) .1 .0), (omega (arith, A .low, A .up, A .end, ((c .before .before .before .before .before .before .before .before .before .before .before .before .before .before .before .before .before .before .before .before .before .before .before .before .before .before .before .before .before .before .before .before .before .before .pre) .1 .1 .0 .1 .0)), (A .left, (light-at (room-light _ _ _ ((c .before .before .before .before .before .before .before .before .before .before .before .before .before .before .before .before .before .before .before .before .before .before .before .before .before .before .before .before .before .before .before .before .before .before .pre) .1 .1 .1 .0) (A .light-l) ((c .before .before .before .before .before .before .before .before .before .before .before .before .before .before .before .before .before .before .before .before .before .before .before .before .before .before .before .before .before .before .before .before .before .before .pre) .1 .1 .0 .0)) (omega (arith, (c .before .before .before .combine-into) .kept .0, (c .before .before .before .before .before .before .before .before .before .before .before .before .before .before .before .before .close-arc) .kept .0, (c .before .before .before .before .before .before .before .before .before .before .before .before .before .before .before .before .before .before .before .before .before .before .inner-row) .kept .1 .1 .1 .1 .1 .1 .1 .1 .1 .0, room-one ((c .before .before .before .before .before .before .before .before .before .before .before .before .before .before .before .before .before .before .before .before .before .before .before .before .before .before .before .before .before .before .before .before .before .before .pre) .1 .1 .1 .0), back-length (length ((c .before .before .before .before .before .before .before .before .before .before .before .before .before .before .before .before .before .before .before .before .before .before .before .before .before .before .before .before .before .before .before .before .before .before .args) .p .now) + 1) ((c .before .before .before .before .before .before .before .before .before .before .before .before .before .before .before .before .close-arc) .last .0) (omega (arith, (c .before .before .before .before .before .before .before .before .before .before .before .before .before .before .before .before .close-arc) .kept .0, (c .before .before .before .before .before .before .before .before .before .before .before .before .before .before .before .before .before .before .before .before .before .before .inner-row) .kept .1 .1 .1 .1 .1 .1 .1 .1 .1 .0, room-one ((c .before .before .before .before .before .before .before .before .before .before .before .before .before .before .before .before .before .before .before .before .before .before .before .before .before .before .before .before .before .before .before .before .before .before .pre) .1 .1 .1 .0))) ((c .before .before .before .before .before .before .before .prepend3) .last .1 .1 .1 .1 .1 .1 .1 .1 .0) ((c .before .before .before .before .before .before .before .prepend3) .kept .1 .1 .1 .1 .1 .1 .1 .1 .0 ∙ (c .before .before .before .before .before .before .before .before .before .before .identity2) .kept .0))), ((c .before .before .before .before .before .before .before .before .before .before .before .before .before .before .before .before .before .before .before .before .before .before .before .before .before .before .before .before .before .before .before .before .before .before .pre) .1 .1 .1 .1 .0))))))
+inner-row-add-prepend-2 t c = omega arith
+
+inner-row-prepend-requires-2 : (t : ℕ) → inner-row-lts.Need-prepend-requires-2 (
+  heaviest-reads.Asked,
+  heaviest-reads.Learnt,
+  flat-row-reads.Asked,
+  flat-row-reads.Learnt,
+  mate-reads.Asked,
+  mate-reads.Learnt,
+  inner-row-below t,
+  inner-row.Post,
+  close-arc-reads.Asked,
+  close-arc-reads.Learnt,
+  identity-reads.Asked,
+  identity-reads.Learnt,
+  prepend-below t,
+  prepend.Post,
+  combine-into-reads.Asked,
+  combine-into-reads.Learnt,
+) (inner-row-at t) inner-row.Post
+inner-row-prepend-requires-2 t c κs = let A = (around (((c .before .before .before .before .before .before .before .before .before .before .before .before .before .before .before .before .before .before .before .before .before .before .before .pre) .1 .0) .molecule) ((c .before .before .before .before .before .before .before .before .before .before .before .before .before .before .before .before .before .before .before .before .before .before .before .pre) .1 .1 .0 .0) ((c .before .before .before .before .before .before .before .before .before .before .before .before .before .before .before .before .before .before .before .before .before .before .before .pre) .1 .1 .0 .1 .0) ((c .before .before .before .before .before .before .before .before .before .before .before .before .before .before .before .before .before .before .before .before .before .before .before .pre) .1 .1 .0 .1 .1) ((c .before .before .before .before .before .before .before .before .before .before .before .before .before .before .before .heaviest) .ensures) ((c .before .before .before .before .before .before .before .before .before .before .before .before .before .before .if2) .left) ((c .before .before .before .before .before .before .before .before .before .before .before .before .before .mate) .ensures)) in (omega (arith, (c .before .before .before .before .before .before .before .before .before .before .before .before .before .before .before .before .before .before .before .before .before .before .before .pre) .0, A .low, A .up, A .end), (((c .before .before .before .before .before .before .before .before .before .before .before .before .before .before .before .before .before .before .before .before .before .before .before .pre) .1 .0), (omega (arith, A .low, A .up, A .end, ((c .before .before .before .before .before .before .before .before .before .before .before .before .before .before .before .before .before .before .before .before .before .before .before .pre) .1 .1 .0 .1 .0)), (A .left, (light-at (room-light _ _ _ ((c .before .before .before .before .before .before .before .before .before .before .before .before .before .before .before .before .before .before .before .before .before .before .before .pre) .1 .1 .1 .0) (A .light-l) ((c .before .before .before .before .before .before .before .before .before .before .before .before .before .before .before .before .before .before .before .before .before .before .before .pre) .1 .1 .0 .0)) (⊎-elim (λ w. ap length (w .13) ∙ w .10 .kept .0 ∙ back-length (length ((c .before .before .before .before .before .before .before .before .before .before .before .before .before .before .before .before .before .before .before .before .before .before .before .args) .p .now) + 1) ((c .before .before .before .before .before .close-arc) .last .0) (omega (arith, (c .before .before .before .before .before .close-arc) .kept .0, (c .before .before .before .before .before .before .before .before .before .before .before .inner-row) .kept .1 .1 .1 .1 .1 .1 .1 .1 .1 .0, room-one ((c .before .before .before .before .before .before .before .before .before .before .before .before .before .before .before .before .before .before .before .before .before .before .before .pre) .1 .1 .1 .0))) ((w .6) .last .1 .1 .1 .1 .1 .1 .1 .1 .0) ((w .6) .kept .1 .1 .1 .1 .1 .1 .1 .1 .0 ∙ w .3 .kept .0) ∙ (c .before .before .before .before .before .close-arc) .kept .0 ∙ (c .before .before .before .before .before .before .before .before .before .before .before .inner-row) .kept .1 .1 .1 .1 .1 .1 .1 .1 .1 .0) (λ w. ap length (w .1) ∙ (c .before .before .before .before .before .close-arc) .kept .0 ∙ (c .before .before .before .before .before .before .before .before .before .before .before .inner-row) .kept .1 .1 .1 .1 .1 .1 .1 .1 .1 .0) ((c .before .before .if3) .came)), ((c .before .before .before .before .before .before .before .before .before .before .before .before .before .before .before .before .before .before .before .before .before .before .before .pre) .1 .1 .1 .1 .0))))))
+
+inner-row-same-length-2 : (t : ℕ) → inner-row-lts.Need-same-length-2 (
+  heaviest-reads.Asked,
+  heaviest-reads.Learnt,
+  flat-row-reads.Asked,
+  flat-row-reads.Learnt,
+  mate-reads.Asked,
+  mate-reads.Learnt,
+  inner-row-below t,
+  inner-row.Post,
+  close-arc-reads.Asked,
+  close-arc-reads.Learnt,
+  identity-reads.Asked,
+  identity-reads.Learnt,
+  prepend-below t,
+  prepend.Post,
+  combine-into-reads.Asked,
+  combine-into-reads.Learnt,
+) (inner-row-at t) inner-row.Post
+inner-row-same-length-2 t c = (c .before .before .prepend2) .kept .1 .1 .1 .1 .1 .1 .1 .1 .0 ∙ (⊎-elim (λ w. ap length (w .13) ∙ w .10 .kept .0 ∙ back-length (length ((c .before .before .before .before .before .before .before .before .before .before .before .before .before .before .before .before .before .before .before .before .before .before .before .before .before .before .args) .p .now) + 1) ((c .before .before .before .before .before .before .before .before .close-arc) .last .0) (omega (arith, (c .before .before .before .before .before .before .before .before .close-arc) .kept .0, (c .before .before .before .before .before .before .before .before .before .before .before .before .before .before .inner-row) .kept .1 .1 .1 .1 .1 .1 .1 .1 .1 .0, room-one ((c .before .before .before .before .before .before .before .before .before .before .before .before .before .before .before .before .before .before .before .before .before .before .before .before .before .before .pre) .1 .1 .1 .0))) ((w .6) .last .1 .1 .1 .1 .1 .1 .1 .1 .0) ((w .6) .kept .1 .1 .1 .1 .1 .1 .1 .1 .0 ∙ w .3 .kept .0) ∙ (c .before .before .before .before .before .before .before .before .close-arc) .kept .0 ∙ (c .before .before .before .before .before .before .before .before .before .before .before .before .before .before .inner-row) .kept .1 .1 .1 .1 .1 .1 .1 .1 .1 .0) (λ w. ap length (w .1) ∙ (c .before .before .before .before .before .before .before .before .close-arc) .kept .0 ∙ (c .before .before .before .before .before .before .before .before .before .before .before .before .before .before .inner-row) .kept .1 .1 .1 .1 .1 .1 .1 .1 .1 .0) ((c .before .before .before .before .before .if3) .came))
+
+inner-row-returns-3 : (t : ℕ) → inner-row-lts.Need-returns-3 (
+  heaviest-reads.Asked,
+  heaviest-reads.Learnt,
+  flat-row-reads.Asked,
+  flat-row-reads.Learnt,
+  mate-reads.Asked,
+  mate-reads.Learnt,
+  inner-row-below t,
+  inner-row.Post,
+  close-arc-reads.Asked,
+  close-arc-reads.Learnt,
+  identity-reads.Asked,
+  identity-reads.Learnt,
+  prepend-below t,
+  prepend.Post,
+  combine-into-reads.Asked,
+  combine-into-reads.Learnt,
+) (inner-row-at t) inner-row.Post
+inner-row-returns-3 t c = let A = (around (((c .before .before .before .before .before .before .before .before .before .before .before .before .before .before .before .before .before .before .before .before .before .before .before .before .before .before .pre) .1 .0) .molecule) ((c .before .before .before .before .before .before .before .before .before .before .before .before .before .before .before .before .before .before .before .before .before .before .before .before .before .before .pre) .1 .1 .0 .0) ((c .before .before .before .before .before .before .before .before .before .before .before .before .before .before .before .before .before .before .before .before .before .before .before .before .before .before .pre) .1 .1 .0 .1 .0) ((c .before .before .before .before .before .before .before .before .before .before .before .before .before .before .before .before .before .before .before .before .before .before .before .before .before .before .pre) .1 .1 .0 .1 .1) ((c .before .before .before .before .before .before .before .before .before .before .before .before .before .before .before .before .before .before .heaviest) .ensures) ((c .before .before .before .before .before .before .before .before .before .before .before .before .before .before .before .before .before .if2) .left) ((c .before .before .before .before .before .before .before .before .before .before .before .before .before .before .before .before .mate) .ensures)) in prepended-row (A .low) (omega (arith, A .up, A .end)) (A .split-l) (⊎-elim (λ w. row-is (w .13) (right-row (length ((c .before .before .before .before .before .before .before .before .before .before .before .before .before .before .before .before .before .before .before .before .before .before .before .before .before .before .args) .p .now) + 1) ((c .before .before .before .before .before .before .before .before .close-arc) .last .0) ((w .6) .last .1 .1 .1 .1 .1 .1 .1 .1 .0) ((w .10) .last .0) A (omega (arith, (c .before .before .before .before .before .before .before .before .close-arc) .kept .0, (c .before .before .before .before .before .before .before .before .before .before .before .before .before .before .inner-row) .kept .1 .1 .1 .1 .1 .1 .1 .1 .1 .0, room-one ((c .before .before .before .before .before .before .before .before .before .before .before .before .before .before .before .before .before .before .before .before .before .before .before .before .before .before .pre) .1 .1 .1 .0))) (omega (arith, ((c .before .before .before .before .before .before .before .before .before .before .before .before .before .before .before .before .before .before .before .before .before .before .before .before .before .before .pre) .1 .0) .window .ends)) (closed-row _ _ ((c .before .before .before .before .before .before .before .before .before .before .before .before .before .before .before .before .before .before .before .before .before .before .before .before .before .before .pre) .1 .0) (A .up) (A .inside) (A .mate) ((c .before .before .before .before .before .before .before .before .before .before .before .before .before .before .inner-row) .ensures) ((c .before .before .before .before .before .before .before .before .close-arc) .ensures)) (fresh-row (λ j a b. w .3 .ensures .done j a (omega arith)) (w .6 .ensures)) (w .10 .ensures))) (λ w. row-is (w .1) (arc-front _ _ ((c .before .before .before .before .before .before .before .before .before .before .before .before .before .before .before .before .before .before .before .before .before .before .before .before .before .before .args) .r) (omega (arith, A .end, w .0 .left)) ((c .before .before .before .before .before .before .before .before .before .before .before .before .before .before .before .before .before .before .before .before .before .before .before .before .before .before .pre) .1 .0) (A .up) (A .inside) (A .mate) ((c .before .before .before .before .before .before .before .before .before .before .before .before .before .before .inner-row) .ensures) ((c .before .before .before .before .before .before .before .before .close-arc) .ensures))) ((c .before .before .before .before .before .if3) .came)) ((c .before .before .prepend2) .ensures)
 
 inner-row-same-length-3 : (t : ℕ) → inner-row-lts.Need-same-length-3 (
   heaviest-reads.Asked,
   heaviest-reads.Learnt,
-  identity-reads.Asked,
-  identity-reads.Learnt,
-  prepend-below t,
-  prepend.Post,
+  flat-row-reads.Asked,
+  flat-row-reads.Learnt,
   mate-reads.Asked,
   mate-reads.Learnt,
   inner-row-below t,
   inner-row.Post,
   close-arc-reads.Asked,
   close-arc-reads.Learnt,
+  identity-reads.Asked,
+  identity-reads.Learnt,
+  prepend-below t,
+  prepend.Post,
   combine-into-reads.Asked,
   combine-into-reads.Learnt,
 ) (inner-row-at t) inner-row.Post
-inner-row-same-length-3 t c = (c .before .before .prepend4) .kept .1 .1 .1 .1 .1 .1 .1 .1 .0 ∙ omega (arith, (c .before .before .before .before .before .before .combine-into) .kept .0, (c .before .before .before .before .before .before .before .before .before .before .before .before .before .before .before .before .before .before .before .close-arc) .kept .0, (c .before .before .before .before .before .before .before .before .before .before .before .before .before .before .before .before .before .before .before .before .before .before .before .before .before .inner-row) .kept .1 .1 .1 .1 .1 .1 .1 .1 .1 .0, room-one ((c .before .before .before .before .before .before .before .before .before .before .before .before .before .before .before .before .before .before .before .before .before .before .before .before .before .before .before .before .before .before .before .before .before .before .before .before .before .pre) .1 .1 .1 .0), back-length (length ((c .before .before .before .before .before .before .before .before .before .before .before .before .before .before .before .before .before .before .before .before .before .before .before .before .before .before .before .before .before .before .before .before .before .before .before .before .before .args) .p .now) + 1) ((c .before .before .before .before .before .before .before .before .before .before .before .before .before .before .before .before .before .before .before .close-arc) .last .0) (omega (arith, (c .before .before .before .before .before .before .before .before .before .before .before .before .before .before .before .before .before .before .before .close-arc) .kept .0, (c .before .before .before .before .before .before .before .before .before .before .before .before .before .before .before .before .before .before .before .before .before .before .before .before .before .inner-row) .kept .1 .1 .1 .1 .1 .1 .1 .1 .1 .0, room-one ((c .before .before .before .before .before .before .before .before .before .before .before .before .before .before .before .before .before .before .before .before .before .before .before .before .before .before .before .before .before .before .before .before .before .before .before .before .before .pre) .1 .1 .1 .0))) ((c .before .before .before .before .before .before .before .before .before .before .prepend3) .last .1 .1 .1 .1 .1 .1 .1 .1 .0) ((c .before .before .before .before .before .before .before .before .before .before .prepend3) .kept .1 .1 .1 .1 .1 .1 .1 .1 .0 ∙ (c .before .before .before .before .before .before .before .before .before .before .before .before .before .identity2) .kept .0))
+inner-row-same-length-3 t c = (⊎-elim (λ w. ap length (w .13) ∙ w .10 .kept .0 ∙ back-length (length ((c .before .before .before .before .before .before .before .before .before .before .before .before .before .before .before .before .before .before .before .before .before .before .args) .p .now) + 1) ((c .before .before .before .before .close-arc) .last .0) (omega (arith, (c .before .before .before .before .close-arc) .kept .0, (c .before .before .before .before .before .before .before .before .before .before .inner-row) .kept .1 .1 .1 .1 .1 .1 .1 .1 .1 .0, room-one ((c .before .before .before .before .before .before .before .before .before .before .before .before .before .before .before .before .before .before .before .before .before .before .pre) .1 .1 .1 .0))) ((w .6) .last .1 .1 .1 .1 .1 .1 .1 .1 .0) ((w .6) .kept .1 .1 .1 .1 .1 .1 .1 .1 .0 ∙ w .3 .kept .0) ∙ (c .before .before .before .before .close-arc) .kept .0 ∙ (c .before .before .before .before .before .before .before .before .before .before .inner-row) .kept .1 .1 .1 .1 .1 .1 .1 .1 .1 .0) (λ w. ap length (w .1) ∙ (c .before .before .before .before .close-arc) .kept .0 ∙ (c .before .before .before .before .before .before .before .before .before .before .inner-row) .kept .1 .1 .1 .1 .1 .1 .1 .1 .1 .0) ((c .before .if3) .came))
 
 inner-row-returns-4 : (t : ℕ) → inner-row-lts.Need-returns-4 (
   heaviest-reads.Asked,
   heaviest-reads.Learnt,
-  identity-reads.Asked,
-  identity-reads.Learnt,
-  prepend-below t,
-  prepend.Post,
+  flat-row-reads.Asked,
+  flat-row-reads.Learnt,
   mate-reads.Asked,
   mate-reads.Learnt,
   inner-row-below t,
   inner-row.Post,
   close-arc-reads.Asked,
   close-arc-reads.Learnt,
+  identity-reads.Asked,
+  identity-reads.Learnt,
+  prepend-below t,
+  prepend.Post,
   combine-into-reads.Asked,
   combine-into-reads.Learnt,
 ) (inner-row-at t) inner-row.Post
-inner-row-returns-4 t c = prepended-row ((around (((c .before .before .before .before .before .before .before .before .before .before .before .before .before .before .before .before .before .before .before .before .before .before .before .before .before .before .before .before .before .before .before .before .before .before .before .before .before .pre) .1 .0) .molecule) ((c .before .before .before .before .before .before .before .before .before .before .before .before .before .before .before .before .before .before .before .before .before .before .before .before .before .before .before .before .before .before .before .before .before .before .before .before .before .pre) .1 .1 .0 .0) ((c .before .before .before .before .before .before .before .before .before .before .before .before .before .before .before .before .before .before .before .before .before .before .before .before .before .before .before .before .before .before .before .before .before .before .before .before .before .pre) .1 .1 .0 .1 .0) ((c .before .before .before .before .before .before .before .before .before .before .before .before .before .before .before .before .before .before .before .before .before .before .before .before .before .before .before .before .before .before .before .before .before .before .before .before .before .pre) .1 .1 .0 .1 .1) ((c .before .before .before .before .before .before .before .before .before .before .before .before .before .before .before .before .before .before .before .before .before .before .before .before .before .before .before .before .before .heaviest) .ensures) ((c .before .before .before .before .before .before .before .before .before .before .before .before .before .before .before .before .before .before .before .before .before .before .before .before .before .before .before .before .if2) .left) ((c .before .before .before .before .before .before .before .before .before .before .before .before .before .before .before .before .before .before .before .before .before .before .before .before .before .before .before .mate) .ensures)) .low) (omega (arith, (around (((c .before .before .before .before .before .before .before .before .before .before .before .before .before .before .before .before .before .before .before .before .before .before .before .before .before .before .before .before .before .before .before .before .before .before .before .before .before .pre) .1 .0) .molecule) ((c .before .before .before .before .before .before .before .before .before .before .before .before .before .before .before .before .before .before .before .before .before .before .before .before .before .before .before .before .before .before .before .before .before .before .before .before .before .pre) .1 .1 .0 .0) ((c .before .before .before .before .before .before .before .before .before .before .before .before .before .before .before .before .before .before .before .before .before .before .before .before .before .before .before .before .before .before .before .before .before .before .before .before .before .pre) .1 .1 .0 .1 .0) ((c .before .before .before .before .before .before .before .before .before .before .before .before .before .before .before .before .before .before .before .before .before .before .before .before .before .before .before .before .before .before .before .before .before .before .before .before .before .pre) .1 .1 .0 .1 .1) ((c .before .before .before .before .before .before .before .before .before .before .before .before .before .before .before .before .before .before .before .before .before .before .before .before .before .before .before .before .before .heaviest) .ensures) ((c .before .before .before .before .before .before .before .before .before .before .before .before .before .before .before .before .before .before .before .before .before .before .before .before .before .before .before .before .if2) .left) ((c .before .before .before .before .before .before .before .before .before .before .before .before .before .before .before .before .before .before .before .before .before .before .before .before .before .before .before .mate) .ensures)) .up, (around (((c .before .before .before .before .before .before .before .before .before .before .before .before .before .before .before .before .before .before .before .before .before .before .before .before .before .before .before .before .before .before .before .before .before .before .before .before .before .pre) .1 .0) .molecule) ((c .before .before .before .before .before .before .before .before .before .before .before .before .before .before .before .before .before .before .before .before .before .before .before .before .before .before .before .before .before .before .before .before .before .before .before .before .before .pre) .1 .1 .0 .0) ((c .before .before .before .before .before .before .before .before .before .before .before .before .before .before .before .before .before .before .before .before .before .before .before .before .before .before .before .before .before .before .before .before .before .before .before .before .before .pre) .1 .1 .0 .1 .0) ((c .before .before .before .before .before .before .before .before .before .before .before .before .before .before .before .before .before .before .before .before .before .before .before .before .before .before .before .before .before .before .before .before .before .before .before .before .before .pre) .1 .1 .0 .1 .1) ((c .before .before .before .before .before .before .before .before .before .before .before .before .before .before .before .before .before .before .before .before .before .before .before .before .before .before .before .before .before .heaviest) .ensures) ((c .before .before .before .before .before .before .before .before .before .before .before .before .before .before .before .before .before .before .before .before .before .before .before .before .before .before .before .before .if2) .left) ((c .before .before .before .before .before .before .before .before .before .before .before .before .before .before .before .before .before .before .before .before .before .before .before .before .before .before .before .mate) .ensures)) .end)) ((around (((c .before .before .before .before .before .before .before .before .before .before .before .before .before .before .before .before .before .before .before .before .before .before .before .before .before .before .before .before .before .before .before .before .before .before .before .before .before .pre) .1 .0) .molecule) ((c .before .before .before .before .before .before .before .before .before .before .before .before .before .before .before .before .before .before .before .before .before .before .before .before .before .before .before .before .before .before .before .before .before .before .before .before .before .pre) .1 .1 .0 .0) ((c .before .before .before .before .before .before .before .before .before .before .before .before .before .before .before .before .before .before .before .before .before .before .before .before .before .before .before .before .before .before .before .before .before .before .before .before .before .pre) .1 .1 .0 .1 .0) ((c .before .before .before .before .before .before .before .before .before .before .before .before .before .before .before .before .before .before .before .before .before .before .before .before .before .before .before .before .before .before .before .before .before .before .before .before .before .pre) .1 .1 .0 .1 .1) ((c .before .before .before .before .before .before .before .before .before .before .before .before .before .before .before .before .before .before .before .before .before .before .before .before .before .before .before .before .before .heaviest) .ensures) ((c .before .before .before .before .before .before .before .before .before .before .before .before .before .before .before .before .before .before .before .before .before .before .before .before .before .before .before .before .if2) .left) ((c .before .before .before .before .before .before .before .before .before .before .before .before .before .before .before .before .before .before .before .before .before .before .before .before .before .before .before .mate) .ensures)) .split-l) (combine-row (omega (arith, (around (((c .before .before .before .before .before .before .before .before .before .before .before .before .before .before .before .before .before .before .before .before .before .before .before .before .before .before .before .before .before .before .before .before .before .before .before .before .before .pre) .1 .0) .molecule) ((c .before .before .before .before .before .before .before .before .before .before .before .before .before .before .before .before .before .before .before .before .before .before .before .before .before .before .before .before .before .before .before .before .before .before .before .before .before .pre) .1 .1 .0 .0) ((c .before .before .before .before .before .before .before .before .before .before .before .before .before .before .before .before .before .before .before .before .before .before .before .before .before .before .before .before .before .before .before .before .before .before .before .before .before .pre) .1 .1 .0 .1 .0) ((c .before .before .before .before .before .before .before .before .before .before .before .before .before .before .before .before .before .before .before .before .before .before .before .before .before .before .before .before .before .before .before .before .before .before .before .before .before .pre) .1 .1 .0 .1 .1) ((c .before .before .before .before .before .before .before .before .before .before .before .before .before .before .before .before .before .before .before .before .before .before .before .before .before .before .before .before .before .heaviest) .ensures) ((c .before .before .before .before .before .before .before .before .before .before .before .before .before .before .before .before .before .before .before .before .before .before .before .before .before .before .before .before .if2) .left) ((c .before .before .before .before .before .before .before .before .before .before .before .before .before .before .before .before .before .before .before .before .before .before .before .before .before .before .before .mate) .ensures)) .up)) (omega (arith, (around (((c .before .before .before .before .before .before .before .before .before .before .before .before .before .before .before .before .before .before .before .before .before .before .before .before .before .before .before .before .before .before .before .before .before .before .before .before .before .pre) .1 .0) .molecule) ((c .before .before .before .before .before .before .before .before .before .before .before .before .before .before .before .before .before .before .before .before .before .before .before .before .before .before .before .before .before .before .before .before .before .before .before .before .before .pre) .1 .1 .0 .0) ((c .before .before .before .before .before .before .before .before .before .before .before .before .before .before .before .before .before .before .before .before .before .before .before .before .before .before .before .before .before .before .before .before .before .before .before .before .before .pre) .1 .1 .0 .1 .0) ((c .before .before .before .before .before .before .before .before .before .before .before .before .before .before .before .before .before .before .before .before .before .before .before .before .before .before .before .before .before .before .before .before .before .before .before .before .before .pre) .1 .1 .0 .1 .1) ((c .before .before .before .before .before .before .before .before .before .before .before .before .before .before .before .before .before .before .before .before .before .before .before .before .before .before .before .before .before .heaviest) .ensures) ((c .before .before .before .before .before .before .before .before .before .before .before .before .before .before .before .before .before .before .before .before .before .before .before .before .before .before .before .before .if2) .left) ((c .before .before .before .before .before .before .before .before .before .before .before .before .before .before .before .before .before .before .before .before .before .before .before .before .before .before .before .mate) .ensures)) .end)) ((around (((c .before .before .before .before .before .before .before .before .before .before .before .before .before .before .before .before .before .before .before .before .before .before .before .before .before .before .before .before .before .before .before .before .before .before .before .before .before .pre) .1 .0) .molecule) ((c .before .before .before .before .before .before .before .before .before .before .before .before .before .before .before .before .before .before .before .before .before .before .before .before .before .before .before .before .before .before .before .before .before .before .before .before .before .pre) .1 .1 .0 .0) ((c .before .before .before .before .before .before .before .before .before .before .before .before .before .before .before .before .before .before .before .before .before .before .before .before .before .before .before .before .before .before .before .before .before .before .before .before .before .pre) .1 .1 .0 .1 .0) ((c .before .before .before .before .before .before .before .before .before .before .before .before .before .before .before .before .before .before .before .before .before .before .before .before .before .before .before .before .before .before .before .before .before .before .before .before .before .pre) .1 .1 .0 .1 .1) ((c .before .before .before .before .before .before .before .before .before .before .before .before .before .before .before .before .before .before .before .before .before .before .before .before .before .before .before .before .before .heaviest) .ensures) ((c .before .before .before .before .before .before .before .before .before .before .before .before .before .before .before .before .before .before .before .before .before .before .before .before .before .before .before .before .if2) .left) ((c .before .before .before .before .before .before .before .before .before .before .before .before .before .before .before .before .before .before .before .before .before .before .before .before .before .before .before .mate) .ensures)) .split-r) (closed-row _ _ ((c .before .before .before .before .before .before .before .before .before .before .before .before .before .before .before .before .before .before .before .before .before .before .before .before .before .before .before .before .before .before .before .before .before .before .before .before .before .pre) .1 .0) ((around (((c .before .before .before .before .before .before .before .before .before .before .before .before .before .before .before .before .before .before .before .before .before .before .before .before .before .before .before .before .before .before .before .before .before .before .before .before .before .pre) .1 .0) .molecule) ((c .before .before .before .before .before .before .before .before .before .before .before .before .before .before .before .before .before .before .before .before .before .before .before .before .before .before .before .before .before .before .before .before .before .before .before .before .before .pre) .1 .1 .0 .0) ((c .before .before .before .before .before .before .before .before .before .before .before .before .before .before .before .before .before .before .before .before .before .before .before .before .before .before .before .before .before .before .before .before .before .before .before .before .before .pre) .1 .1 .0 .1 .0) ((c .before .before .before .before .before .before .before .before .before .before .before .before .before .before .before .before .before .before .before .before .before .before .before .before .before .before .before .before .before .before .before .before .before .before .before .before .before .pre) .1 .1 .0 .1 .1) ((c .before .before .before .before .before .before .before .before .before .before .before .before .before .before .before .before .before .before .before .before .before .before .before .before .before .before .before .before .before .heaviest) .ensures) ((c .before .before .before .before .before .before .before .before .before .before .before .before .before .before .before .before .before .before .before .before .before .before .before .before .before .before .before .before .if2) .left) ((c .before .before .before .before .before .before .before .before .before .before .before .before .before .before .before .before .before .before .before .before .before .before .before .before .before .before .before .mate) .ensures)) .up) ((around (((c .before .before .before .before .before .before .before .before .before .before .before .before .before .before .before .before .before .before .before .before .before .before .before .before .before .before .before .before .before .before .before .before .before .before .before .before .before .pre) .1 .0) .molecule) ((c .before .before .before .before .before .before .before .before .before .before .before .before .before .before .before .before .before .before .before .before .before .before .before .before .before .before .before .before .before .before .before .before .before .before .before .before .before .pre) .1 .1 .0 .0) ((c .before .before .before .before .before .before .before .before .before .before .before .before .before .before .before .before .before .before .before .before .before .before .before .before .before .before .before .before .before .before .before .before .before .before .before .before .before .pre) .1 .1 .0 .1 .0) ((c .before .before .before .before .before .before .before .before .before .before .before .before .before .before .before .before .before .before .before .before .before .before .before .before .before .before .before .before .before .before .before .before .before .before .before .before .before .pre) .1 .1 .0 .1 .1) ((c .before .before .before .before .before .before .before .before .before .before .before .before .before .before .before .before .before .before .before .before .before .before .before .before .before .before .before .before .before .heaviest) .ensures) ((c .before .before .before .before .before .before .before .before .before .before .before .before .before .before .before .before .before .before .before .before .before .before .before .before .before .before .before .before .if2) .left) ((c .before .before .before .before .before .before .before .before .before .before .before .before .before .before .before .before .before .before .before .before .before .before .before .before .before .before .before .mate) .ensures)) .inside) ((around (((c .before .before .before .before .before .before .before .before .before .before .before .before .before .before .before .before .before .before .before .before .before .before .before .before .before .before .before .before .before .before .before .before .before .before .before .before .before .pre) .1 .0) .molecule) ((c .before .before .before .before .before .before .before .before .before .before .before .before .before .before .before .before .before .before .before .before .before .before .before .before .before .before .before .before .before .before .before .before .before .before .before .before .before .pre) .1 .1 .0 .0) ((c .before .before .before .before .before .before .before .before .before .before .before .before .before .before .before .before .before .before .before .before .before .before .before .before .before .before .before .before .before .before .before .before .before .before .before .before .before .pre) .1 .1 .0 .1 .0) ((c .before .before .before .before .before .before .before .before .before .before .before .before .before .before .before .before .before .before .before .before .before .before .before .before .before .before .before .before .before .before .before .before .before .before .before .before .before .pre) .1 .1 .0 .1 .1) ((c .before .before .before .before .before .before .before .before .before .before .before .before .before .before .before .before .before .before .before .before .before .before .before .before .before .before .before .before .before .heaviest) .ensures) ((c .before .before .before .before .before .before .before .before .before .before .before .before .before .before .before .before .before .before .before .before .before .before .before .before .before .before .before .before .if2) .left) ((c .before .before .before .before .before .before .before .before .before .before .before .before .before .before .before .before .before .before .before .before .before .before .before .before .before .before .before .mate) .ensures)) .mate) ((c .before .before .before .before .before .before .before .before .before .before .before .before .before .before .before .before .before .before .before .before .before .before .before .before .before .inner-row) .ensures) ((c .before .before .before .before .before .before .before .before .before .before .before .before .before .before .before .before .before .before .before .close-arc) .ensures)) (fresh-row (λ j a b. (c .before .before .before .before .before .before .before .before .before .before .before .before .before .identity2) .ensures .done j a (omega arith)) ((c .before .before .before .before .before .before .before .before .before .before .prepend3) .ensures)) (looked-into ((c .before .before .before .before .before .before .before .before .before .before .before .before .before .before .before .before .before .before .before .before .before .before .before .before .before .before .before .before .before .before .before .before .before .before .before .before .before .args) .from) ((c .before .before .before .before .before .before .before .before .before .before .before .before .before .before .before .before .before .before .before .before .before .before .before .before .before .before .before .before .before .before .before .before .before .before .before .before .before .args) .to) (length ((c .before .before .before .before .before .before .before .before .before .before .before .before .before .before .before .before .before .before .before .before .before .before .before .before .before .before .before .before .before .before .before .before .before .before .before .before .before .args) .p .now) + 1) ((c .before .before .before .before .before .before .before .before .before .before .before .before .before .before .before .before .before .before .before .close-arc) .last .0) ((c .before .before .before .before .before .before .before .before .before .before .prepend3) .last .1 .1 .1 .1 .1 .1 .1 .1 .0) ((c .before .before .before .before .before .before .combine-into) .last .0) (omega (arith, (c .before .before .before .before .before .before .before .before .before .before .before .before .before .before .before .before .before .before .before .close-arc) .kept .0, (c .before .before .before .before .before .before .before .before .before .before .before .before .before .before .before .before .before .before .before .before .before .before .before .before .before .inner-row) .kept .1 .1 .1 .1 .1 .1 .1 .1 .1 .0, room-one ((c .before .before .before .before .before .before .before .before .before .before .before .before .before .before .before .before .before .before .before .before .before .before .before .before .before .before .before .before .before .before .before .before .before .before .before .before .before .pre) .1 .1 .1 .0))) (omega (arith, ((c .before .before .before .before .before .before .before .before .before .before .before .before .before .before .before .before .before .before .before .before .before .before .before .before .before .before .before .before .before .before .before .before .before .before .before .before .before .pre) .1 .0) .window .ends)) ((c .before .before .before .before .before .before .combine-into) .ensures))) ((c .before .before .prepend4) .ensures)
+inner-row-returns-4 t c = let A = (around (((c .before .before .before .before .before .before .before .before .before .before .before .before .before .before .before .before .before .before .before .before .before .before .pre) .1 .0) .molecule) ((c .before .before .before .before .before .before .before .before .before .before .before .before .before .before .before .before .before .before .before .before .before .before .pre) .1 .1 .0 .0) ((c .before .before .before .before .before .before .before .before .before .before .before .before .before .before .before .before .before .before .before .before .before .before .pre) .1 .1 .0 .1 .0) ((c .before .before .before .before .before .before .before .before .before .before .before .before .before .before .before .before .before .before .before .before .before .before .pre) .1 .1 .0 .1 .1) ((c .before .before .before .before .before .before .before .before .before .before .before .before .before .before .heaviest) .ensures) ((c .before .before .before .before .before .before .before .before .before .before .before .before .before .if2) .left) ((c .before .before .before .before .before .before .before .before .before .before .before .before .mate) .ensures)) in row-at (omega (arith, A .low, (c .if4) .left)) (⊎-elim (λ w. row-is (w .13) (right-row (length ((c .before .before .before .before .before .before .before .before .before .before .before .before .before .before .before .before .before .before .before .before .before .before .args) .p .now) + 1) ((c .before .before .before .before .close-arc) .last .0) ((w .6) .last .1 .1 .1 .1 .1 .1 .1 .1 .0) ((w .10) .last .0) A (omega (arith, (c .before .before .before .before .close-arc) .kept .0, (c .before .before .before .before .before .before .before .before .before .before .inner-row) .kept .1 .1 .1 .1 .1 .1 .1 .1 .1 .0, room-one ((c .before .before .before .before .before .before .before .before .before .before .before .before .before .before .before .before .before .before .before .before .before .before .pre) .1 .1 .1 .0))) (omega (arith, ((c .before .before .before .before .before .before .before .before .before .before .before .before .before .before .before .before .before .before .before .before .before .before .pre) .1 .0) .window .ends)) (closed-row _ _ ((c .before .before .before .before .before .before .before .before .before .before .before .before .before .before .before .before .before .before .before .before .before .before .pre) .1 .0) (A .up) (A .inside) (A .mate) ((c .before .before .before .before .before .before .before .before .before .before .inner-row) .ensures) ((c .before .before .before .before .close-arc) .ensures)) (fresh-row (λ j a b. w .3 .ensures .done j a (omega arith)) (w .6 .ensures)) (w .10 .ensures))) (λ w. row-is (w .1) (arc-front _ _ ((c .before .before .before .before .before .before .before .before .before .before .before .before .before .before .before .before .before .before .before .before .before .before .args) .r) (omega (arith, A .end, w .0 .left)) ((c .before .before .before .before .before .before .before .before .before .before .before .before .before .before .before .before .before .before .before .before .before .before .pre) .1 .0) (A .up) (A .inside) (A .mate) ((c .before .before .before .before .before .before .before .before .before .before .inner-row) .ensures) ((c .before .before .before .before .close-arc) .ensures))) ((c .before .if3) .came))
 
 abbrev prepend-Inv-loop : prepend-lts.InvT-loop
-prepend-Inv-loop p pm from to q qm lo hi work₀ partner w i₀ work i = (lo ≤ i) × (i ≤ hi) × Sealed qm lo i × Prepended p pm q qm from to i hi work₀ work × (length work ≡ length work₀)
+prepend-Inv-loop p pm from to q qm lo hi work₀ tables w i₀ work i = (lo ≤ i) × (i ≤ hi) × Sealed qm lo i × Prepended p pm q qm from to i hi work₀ work × (length work ≡ length work₀)
 
 abbrev prepend-μ-loop : prepend-lts.MeasureT-loop
-prepend-μ-loop p pm from to q qm lo hi work₀ partner w i₀ work i = i - lo
+prepend-μ-loop p pm from to q qm lo hi work₀ tables w i₀ work i = i - lo
 
 prepend-add-w : (t : ℕ) → prepend-lts.Need-add-w (
   mate-reads.Asked,
@@ -693,7 +717,7 @@ prepend-extend-requires : (t : ℕ) → prepend-lts.Need-extend-requires (
   combine-reads.Asked,
   combine-reads.Learnt,
 ) (prepend-at t) prepend.Post prepend-Inv-loop prepend-μ-loop
-prepend-extend-requires t c κs = (((c .before .before .before .before .before .before .before .before .before .before .before .before .pre) .1 .0) .window, omega (arith, ((c .before .before .before .before .before .before .before .before .before .before .before .before .pre) .1 .0) .window .ends, light-one ((c .before .before .before .before .before .before .before .before .before .before .before .before .pre) .1 .1 .1 .1 .0), ((c .before .before .before .before .before .loop) .inv .4)))
+prepend-extend-requires t c κs = (((c .before .before .before .before .before .before .before .before .before .before .before .before .pre) .1 .0) .window, (((c .before .before .before .before .before .before .before .before .before .before .before .before .pre) .1 .1 .1 .1 .1), (letter-at ((c .before .before .before .before .before .before .before .before .before .before .before .before .pre) .1 .0) _ (omega (arith, (c .before .before .before .before .before .loop) .inv .1, (c .before .before .before .before .before .before .before .before .before .before .before .before .pre) .1 .1 .0, (c .before .before .before .before .loop-test) .taken)), omega (arith, ((c .before .before .before .before .before .before .before .before .before .before .before .before .pre) .1 .0) .window .ends, light-one ((c .before .before .before .before .before .before .before .before .before .before .before .before .pre) .1 .1 .1 .1 .0), ((c .before .before .before .before .before .loop) .inv .4)))))
 
 prepend-mul-part : (t : ℕ) → prepend-lts.Need-mul-part (
   mate-reads.Asked,
@@ -805,7 +829,7 @@ prepend-close-arc-requires : (t : ℕ) → prepend-lts.Need-close-arc-requires (
   combine-reads.Asked,
   combine-reads.Learnt,
 ) (prepend-at t) prepend.Post prepend-Inv-loop prepend-μ-loop
-prepend-close-arc-requires t c κs = (((c .before .before .before .before .before .before .before .before .before .before .before .before .before .before .before .before .before .pre) .1 .0) .window, (((c .before .before .before .before .before .before .before .before .before .before .before .before .before .before .before .before .before .pre) .1 .1 .1 .1 .1), (let B = (back-of (((c .before .before .before .before .before .before .before .before .before .before .before .before .before .before .before .before .before .pre) .1 .0) .molecule) ((c .before .before .before .before .before .before .before .before .before .before .loop) .inv .2) (omega (arith, (c .before .before .before .before .before .before .before .before .before .before .loop) .inv .1, (c .before .before .before .before .before .before .before .before .before .before .before .before .before .before .before .before .before .pre) .1 .1 .0)) ((c .before .before .before .before .before .before .before .before .before .loop-test) .taken) (omega (arith, (c .before .before .before .before .before .before .before .before .before .loop-test) .taken)) ((c .before .before .before .before .before .before .before .before .mate) .ensures)) in let ck : (c .before .before .before .before .before .before .before .before .mate) .result < (c .before .before .before .before .before .before .before .before .before .before .loop) .i - 1 = omega (arith, B .high, (c .before .before .before .before .before .before .before .if1) .left) in omega (arith, (c .before .before .before .before .inner-row) .kept .1 .1 .1 .1 .1 .1 .1 .1 .1 .0, part-length (length ((c .before .before .before .before .before .before .before .before .before .before .before .before .before .before .before .before .before .args) .p .now) + 1) ((c .before .before .before .before .before .before .before .before .before .before .loop) .work) (omega (arith, light-one ((c .before .before .before .before .before .before .before .before .before .before .before .before .before .before .before .before .before .pre) .1 .1 .1 .1 .0), ((c .before .before .before .before .before .before .before .before .before .before .loop) .inv .4))), ((c .before .before .before .before .before .before .before .before .before .before .loop) .inv .4), ((c .before .before .before .before .before .before .before .before .before .before .before .before .before .before .before .before .before .pre) .1 .0) .window .ends, room-one (room-child ((c .before .before .before .before .before .before .before .before .before .before .before .before .before .before .before .before .before .pre) .1 .1 .1 .1 .0) ((c .before .before .before .before .before .before .before .before .mate) .result) (B .low) (omega (arith, ck, (c .before .before .before .before .before .before .before .before .before .before .loop) .inv .1)) (omega (arith, ck, B .back)))), row-from ((c .before .before .before .before .inner-row) .ensures))))
+prepend-close-arc-requires t c κs = (((c .before .before .before .before .before .before .before .before .before .before .before .before .before .before .before .before .before .pre) .1 .0) .window, (((c .before .before .before .before .before .before .before .before .before .before .before .before .before .before .before .before .before .pre) .1 .1 .1 .1 .1), (letter-at ((c .before .before .before .before .before .before .before .before .before .before .before .before .before .before .before .before .before .pre) .1 .0) _ (omega (arith, (c .before .before .before .before .before .before .before .before .before .before .loop) .inv .1, (c .before .before .before .before .before .before .before .before .before .before .before .before .before .before .before .before .before .pre) .1 .1 .0, (c .before .before .before .before .before .before .before .before .before .loop-test) .taken)), (let B = (back-of (((c .before .before .before .before .before .before .before .before .before .before .before .before .before .before .before .before .before .pre) .1 .0) .molecule) ((c .before .before .before .before .before .before .before .before .before .before .loop) .inv .2) (omega (arith, (c .before .before .before .before .before .before .before .before .before .before .loop) .inv .1, (c .before .before .before .before .before .before .before .before .before .before .before .before .before .before .before .before .before .pre) .1 .1 .0)) ((c .before .before .before .before .before .before .before .before .before .loop-test) .taken) (omega (arith, (c .before .before .before .before .before .before .before .before .before .loop-test) .taken)) ((c .before .before .before .before .before .before .before .before .mate) .ensures)) in let ck : (c .before .before .before .before .before .before .before .before .mate) .result < (c .before .before .before .before .before .before .before .before .before .before .loop) .i - 1 = omega (arith, B .high, (c .before .before .before .before .before .before .before .if1) .left) in omega (arith, (c .before .before .before .before .inner-row) .kept .1 .1 .1 .1 .1 .1 .1 .1 .1 .0, part-length (length ((c .before .before .before .before .before .before .before .before .before .before .before .before .before .before .before .before .before .args) .p .now) + 1) ((c .before .before .before .before .before .before .before .before .before .before .loop) .work) (omega (arith, light-one ((c .before .before .before .before .before .before .before .before .before .before .before .before .before .before .before .before .before .pre) .1 .1 .1 .1 .0), ((c .before .before .before .before .before .before .before .before .before .before .loop) .inv .4))), ((c .before .before .before .before .before .before .before .before .before .before .loop) .inv .4), ((c .before .before .before .before .before .before .before .before .before .before .before .before .before .before .before .before .before .pre) .1 .0) .window .ends, room-one (room-child ((c .before .before .before .before .before .before .before .before .before .before .before .before .before .before .before .before .before .pre) .1 .1 .1 .1 .0) ((c .before .before .before .before .before .before .before .before .mate) .result) (B .low) (omega (arith, ck, (c .before .before .before .before .before .before .before .before .before .before .loop) .inv .1)) (omega (arith, ck, B .back)))), row-from ((c .before .before .before .before .inner-row) .ensures)))))
 
 prepend-combine-requires : (t : ℕ) → prepend-lts.Need-combine-requires (
   mate-reads.Asked,
@@ -909,16 +933,18 @@ pub +inner-row+prepend-spec : {M : Type 1} → statement M
 +inner-row+prepend-spec = close μ-inner-row μ-prepend (λ t. inner-row-lts.spec (
   heaviest-reads.Asked,
   heaviest-reads.Learnt,
-  identity-reads.Asked,
-  identity-reads.Learnt,
-  prepend-below t,
-  prepend.Post,
+  flat-row-reads.Asked,
+  flat-row-reads.Learnt,
   mate-reads.Asked,
   mate-reads.Learnt,
   inner-row-below t,
   inner-row.Post,
   close-arc-reads.Asked,
   close-arc-reads.Learnt,
+  identity-reads.Asked,
+  identity-reads.Learnt,
+  prepend-below t,
+  prepend.Post,
   combine-into-reads.Asked,
   combine-into-reads.Learnt,
 )
@@ -928,9 +954,8 @@ pub +inner-row+prepend-spec : {M : Type 1} → statement M
     (inner-row-add-w t)
     (inner-row-add-heaviest t)
     (inner-row-heaviest-requires t)
-    (inner-row-identity-requires t)
-    (inner-row-add-prepend t)
-    (inner-row-prepend-requires t)
+    (inner-row-add-flat-row t)
+    (inner-row-flat-row-requires t)
     (inner-row-same-length t)
     (inner-row-returns-2 t)
     (inner-row-mate-requires t)
@@ -939,20 +964,19 @@ pub +inner-row+prepend-spec : {M : Type 1} → statement M
     (inner-row-shared-slice-read-close-arc-2 t)
     (inner-row-close-arc-requires t)
     (inner-row-add-if3 t)
-    (inner-row-add-prepend-2 t)
-    (inner-row-prepend-requires-2 t)
-    (inner-row-same-length-2 t)
-    (inner-row-returns-3 t)
     (inner-row-mul-part t)
     (inner-row-sub-part t)
     (inner-row-part-part-start t)
     (inner-row-part-part-end t)
-    (inner-row-identity-requires-2 t)
-    (inner-row-add-prepend-3 t)
-    (inner-row-prepend-requires-3 t)
+    (inner-row-identity-requires t)
+    (inner-row-add-prepend t)
+    (inner-row-prepend-requires t)
     (inner-row-combine-into-requires t)
-    (inner-row-add-prepend-4 t)
-    (inner-row-prepend-requires-4 t)
+    (inner-row-add-if4 t)
+    (inner-row-add-prepend-2 t)
+    (inner-row-prepend-requires-2 t)
+    (inner-row-same-length-2 t)
+    (inner-row-returns-3 t)
     (inner-row-same-length-3 t)
     (inner-row-returns-4 t))
     λ t. prepend-lts.spec (

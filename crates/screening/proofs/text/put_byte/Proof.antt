@@ -1,6 +1,5 @@
 -- `screening::text::put_byte` meets its contract.
 use borrow.Author.Needs.{needs}
-use Prim.Native.Nat.{_-_}
 use Rattle.screening.proofs.TextLaws as law
 use Rattle.screening.proofs.text.put_byte.Statement.{statement}
 use Rattle.screening.proofs.text.put_byte.Tie as tie

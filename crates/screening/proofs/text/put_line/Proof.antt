@@ -1,5 +1,4 @@
 -- `screening::text::put_line` meets its contract.
-use Prim.Native.Nat.{_-_}
 use native.Mathlib.Omega.{arith}
 use mathlib.Core.Path.{_∙_}
 use Rattle.screening.specs.Text.{digits, line}

@@ -1,5 +1,4 @@
 -- `strand::letters::is_letter` meets its contract.
-use Prim.Native.Nat.{_-_}
 use borrow.Author.Tests.{eq-eqb, ne-eqb}
 use Rattle.strand.specs.Strands.{isLetter}
 use Rattle.strand.proofs.letters.is_letter.Statement.{statement}

@@ -24,10 +24,10 @@ sub-i : tie.Need-sub-i Inv-loop μ-loop
 sub-i c = omega arith
 
 closes-requires : tie.Need-closes-requires Inv-loop μ-loop
-closes-requires c κs = (c .before .before .before .pre, (omega arith, λ k a b. c .before .loop .inv .1 k (omega arith) b))
+closes-requires c κs = (c .before .before .before .pre .0, (c .before .before .before .pre .1, (omega arith, λ k a b. c .before .loop .inv .1 k (omega arith) b)))
 
 returns : tie.Need-returns Inv-loop μ-loop
-returns c = ap not (sym (crossed-some (c .before .before .before .before .before .args .mates .now) (c .before .before .before .before .before .pre) (c .before .before .before .loop .i - 1) (omega arith) (c .before .closes .ensures .no (true-not _ (c .if1 .taken)))))
+returns c = ap not (sym (crossed-some (c .before .before .before .before .before .args .mates .now) (c .before .before .before .before .before .pre .0) (c .before .before .before .before .before .pre .1) (c .before .before .before .loop .i - 1) (omega arith) (c .before .closes .ensures .no (true-not _ (c .if1 .taken)))))
 
 loop-less : tie.Need-loop-less Inv-loop μ-loop
 loop-less c = omega arith
@@ -36,7 +36,7 @@ loop-again : tie.Need-loop-again Inv-loop μ-loop
 loop-again c = (omega arith, closes-more _ _ _ (c .before .before .loop-test .taken) (c .before .closes .ensures .yes (not-not _ (c .if1 .left))) (c .before .before .before .loop .inv .1))
 
 returns-2 : tie.Need-returns-2 Inv-loop μ-loop
-returns-2 c = ap not (sym (crossed-none (c .before .before .before .args .mates .now) (c .before .before .before .pre) (λ k l. c .before .loop .inv .1 k (omega arith) l)))
+returns-2 c = ap not (sym (crossed-none (c .before .before .before .args .mates .now) (λ k l. c .before .loop .inv .1 k (omega arith) l)))
 
 pub arcs-close-spec : {M : Type 1} → statement M
 arcs-close-spec =

@@ -2,7 +2,6 @@
 use Prim.Native.Nat.{_-_, _≤_, _<_}
 use native.Mathlib.Omega.{arith}
 use mathlib.Core.Path.{sym}
-use mathlib.Core.Bool.{false}
 use lib.ListN.{length}
 use Rattle.strand.specs.Vocabulary.{nth}
 use Rattle.strand.proofs.NestingLaws.{Passed, walk-start, walk-back, walk-past, walk-jump, walk-end}
@@ -29,34 +28,34 @@ add-k : tie.Need-add-k Inv-loop μ-loop
 add-k c = omega arith
 
 loop-holds : tie.Need-loop-holds Inv-loop μ-loop
-loop-holds c = (omega arith, (λ h. omega arith), walk-start _ _ (c .before .pre .0) (c .before .args .i))
+loop-holds c = (omega arith, (λ h. omega arith), walk-start _ _ (c .before .pre .1 .0) (c .before .args .i))
 
 mul-e : tie.Need-mul-e Inv-loop μ-loop
 mul-e c = omega arith
 
 shared-slice-read-e : tie.Need-shared-slice-read-e Inv-loop μ-loop
-shared-slice-read-e c = omega (arith, c .before .before .before .before .pre .0 .inside (c .before .before .before .before .args .i) (c .before .before .before .before .pre .1 .0))
+shared-slice-read-e c = omega (arith, c .before .before .before .before .pre .0 (c .before .before .before .before .args .i) (c .before .before .before .before .pre .1 .1 .0))
 
 cast-e : tie.Need-cast-e Inv-loop μ-loop
 cast-e c = omega (arith, c .shared-slice-known2 .given (c .before .before .loop .k))
 
 returns : tie.Need-returns Inv-loop μ-loop
-returns c = record { yes = λ e. absurd (true≢false (sym e)); no = λ e. walk-back _ _ (c .before .before .before .before .before .pre .0) (c .before .before .before .before .before .args .i) (c .before .before .before .loop .k) (c .before .before .before .loop .inv .2 .begun) (omega (arith, c .before .before .before .before .before .pre .0 .inside (c .before .before .before .before .before .args .i) (c .before .before .before .before .before .pre .1 .0))) (c .before .before .before .loop .inv .2) (c .before .before .loop-test .taken) (c .if1 .taken) }
+returns c = record { yes = λ e. absurd (true≢false (sym e)); no = λ e. walk-back _ _ (c .before .before .before .before .before .pre .1 .0) (c .before .before .before .before .before .args .i) (c .before .before .before .loop .k) (c .before .before .before .loop .inv .2 .begun) (omega (arith, c .before .before .before .before .before .pre .0 (c .before .before .before .before .before .args .i) (c .before .before .before .before .before .pre .1 .1 .0))) (c .before .before .before .loop .inv .2) (c .before .before .loop-test .taken) (c .if1 .taken) }
 
 returns-2 : tie.Need-returns-2 Inv-loop μ-loop
-returns-2 c = record { yes = λ e. absurd (true≢false (sym e)); no = λ e. walk-past _ _ (c .before .before .before .before .before .before .pre .0) (c .before .before .before .before .before .before .args .i) (c .before .before .before .before .loop .k) (c .before .before .before .before .loop .inv .2 .begun) (c .before .before .before .loop-test .taken) (c .if2 .taken) }
+returns-2 c = record { yes = λ e. absurd (true≢false (sym e)); no = λ e. walk-past _ _ (c .before .before .before .before .before .before .pre .1 .0) (c .before .before .before .before .before .before .args .i) (c .before .before .before .before .loop .k) (c .before .before .before .before .loop .inv .2 .begun) (c .before .before .before .loop-test .taken) (c .if2 .taken) }
 
 add-k-2 : tie.Need-add-k-2 Inv-loop μ-loop
 add-k-2 c = omega (arith, c .before .before .shared-slice-known2 .given (c .before .before .before .before .loop .k))
 
 loop-less : tie.Need-loop-less Inv-loop μ-loop
-loop-less c = omega (arith, c .before .before .before .before .before .before .pre .0 .inside (c .before .before .before .before .before .before .args .i) (c .before .before .before .before .before .before .pre .1 .0))
+loop-less c = omega (arith, c .before .before .before .before .before .before .pre .0 (c .before .before .before .before .before .before .args .i) (c .before .before .before .before .before .before .pre .1 .1 .0))
 
 loop-again : tie.Need-loop-again Inv-loop μ-loop
-loop-again c = (omega (arith, c .before .before .before .before .before .before .pre .0 .inside (c .before .before .before .before .before .before .args .i) (c .before .before .before .before .before .before .pre .1 .0)), (λ h. omega arith), walk-jump _ _ (c .before .before .before .before .before .before .pre .0) (c .before .before .before .before .before .before .args .i) (c .before .before .before .before .loop .k) (omega (arith, c .before .before .before .before .before .before .pre .0 .inside (c .before .before .before .before .before .before .args .i) (c .before .before .before .before .before .before .pre .1 .0))) (c .before .before .before .before .loop .inv .2) (c .before .if1 .left) (λ h. c .before .before .before .before .before .before .pre .1 .1 (c .before .before .before .before .loop .k) (c .before .before .before .before .loop .inv .2 .begun) (omega (arith, c .before .before .before .before .before .before .pre .0 .inside (c .before .before .before .before .before .before .args .i) (c .before .before .before .before .before .before .pre .1 .0)))))
+loop-again c = (omega (arith, c .before .before .before .before .before .before .pre .0 (c .before .before .before .before .before .before .args .i) (c .before .before .before .before .before .before .pre .1 .1 .0)), (λ h. omega arith), walk-jump _ _ (c .before .before .before .before .before .before .pre .1 .0) (c .before .before .before .before .before .before .args .i) (c .before .before .before .before .loop .k) (omega (arith, c .before .before .before .before .before .before .pre .0 (c .before .before .before .before .before .before .args .i) (c .before .before .before .before .before .before .pre .1 .1 .0))) (c .before .before .before .before .loop .inv .2) (c .before .if1 .left) (λ h. c .before .before .before .before .before .before .pre .1 .1 .1 (c .before .before .before .before .loop .k) (c .before .before .before .before .loop .inv .2 .begun) (omega (arith, c .before .before .before .before .before .before .pre .0 (c .before .before .before .before .before .before .args .i) (c .before .before .before .before .before .before .pre .1 .1 .0)))))
 
 returns-3 : tie.Need-returns-3 Inv-loop μ-loop
-returns-3 c = record { yes = λ e. walk-end _ _ (c .before .before .before .pre .0) (c .before .before .before .args .i) (c .before .loop .k) (c .before .loop .inv .2) (c .loop-test .left) (c .before .loop .inv .1); no = λ e. absurd (true≢false e) }
+returns-3 c = record { yes = λ e. walk-end _ _ (c .before .before .before .pre .1 .0) (c .before .before .before .args .i) (c .before .loop .k) (c .before .loop .inv .2) (c .loop-test .left) (c .before .loop .inv .1); no = λ e. absurd (true≢false e) }
 
 pub closes-spec : {M : Type 1} → statement M
 closes-spec =

@@ -1,5 +1,4 @@
 -- `strand::nesting::cross` meets its contract.
-use Prim.Native.Nat.{_-_}
 use mathlib.Core.Path.{sym}
 use Rattle.strand.proofs.NestingLaws.{cross-below, cross-ended, cross-last}
 use Rattle.strand.proofs.nesting.cross.Statement.{statement}

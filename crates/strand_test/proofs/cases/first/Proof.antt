@@ -1,6 +1,5 @@
 -- `strand_test::cases::first` meets its contract.
 use borrow.Author.Needs.{needs}
-use Prim.Native.Nat.{_-_}
 use mathlib.Core.Path.{sym}
 use lib.Seq.{length-take-le}
 use Rattle.strand_test.proofs.cases.first.Statement.{statement}

@@ -1,0 +1,99 @@
+// Commands on the image alone.
+use super::parts;
+use super::parts::number;
+
+// Whether s is sound as a molecule block (kind 1) or as a cache entry (kind 2).
+fn sound(kind: usize, s: &[u8]) -> usize {
+    if kind == 1 {
+        return block::sound::sound_molecule(s) as usize;
+    }
+    block::sound::sound_entry(s) as usize
+}
+
+// Byte a becomes b: whether the block is sound with the checksum as it is, and with the checksum made right.
+fn change(s: &mut [u8], a: usize, b: usize, kind: usize) -> usize {
+    parts::set_byte(s, a, b);
+    let old = sound(kind, s) % 2;
+    octets::checksum::put_checksum(s);
+    10 * old + sound(kind, s) % 2
+}
+
+// `X a b c`: byte a becomes b. The digits of c are the kind, and whether the block is sound with the old checksum, with the checksum made
+// right, and with the byte put back and the checksum made right.
+fn damage(s: &mut [u8], a: usize, b: usize, kind: usize) -> usize {
+    let was = parts::byte_at(s, a) as usize;
+    let changed = change(s, a, b, kind) % 100;
+    let back = change(s, a, was, kind) % 10;
+    kind % 10 * 1000 + 10 * changed + back
+}
+
+// 1 for a searched number, and 2 more for a hit.
+fn bits(s: &[u8], d: usize) -> usize {
+    block::entry::searched(s, d) as usize % 2 + block::entry::hit(s, d) as usize % 2 * 2
+}
+
+// The answer of a command on the block s: `J` whether it is sound, `Q` the bits of number a, `X` damage. `R` writes the checksum and asks
+// whether it is right, `F` takes number a out and asks whether the entry is sound.
+fn of_block(kind: u8, s: &mut [u8], a: usize, b: usize, c: usize) -> usize {
+    match kind {
+        b'J' => sound(a, s),
+        b'Q' => bits(s, a),
+        b'X' => damage(s, a, b, c / 1000),
+        b'R' => {
+            octets::checksum::put_checksum(s);
+            octets::checksum::checksum_ok(s) as usize
+        }
+        _ => {
+            block::buffer::forget(s, a);
+            sound(2, s)
+        }
+    }
+}
+
+// `J a b c` asks of the first b bytes, `R a` writes a checksum into the first a bytes; the others take one block.
+fn block_length(kind: u8, a: usize, b: usize) -> usize {
+    match kind {
+        b'J' => b,
+        b'R' => a,
+        _ => 512,
+    }
+}
+
+fn first(kind: u8, image: &mut [u8], a: usize, b: usize, c: usize) -> usize {
+    let from = 0;
+    let n = block_length(kind, a, b);
+    if image.len() < n {
+        return 9;
+    }
+    of_block(kind, &mut image[from..n], a, b, c)
+}
+
+// `S` sets byte a to b. `Z` zeroes block a, `Y` asks whether it is sound as a molecule block. `H` cleans all entries and `f` takes number a
+// out of all; their answer is the sum over the image.
+fn of_image(kind: u8, image: &mut [u8], a: usize, b: usize) -> usize {
+    match kind {
+        b'S' => {
+            parts::set_byte(image, a, b);
+            parts::NOTHING
+        }
+        b'Z' => block::buffer::zero_at(image, a) as usize,
+        b'Y' => block::sound::sound_at(image, a) as usize,
+        b'H' => {
+            block::buffer::clean_all(image);
+            parts::sum_bytes(image)
+        }
+        _ => {
+            block::buffer::forget_all(image, a);
+            parts::sum_bytes(image)
+        }
+    }
+}
+
+pub fn answer(kind: u8, image: &mut [u8], line: &[u8]) -> usize {
+    let a = number(line, 2);
+    let b = number(line, 8);
+    match kind {
+        b'S' | b'Z' | b'Y' | b'H' | b'f' => of_image(kind, image, a, b),
+        _ => first(kind, image, a, b, number(line, 14)),
+    }
+}

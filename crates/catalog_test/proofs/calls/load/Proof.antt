@@ -1,0 +1,56 @@
+-- `catalog_test::calls::load` meets its contract.
+use Prim.Native.Nat.{_-_}
+use mathlib.Core.Path.{_≡_}
+use lib.ListN.{length}
+use borrow.Author.Needs.{needs}
+use Rattle.catalog_test.proofs.calls.load.Statement.{statement}
+use Rattle.catalog_test.proofs.calls.load.Tie as tie
+
+abbrev Inv-loop : tie.InvT-loop
+Inv-loop s b to₀ i₀ to i = length to ≡ length to₀
+
+abbrev μ-loop : tie.MeasureT-loop
+μ-loop s b to₀ i₀ to i = length to₀ - i
+
+loop-holds : tie.Need-loop-holds Inv-loop μ-loop
+loop-holds c = search needs
+
+get-requires : tie.Need-get-requires Inv-loop μ-loop
+get-requires c κs = search needs
+
+cast-to : tie.Need-cast-to Inv-loop μ-loop
+cast-to c = search needs
+
+slice-write-to : tie.Need-slice-write-to Inv-loop μ-loop
+slice-write-to c = search needs
+
+add-i : tie.Need-add-i Inv-loop μ-loop
+add-i c = search needs
+
+loop-less : tie.Need-loop-less Inv-loop μ-loop
+loop-less c = search needs
+
+loop-again : tie.Need-loop-again Inv-loop μ-loop
+loop-again c = search needs
+
+same-length : tie.Need-same-length Inv-loop μ-loop
+same-length c = search needs
+
+returns : tie.Need-returns Inv-loop μ-loop
+returns c = search needs
+
+pub load-spec : {M : Type 1} → statement M
+load-spec =
+    tie.close
+    (tie.spec
+    Inv-loop
+    μ-loop
+    loop-holds
+    get-requires
+    cast-to
+    slice-write-to
+    add-i
+    loop-less
+    loop-again
+    same-length
+    returns)

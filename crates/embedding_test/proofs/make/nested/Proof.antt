@@ -1,0 +1,80 @@
+-- `nested` ends and keeps the lengths of its slices.
+use Prim.Native.Nat.{_-_, _≤_}
+use mathlib.Core.Path.{_≡_}
+use lib.ListN.{length}
+use borrow.Author.Needs.{needs}
+use Rattle.embedding_test.proofs.make.nested.Statement.{statement}
+use Rattle.embedding_test.proofs.make.nested.Tie as tie
+
+abbrev Inv-loop : tie.InvT-loop
+Inv-loop seed kinds bases₀ mates₀ stack₀ x₀ depth₀ i₀ bases mates stack x depth i = (i ≤ length mates) × (length bases ≡ length bases₀) × (length mates ≡ length mates₀) × (length stack ≡ length stack₀)
+
+abbrev μ-loop : tie.MeasureT-loop
+μ-loop seed kinds bases₀ mates₀ stack₀ x₀ depth₀ i₀ bases mates stack x depth i = length mates - i
+
+loop-holds : tie.Need-loop-holds Inv-loop μ-loop
+loop-holds c = search needs
+
+next-requires : tie.Need-next-requires Inv-loop μ-loop
+next-requires c κs = search needs
+
+add-letter : tie.Need-add-letter Inv-loop μ-loop
+add-letter c = search needs
+
+rem-letter : tie.Need-rem-letter Inv-loop μ-loop
+rem-letter c = search needs
+
+letter-requires : tie.Need-letter-requires Inv-loop μ-loop
+letter-requires c κs = search needs
+
+put-base-requires : tie.Need-put-base-requires Inv-loop μ-loop
+put-base-requires c κs = search needs
+
+next-requires-2 : tie.Need-next-requires-2 Inv-loop μ-loop
+next-requires-2 c κs = search needs
+
+bond-requires : tie.Need-bond-requires Inv-loop μ-loop
+bond-requires c κs = search needs
+
+add-i : tie.Need-add-i Inv-loop μ-loop
+add-i c = search needs
+
+loop-less : tie.Need-loop-less Inv-loop μ-loop
+loop-less c = search needs
+
+loop-again : tie.Need-loop-again Inv-loop μ-loop
+loop-again c = search needs
+
+same-length : tie.Need-same-length Inv-loop μ-loop
+same-length c = search needs
+
+same-length-2 : tie.Need-same-length-2 Inv-loop μ-loop
+same-length-2 c = search needs
+
+same-length-3 : tie.Need-same-length-3 Inv-loop μ-loop
+same-length-3 c = search needs
+
+returns : tie.Need-returns Inv-loop μ-loop
+returns c = search needs
+
+pub nested-spec : {M : Type 1} → statement M
+nested-spec =
+    tie.close
+    (tie.spec
+    Inv-loop
+    μ-loop
+    loop-holds
+    next-requires
+    add-letter
+    rem-letter
+    letter-requires
+    put-base-requires
+    next-requires-2
+    bond-requires
+    add-i
+    loop-less
+    loop-again
+    same-length
+    same-length-2
+    same-length-3
+    returns)

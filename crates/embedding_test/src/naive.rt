@@ -1,0 +1,60 @@
+// The definition of an embedding, written out.
+use super::make::get;
+
+// The definition at the positions x and y: the place of y lies in the molecule and its base is the same; and where x lies before y, the
+// places rise, and x and y are an arc exactly when their places are.
+fn pair_fits(
+    p: &[u8],
+    pm: &[u16],
+    q: &[u8],
+    qm: &[u16],
+    places: &[u16],
+    x: usize,
+    y: usize,
+) -> bool {
+    let u = get(places, x);
+    let v = get(places, y);
+    if p.len() <= y {
+        return false;
+    }
+    if q.len() <= v {
+        return false;
+    }
+    if p[y] != q[v] {
+        return false;
+    }
+    if y <= x {
+        return true;
+    }
+    if v <= u {
+        return false;
+    }
+    if get(pm, x) == y {
+        return get(qm, u) == v;
+    }
+    get(qm, u) != v
+}
+
+// Position x fits with every position.
+fn fits_at(p: &[u8], pm: &[u16], q: &[u8], qm: &[u16], places: &[u16], x: usize) -> bool {
+    let mut y = 0;
+    while y < p.len() {
+        if !pair_fits(p, pm, q, qm, places, x, y) {
+            return false;
+        }
+        y += 1;
+    }
+    true
+}
+
+// Every two positions fit.
+pub fn fits(p: &[u8], pm: &[u16], q: &[u8], qm: &[u16], places: &[u16]) -> bool {
+    let mut x = 0;
+    while x < p.len() {
+        if !fits_at(p, pm, q, qm, places, x) {
+            return false;
+        }
+        x += 1;
+    }
+    true
+}

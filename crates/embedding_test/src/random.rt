@@ -1,0 +1,177 @@
+// All lists of places for random nested pairs, against the definition written out: how many answers are wrong, and how many are yes.
+use super::make::nested;
+use super::make::put;
+use super::naive::fits;
+use super::tell::end_line;
+use super::tell::number;
+use super::tell::say;
+use embedding::Verified;
+
+// The next random number, how many answers are wrong, and how many are yes.
+struct Tally {
+    seed: u64,
+    wrong: usize,
+    yes: usize,
+}
+
+fn add(a: usize, b: usize) -> usize {
+    if 1000000000 < a {
+        return a;
+    }
+    if 1000000000 < b {
+        return b;
+    }
+    a + b
+}
+
+fn added(a: Tally, b: Tally) -> Tally {
+    Tally {
+        seed: b.seed,
+        wrong: add(a.wrong, b.wrong),
+        yes: add(a.yes, b.yes),
+    }
+}
+
+// The answer, where the definition says `want`.
+fn judged(seed: u64, a: Verified, want: bool) -> Tally {
+    match a {
+        Verified::Yes => {
+            if want {
+                return Tally {
+                    seed,
+                    wrong: 0,
+                    yes: 1,
+                };
+            }
+            Tally {
+                seed,
+                wrong: 1,
+                yes: 1,
+            }
+        }
+        Verified::No => {
+            if want {
+                return Tally {
+                    seed,
+                    wrong: 1,
+                    yes: 0,
+                };
+            }
+            Tally {
+                seed,
+                wrong: 0,
+                yes: 0,
+            }
+        }
+        Verified::Refused(_) => Tally {
+            seed,
+            wrong: 1,
+            yes: 0,
+        },
+    }
+}
+
+fn compared(seed: u64, p: &[u8], pm: &[u16], q: &[u8], qm: &[u16], places: &[u16]) -> Tally {
+    let want = fits(p, pm, q, qm, places);
+    judged(seed, embedding::verify(p, pm, q, qm, places), want)
+}
+
+// Writes list number `code`: its digits in base 8.
+fn write_list(code: usize, places: &mut [u16]) {
+    let mut rest = code;
+    let mut i = 0;
+    while i < places.len() {
+        put(places, i, rest % 8);
+        rest = rest / 8;
+        i += 1;
+    }
+}
+
+// Compares the lists below `count`, and hands the seed on.
+fn lists(
+    count: usize,
+    seed: u64,
+    p: &[u8],
+    pm: &[u16],
+    q: &[u8],
+    qm: &[u16],
+    places: &mut [u16],
+) -> Tally {
+    let mut sum = Tally {
+        seed,
+        wrong: 0,
+        yes: 0,
+    };
+    let mut code = 0;
+    while code < count {
+        write_list(code, places);
+        sum = added(sum, compared(seed, p, pm, q, qm, places));
+        code += 1;
+    }
+    sum
+}
+
+// Makes a random pair and compares all lists of 4 places below 8.
+fn trial(
+    seed: u64,
+    kinds: u64,
+    p: &mut [u8],
+    pm: &mut [u16],
+    q: &mut [u8],
+    qm: &mut [u16],
+    stack: &mut [u16],
+    places: &mut [u16],
+) -> Tally {
+    let x = nested(seed, kinds, p, pm, stack);
+    let y = nested(x, kinds, q, qm, stack);
+    lists(4096, y, p, pm, q, qm, places)
+}
+
+// A random pair of 4 and 7 bases.
+fn one_pair(seed: u64, kinds: u64) -> Tally {
+    let mut p = [0u8; 4];
+    let mut pm = [0u16; 4];
+    let mut q = [0u8; 7];
+    let mut qm = [0u16; 7];
+    let mut stack = [0u16; 7];
+    let mut places = [0u16; 4];
+    trial(
+        seed,
+        kinds,
+        &mut p,
+        &mut pm,
+        &mut q,
+        &mut qm,
+        &mut stack,
+        &mut places,
+    )
+}
+
+fn pairs(count: usize, kinds: u64) -> Tally {
+    let mut sum = Tally {
+        seed: 12345,
+        wrong: 0,
+        yes: 0,
+    };
+    let mut i = 0;
+    while i < count {
+        sum = added(sum, one_pair(sum.seed, kinds));
+        i += 1;
+    }
+    sum
+}
+
+fn tell(name: &[u8], t: Tally) {
+    say(name);
+    number(t.wrong);
+    say(b" yes");
+    number(t.yes);
+    end_line();
+}
+
+// Of 1, 2 and 4 letters.
+pub fn run() {
+    tell(b"all lists, 1 letter: wrong", pairs(50, 0));
+    tell(b"all lists, 2 letters: wrong", pairs(50, 1));
+    tell(b"all lists, 4 letters: wrong", pairs(50, 3));
+}

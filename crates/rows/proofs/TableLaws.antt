@@ -1,0 +1,154 @@
+-- The tables of a motif: where the row of a base starts, that the passes which fill the tables make them, and what a base's row says in a window that
+-- ends before the motif does. Assumes nothing.
+use mathlib.Core.Path.{_≡_, refl, sym, ap, subst, _∙_}
+use mathlib.Core.Bool.{Bool, true, false, _||_}
+use mathlib.Core.List.{List}
+use Prim.Native.Nat.{ℕ, suc, _+_, _-_, _*_, _/_, _%_, _≤_, _<_, min}
+use native.Mathlib.Decide.{decLt}
+use native.Mathlib.Nat.{mul-le-mul-left}
+use native.Mathlib.Omega.{arith}
+use lib.Dec.{ltb, leb, eqb}
+use lib.ListN.{length}
+use borrow.Author.Tests.{lt-ltb, eq-eqb, ne-eqb, eqb-true}
+use Rattle.strand.specs.Vocabulary.{nth, choose}
+use Rattle.strand.specs.Strands.{isLetter, moleculeSide}
+use Rattle.embedding.specs.Row.{unitAt}
+use Rattle.rows.specs.Rows.{Written, Tables, Steps, stepsAt, matches}
+use Rattle.rows.proofs.Pass.{pass-end}
+use Rattle.rows.proofs.Parts.{part, part-at, part-length}
+use Rattle.rows.proofs.Entries.{unit-end, unit-small}
+
+-- The four letters.
+by-letter : (P : ℕ → Type 0) (side b : ℕ) → isLetter side b ≡ true → P 65 → P 67 → P 71 → P 85 → P b
+unfolding isLetter
+by-letter P side b e hA hC hG hU = go (eqb b 65) refl (eqb b 67) refl (eqb b 71) refl e where
+  go : (x : Bool) → eqb b 65 ≡ x → (y : Bool) → eqb b 67 ≡ y → (z : Bool) → eqb b 71 ≡ z → (x || y || z || eqb b 85) ≡ true → P b
+  go true h y i z j e = subst P (sym (eqb-true b 65 h)) hA
+  go false h true i z j e = subst P (sym (eqb-true b 67 i)) hC
+  go false h false i true j e = subst P (sym (eqb-true b 71 j)) hG
+  go false h false i false j e = subst P (sym (eqb-true b 85 e)) hU
+
+-- Where a base's row starts: past the letters, with room for the row behind it.
+module _ (m : ℕ) where
+  pub row-below : (x : ℕ) → x < 4 → (m + 1) * (1 + x) ≤ 4 * (m + 1)
+  row-below x h = let l : 1 + x ≤ 4 = omega arith in omega (arith, mul-le-mul-left (m + 1) l)
+
+  pub steps-within : (b : ℕ) → stepsAt m b ≤ 4 * (m + 1)
+  unfolding stepsAt
+  steps-within b = row-below (b / 2 % 4) (omega arith)
+
+  steps-A : stepsAt m 65 ≡ m + 1
+  unfolding stepsAt
+  steps-A = omega arith
+
+  steps-C : stepsAt m 67 ≡ 2 * (m + 1)
+  unfolding stepsAt
+  steps-C = omega arith
+
+  steps-U : stepsAt m 85 ≡ 3 * (m + 1)
+  unfolding stepsAt
+  steps-U = omega arith
+
+  steps-G : stepsAt m 71 ≡ 4 * (m + 1)
+  unfolding stepsAt
+  steps-G = omega arith
+
+-- The base's entries lie between k and k + 1, and those before the window's end are the same for a longer window.
+module _ (has : ℕ → Bool) (pm : ℕ → ℕ) (z k : ℕ) where
+  unit-from : k ≤ unitAt has pm z k
+  unfolding unitAt choose
+  unit-from = go (ltb k z) (leb (pm k) k) (has k) where
+    go : (a b t : Bool) → k ≤ choose a (choose b (choose t (suc k) k) k) k
+    go false b t = omega arith
+    go true false t = omega arith
+    go true true false = omega arith
+    go true true true = omega arith
+
+  unit-next : unitAt has pm z k ≤ k + 1
+  unfolding unitAt choose
+  unit-next = go (ltb k z) (leb (pm k) k) (has k) where
+    go : (a b t : Bool) → choose a (choose b (choose t (suc k) k) k) k ≤ k + 1
+    go false b t = omega arith
+    go true false t = omega arith
+    go true true false = omega arith
+    go true true true = omega arith
+
+  unit-window : (to : ℕ) → k < to → to ≤ z → unitAt has pm z k ≡ unitAt has pm to k
+  unfolding unitAt
+  unit-window to a b = rw (lt-ltb k z (omega arith), lt-ltb k to a)
+
+-- The row of the base b, as the part of the tables from its start on, in a window that ends at `to`.
+module _ (p pm tables : List ℕ) (b at to : ℕ) (T : Tables p pm tables) (L : isLetter moleculeSide b ≡ true) (e : at ≡ stepsAt (length p) b)
+    (le : to ≤ length p) where
+  room : at + length p < length tables
+  room = omega (arith, T .long, steps-within (length p) b)
+
+  entry : (k : ℕ) → k ≤ length p → nth (part at tables) k ≡ unitAt (matches p b) (nth pm) (length p) k
+  entry k h = part-at at tables (omega (arith, room)) k ∙ ap (λ (i : ℕ). nth tables (i + k)) e ∙ T .step b L k h
+
+  pub steps-of : Steps (part at tables) to
+  steps-of = record {
+    long = omega (arith, room, part-length at tables (omega (arith, room)));
+    low = λ k h. omega (arith, entry k (omega arith), unit-from (matches p b) (nth pm) (length p) k);
+    high = λ k h. omega (arith, entry k (omega arith), unit-next (matches p b) (nth pm) (length p) k);
+  }
+
+  pub step-unit : (j : ℕ) → j < to → nth (part at tables) j ≡ unitAt (matches p b) (nth pm) to j
+  step-unit j h = entry j (omega arith) ∙ unit-window (matches p b) (nth pm) (length p) j to h le
+
+  pub step-capped : (j : ℕ) → j ≤ to → min (nth (part at tables) j) to ≡ unitAt (matches p b) (nth pm) to j
+  step-capped j h = elim (decLt j to) [
+    | yes l ↦ omega (arith, step-unit j l, unit-small (matches p b) (nth pm) to j)
+    | no l ↦ omega (arith, entry j (omega arith), unit-from (matches p b) (nth pm) (length p) j, unit-end (matches p b) (nth pm) to j (omega arith))
+  ]
+
+-- A row with a base in front: its entry, read where the base's row leads.
+step-read : (g : ℕ → ℕ) (s j : ℕ) → j ≤ s → s ≤ j + 1 → choose (eqb s j) (g j) (g (j + 1)) ≡ g s
+unfolding choose
+step-read g s j lo hi = elim (decLt j s) [
+  | yes l ↦ let i : j + 1 ≡ s = omega arith in rw (ne-eqb s j (λ q. omega arith)) (ap g i)
+  | no l ↦ let i : s ≡ j = omega arith in rw (eq-eqb s j i) (ap g (sym i))
+]
+
+pub extend-step : (steps row₀ row : List ℕ) (from to j r : ℕ) → Steps steps to → Written (λ k. nth row₀ (nth steps k)) row₀ row from j → j < to
+    → r ≡ choose (eqb (nth steps j) j) (nth row j) (nth row (j + 1)) → r ≡ nth row₀ (nth steps j)
+extend-step steps row₀ row from to j r S W lt e =
+    e ∙ rw (W .past j (omega arith), W .past (j + 1) (omega arith)) (step-read (nth row₀) (nth steps j) j (S .low j (omega arith)) (S .high j (omega arith)))
+
+-- The pass that writes a base's row has come to its last entry.
+pub steps-end : (f : ℕ → ℕ) (old new : List ℕ) (at j m : ℕ) → Written f old new (at + 0) (at + j) → j ≤ m → m ≤ j → Written f old new at (at + m)
+steps-end f old new at j m W a b =
+    let i : at + 0 ≡ at = omega arith in
+    pass-end f old new at (at + j) (at + m) (subst (λ (x : ℕ). Written f old new x (at + j)) i W) (omega arith) (omega arith)
+
+-- The row of the base b was written from `at` on.
+abbrev pub Put : List ℕ → List ℕ → ℕ → ℕ → List ℕ → List ℕ → Type 0
+Put p pm b at old new = Written (λ k. unitAt (matches p b) (nth pm) (length p) (k - at)) old new at (at + length p + 1)
+
+pub put-at : (p pm : List ℕ) (b at : ℕ) (old new : List ℕ) → at ≡ stepsAt (length p) b → Put p pm b at old new → Put p pm b (stepsAt (length p) b) old new
+put-at p pm b at old new e W = subst (λ (x : ℕ). Put p pm b x old new) e W
+
+put-entry : (p pm : List ℕ) (b at : ℕ) (old new : List ℕ) → Put p pm b at old new → (k : ℕ) → k ≤ length p
+    → nth new (at + k) ≡ unitAt (matches p b) (nth pm) (length p) k
+put-entry p pm b at old new W k h =
+    let i : at + k - at ≡ k = omega arith in W .done (at + k) (omega arith) (omega arith) ∙ ap (unitAt (matches p b) (nth pm) (length p)) i
+
+-- The five passes make the tables: no pass writes what another wrote.
+module _ (p pm t₀ t₁ tA tC tG tU : List ℕ) where
+  pub tables-made : 5 * (length p + 1) ≤ length t₀ → Written (λ j. nth p (nth pm j)) t₀ t₁ 0 (length p)
+      → Put p pm 65 (stepsAt (length p) 65) t₁ tA → Put p pm 67 (stepsAt (length p) 67) tA tC
+      → Put p pm 71 (stepsAt (length p) 71) tC tG → Put p pm 85 (stepsAt (length p) 85) tG tU → Tables p pm tU
+  tables-made room W A C G U = record {
+    long = omega (arith, W .long, A .long, C .long, G .long, U .long);
+    letter = λ j h. U .under j (omega (arith, steps-U m)) ∙ G .under j (omega (arith, steps-G m)) ∙ C .under j (omega (arith, steps-C m))
+        ∙ A .under j (omega (arith, steps-A m)) ∙ W .done j (omega arith) h;
+    step = λ b L k h. by-letter (λ (x : ℕ). nth tU (stepsAt m x + k) ≡ unitAt (matches p x) (nth pm) m k) moleculeSide b L
+        (U .under (stepsAt m 65 + k) (omega (arith, steps-A m, steps-U m)) ∙ G .under (stepsAt m 65 + k) (omega (arith, steps-A m, steps-G m))
+        ∙ C .under (stepsAt m 65 + k) (omega (arith, steps-A m, steps-C m)) ∙ put-entry p pm 65 (stepsAt m 65) t₁ tA A k h)
+        (U .under (stepsAt m 67 + k) (omega (arith, steps-C m, steps-U m)) ∙ G .under (stepsAt m 67 + k) (omega (arith, steps-C m, steps-G m))
+        ∙ put-entry p pm 67 (stepsAt m 67) tA tC C k h)
+        (U .past (stepsAt m 71 + k) (omega (arith, steps-G m, steps-U m)) ∙ put-entry p pm 71 (stepsAt m 71) tC tG G k h)
+        (put-entry p pm 85 (stepsAt m 85) tG tU U k h);
+  } where
+    m : ℕ
+    m = length p

@@ -1,0 +1,62 @@
+-- `rows::row::single` meets its contract.
+use borrow.Author.Needs.{needs}
+use native.Mathlib.Omega.{arith}
+use mathlib.Core.Path.{sym}
+use Rattle.strand.specs.Vocabulary.{nth}
+use Rattle.embedding.specs.Row.{unitAt}
+use Rattle.rows.specs.Rows.{matches}
+use Rattle.rows.proofs.Pass.{pass-set, pass-as}
+use Rattle.rows.proofs.TableLaws as tables
+use Rattle.rows.proofs.Entries.{unit-end}
+use Rattle.rows.proofs.Parts.{part}
+use Rattle.rows.proofs.row.single.Statement.{statement}
+use Rattle.rows.proofs.row.single.Tie as tie
+
+steps-at-requires : tie.Need-steps-at-requires
+steps-at-requires c κs = search needs
+
+mul-copy-steps : tie.Need-mul-copy-steps
+mul-copy-steps c = search needs
+
+sub-copy-steps : tie.Need-sub-copy-steps
+sub-copy-steps c = search needs
+
+part-copy-steps-start : tie.Need-part-copy-steps-start
+part-copy-steps-start c = search needs
+
+part-copy-steps-end : tie.Need-part-copy-steps-end
+part-copy-steps-end c = search needs
+
+copy-steps-requires : tie.Need-copy-steps-requires
+copy-steps-requires c κs = ((omega arith, (omega arith, omega arith)), tables.steps-of (c .before .before .before .before .before .before .before .args .p .now) (c .before .before .before .before .before .before .before .args .pm .now) (c .before .before .before .before .before .before .before .args .tables .now) (c .before .before .before .before .before .before .before .args .b) (c .before .before .steps-at .result) (c .before .before .before .before .before .before .before .args .to) (c .before .before .before .before .before .before .before .pre .1 .0) (c .before .before .before .before .before .before .before .pre .1 .1 .0) (c .before .before .steps-at .ensures .0) (c .before .before .before .before .before .before .before .pre .0 .ends))
+
+cast-row : tie.Need-cast-row
+cast-row c = search needs
+
+mul-row : tie.Need-mul-row
+mul-row c = search needs
+
+slice-write-row : tie.Need-slice-write-row
+slice-write-row c = search needs
+
+same-length : tie.Need-same-length
+same-length c = search needs
+
+returns : tie.Need-returns
+returns c = pass-set _ _ _ _ _ _ (pass-as (nth (part (c .before .before .before .before .before .steps-at .result) (c .before .before .before .before .before .before .before .before .before .before .args .tables .now))) (unitAt (matches (c .before .before .before .before .before .before .before .before .before .before .args .p .now) (c .before .before .before .before .before .before .before .before .before .before .args .b)) (nth (c .before .before .before .before .before .before .before .before .before .before .args .pm .now)) (c .before .before .before .before .before .before .before .before .before .before .args .to)) _ _ _ _ (c .before .before .copy-steps .ensures) (λ k h. tables.step-unit (c .before .before .before .before .before .before .before .before .before .before .args .p .now) (c .before .before .before .before .before .before .before .before .before .before .args .pm .now) (c .before .before .before .before .before .before .before .before .before .before .args .tables .now) (c .before .before .before .before .before .before .before .before .before .before .args .b) (c .before .before .before .before .before .steps-at .result) (c .before .before .before .before .before .before .before .before .before .before .args .to) (c .before .before .before .before .before .before .before .before .before .before .pre .1 .0) (c .before .before .before .before .before .before .before .before .before .before .pre .1 .1 .0) (c .before .before .before .before .before .steps-at .ensures .0) (c .before .before .before .before .before .before .before .before .before .before .pre .0 .ends) k h)) (omega arith) (omega arith) (sym (unit-end (matches (c .before .before .before .before .before .before .before .before .before .before .args .p .now) (c .before .before .before .before .before .before .before .before .before .before .args .b)) (nth (c .before .before .before .before .before .before .before .before .before .before .args .pm .now)) (c .before .before .before .before .before .before .before .before .before .before .args .to) (c .before .before .before .before .before .before .before .before .before .before .args .to) (omega arith)))
+
+pub single-spec : {M : Type 1} → statement M
+single-spec =
+    tie.close
+    (tie.spec
+    steps-at-requires
+    mul-copy-steps
+    sub-copy-steps
+    part-copy-steps-start
+    part-copy-steps-end
+    copy-steps-requires
+    cast-row
+    mul-row
+    slice-write-row
+    same-length
+    returns)

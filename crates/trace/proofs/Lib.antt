@@ -1,0 +1,4 @@
+pub mod Top
+pub mod Turning
+pub mod Descent
+pub mod Levels
