@@ -8,7 +8,7 @@ use native.Mathlib.Omega.{arith}
 use lib.Dec.{ltb, leb}
 use borrow.Author.Tests.{ltb-true, ltb-false, leb-true, leb-false}
 use Rattle.strand.specs.Strands.{Nested}
-use Rattle.embedding.specs.Row.{Closed, Split, Best, IsRow, unitAt, overAt, arcAt}
+use Rattle.embedding.specs.Row.{Closed, Split, Best, IsRow, unitAt, overAt, arcAt, overBy}
 use Rattle.embedding.proofs.Answers.{by-test, clash}
 use Rattle.embedding.proofs.Splitting.{restrict}
 use Rattle.embedding.proofs.Recurrence.{later, empty, combine, single-takes, single-skips, extend-takes, extend-skips}
@@ -82,7 +82,7 @@ module _ {fit : ℕ → ℕ → Bool} {pm qm : ℕ → ℕ} {z : ℕ} where
           go b X (yes p) (no q) (no s) = let i : max b 0 ≡ b = omega arith in rw i (blocked b X (omega arith) (omega arith))
 
       pub arc-best : Best fit pm qm z j (arcAt (λ x. fit x l) (λ x. fit x r) pm z (f j) (f (suc j)) j) l (suc r)
-      unfolding overAt
+      unfolding overAt overBy
       arc-best =
           by-test P (ltb j z)
           (λ a. by-test P (fit j l)

@@ -33,14 +33,15 @@ pub record IsRow (fit : ℕ → ℕ → Bool) (pm qm : ℕ → ℕ) (lo z s e : 
 unfoldable pub unitAt : (ℕ → Bool) → (ℕ → ℕ) → ℕ → ℕ → ℕ
 unitAt has pm z k = choose (ltb k z) (choose (leb (pm k) k) (choose (has k) (suc k) k) k) k
 
--- What an arc of Q takes from j with its left end, `next` being the inner row's entry for j + 1: j alone and on to `next`; or the arc of P
--- from j, if it ends before z and all between its ends is taken; or nothing.
+-- What an arc of Q takes from j with its left end, by values: whether j has the letter of the left end, whether the mate k of j has that of the right
+-- end, and the inner row's entry `next` for j + 1. It is j alone and on to `next`; or the arc of P from j, if it ends before z and all between its
+-- ends is taken; or nothing.
+unfoldable pub overBy : Bool → Bool → ℕ → ℕ → ℕ → ℕ → ℕ
+overBy left right k z next j = choose left (choose (leb k j) next (choose (ltb k z) (choose right (choose (leb k next) (suc k) 0) 0) 0)) 0
+
+-- The same in a window that ends at z; `left` and `right` say which positions have the letters of the ends.
 unfoldable pub overAt : (ℕ → Bool) → (ℕ → Bool) → (ℕ → ℕ) → ℕ → ℕ → ℕ → ℕ
-overAt left right pm z next j =
-    choose (ltb j z)
-    (choose (left j)
-    (choose (leb (pm j) j) next
-    (choose (ltb (pm j) z) (choose (right (pm j)) (choose (leb (pm j) next) (suc (pm j)) 0) 0) 0)) 0) 0
+overAt left right pm z next j = choose (ltb j z) (overBy (left j) (right (pm j)) (pm j) z next j) 0
 
 -- The entry for j of an arc of Q, from its inner row's entries `here` for j and `next` for j + 1; `left` and `right` say which positions
 -- have the letters of its ends.

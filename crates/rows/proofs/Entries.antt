@@ -6,7 +6,7 @@ use native.Mathlib.Omega.{arith}
 use lib.Dec.{ltb, leb}
 use borrow.Author.Tests.{lt-ltb, ltb-true, le-ltb, le-leb, lt-leb}
 use Rattle.strand.specs.Vocabulary.{choose}
-use Rattle.embedding.specs.Row.{unitAt, overAt}
+use Rattle.embedding.specs.Row.{unitAt, overAt, overBy}
 
 module _ (has : ℕ → Bool) (pm : ℕ → ℕ) (z k : ℕ) where
   pub unit-end : z ≤ k → unitAt has pm z k ≡ k
@@ -36,33 +36,33 @@ module _ (has : ℕ → Bool) (pm : ℕ → ℕ) (z k : ℕ) where
 
 module _ (left right : ℕ → Bool) (pm : ℕ → ℕ) (z next j : ℕ) where
   pub over-end : z ≤ j → overAt left right pm z next j ≡ 0
-  unfolding overAt choose
+  unfolding overAt overBy choose
   over-end a = rw (le-ltb j z a)
 
   module _ (a : j < z) where
     pub over-other : left j ≡ false → overAt left right pm z next j ≡ 0
-    unfolding overAt choose
+    unfolding overAt overBy choose
     over-other t = rw (lt-ltb j z a, t)
 
     module _ (t : left j ≡ true) where
       pub over-free : pm j ≤ j → overAt left right pm z next j ≡ next
-      unfolding overAt choose
+      unfolding overAt overBy choose
       over-free b = rw (lt-ltb j z a, t, le-leb (pm j) j b)
 
       pub over-far : j < pm j → z ≤ pm j → overAt left right pm z next j ≡ 0
-      unfolding overAt choose
+      unfolding overAt overBy choose
       over-far b d = rw (lt-ltb j z a, t, lt-leb (pm j) j b, le-ltb (pm j) z d)
 
       pub over-unlike : j < pm j → pm j < z → right (pm j) ≡ false → overAt left right pm z next j ≡ 0
-      unfolding overAt choose
+      unfolding overAt overBy choose
       over-unlike b d e = rw (lt-ltb j z a, t, lt-leb (pm j) j b, lt-ltb (pm j) z d, e)
 
       pub over-short : j < pm j → pm j < z → right (pm j) ≡ true → next < pm j → overAt left right pm z next j ≡ 0
-      unfolding overAt choose
+      unfolding overAt overBy choose
       over-short b d e s = rw (lt-ltb j z a, t, lt-leb (pm j) j b, lt-ltb (pm j) z d, e, lt-leb (pm j) next s)
 
       pub over-arc : j < pm j → pm j < z → right (pm j) ≡ true → pm j ≤ next → overAt left right pm z next j ≡ suc (pm j)
-      unfolding overAt choose
+      unfolding overAt overBy choose
       over-arc b d e s = rw (lt-ltb j z a, t, lt-leb (pm j) j b, lt-ltb (pm j) z d, e, le-leb (pm j) next s)
 
 -- The larger of what was found without and with the left end.

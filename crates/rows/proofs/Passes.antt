@@ -10,8 +10,8 @@ use lib.Dec.{leb}
 use lib.ListN.{length, set}
 use borrow.Author.Tests.{lt-ltb, le-ltb, le-leb, lt-leb}
 use Rattle.strand.specs.Vocabulary.{nth, choose}
-use Rattle.embedding.specs.Row.{unitAt, overAt, arcAt}
-use Rattle.rows.specs.Rows.{Written, Remade, overBy}
+use Rattle.embedding.specs.Row.{unitAt, overAt, arcAt, overBy}
+use Rattle.rows.specs.Rows.{Written, Remade}
 use Rattle.rows.proofs.Pass.{pass-set}
 
 -- The entry with the left end, case by case as the code goes.
@@ -45,7 +45,7 @@ module _ (left right : Bool) (k z next j : ℕ) where
 
 -- It is what the arc takes with its left end.
 pub by-over : (left right : ℕ → Bool) (pm : ℕ → ℕ) (z next j : ℕ) → j < z → overBy (left j) (right (pm j)) (pm j) z next j ≡ overAt left right pm z next j
-unfolding overBy overAt choose
+unfolding overAt choose
 by-over left right pm z next j a = rw (lt-ltb j z a)
 
 -- An entry beside the row, in the loop that has come to j.

@@ -1,12 +1,11 @@
 -- The size of the work slice. All else is for the contracts of this crate, trace and the matcher alone: what the row operations and the walk over the
 -- arcs of the molecule leave. Assumes nothing.
-use Prim.Native.Nat.{ℕ, suc, _+_, _-_, _*_, _/_, _%_, _^_, _≤_, _<_}
+use Prim.Native.Nat.{ℕ, _+_, _-_, _*_, _/_, _%_, _^_, _≤_, _<_}
 use mathlib.Core.Path.{_≡_}
 use mathlib.Core.Bool.{Bool, true}
 use mathlib.Core.List.{List}
 use lib.ListN.{length}
-use lib.Dec.{ltb, leb}
-use Rattle.strand.specs.Vocabulary.{nth, choose, all}
+use Rattle.strand.specs.Vocabulary.{nth, all}
 use Rattle.strand.specs.Strands.{Nested, isLetter, lettersMatch, moleculeSide}
 use Rattle.embedding.specs.Embedding.{letters}
 use Rattle.embedding.specs.Row.{IsRow, unitAt}
@@ -60,11 +59,6 @@ pub record Steps (steps : List ℕ) (z : ℕ) : Type 0 where
   pub long : z < length steps
   pub low : (k : ℕ) → k ≤ z → k ≤ nth steps k
   pub high : (k : ℕ) → k ≤ z → nth steps k ≤ k + 1
-
--- What an arc of Q takes from j with its left end, by values: whether j has the letter of the left end, whether the mate k of j has that of the right
--- end, and the inner row's entry for j + 1.
-unfoldable pub overBy : Bool → Bool → ℕ → ℕ → ℕ → ℕ → ℕ
-overBy left right k z next j = choose left (choose (leb k j) next (choose (ltb k z) (choose right (choose (leb k next) (suc k) 0) 0) 0)) 0
 
 -- The positions whose letter matches the base b.
 abbrev pub matches : List ℕ → ℕ → ℕ → Bool

@@ -9,8 +9,8 @@ ghost use lib.Dec.{leb, eqb};
 ghost use Rattle.strand.specs.Vocabulary.{nth, choose};
 ghost use mathlib.Core.Bool.{true};
 ghost use Rattle.strand.specs.Strands.{isLetter, lettersMatch, moleculeSide};
-ghost use Rattle.embedding.specs.Row.{unitAt, overAt, arcAt};
-ghost use Rattle.rows.specs.Rows.{Window, Written, Remade, Tables, Steps, overBy, matches};
+ghost use Rattle.embedding.specs.Row.{unitAt, overAt, arcAt, overBy};
+ghost use Rattle.rows.specs.Rows.{Window, Written, Remade, Tables, Steps, matches};
 
 // The larger and the smaller of two entries.
 pub fn larger(a: u16, b: u16) -> u16

@@ -158,7 +158,7 @@ module _ {fit : ℕ → ℕ → Bool} {f g : ℕ → ℕ} where
 -- The kept row.
 module _ {p pm q qm : List ℕ} where
   pub kept-none : (j t : ℕ) (work : List ℕ) → t ≤ length p → Kept p pm q qm j t (length q) work
-  kept-none j t work h = record { from = j; to = t; low = omega arith; high = omega arith; ends = h; row = λ o. absurd (omega arith) }
+  kept-none j t work h = record { from = j; to = t; low = omega arith; high = omega arith; ends = h; boxed = record { row = λ o. absurd (omega arith) } }
 
   pub kept-under : {j t stop : ℕ} {old new : List ℕ} (j′ t′ : ℕ) → j ≤ j′ → t′ ≤ t → ((k : ℕ) → k < length p + 1 → nth new k ≡ nth old k)
       → Kept p pm q qm j t stop old → Kept p pm q qm j′ t′ stop new
@@ -169,7 +169,7 @@ module _ {p pm q qm : List ℕ} where
         low = omega (arith, K .low);
         high = omega (arith, K .high);
         ends = K .ends;
-        row = λ o. row-same (λ k x y. h k (omega (arith, K .ends))) (K .row o);
+        boxed = record { row = λ o. row-same (λ k x y. h k (omega (arith, K .ends))) (K .boxed .row o) };
       }
 
   pub kept-back : {j t stop : ℕ} {work : List ℕ} (ys : List ℕ) (j′ t′ : ℕ) → j ≤ j′ → t′ ≤ t → length p + 1 ≤ length work
@@ -186,7 +186,7 @@ module _ {p pm q qm : List ℕ} where
         low = omega arith;
         high = omega arith;
         ends = h;
-        row = λ o. rw e (row-same (λ k x y. part-at (length p + 1) new le k) (R .row));
+        boxed = record { row = λ o. rw e (row-same (λ k x y. part-at (length p + 1) new le k) (R .row)) };
       }
 
   -- What the walk over the tree leaves in the part past the first row.

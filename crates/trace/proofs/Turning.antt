@@ -15,13 +15,13 @@ use borrow.Author.Tests.{ltb-true, leb-true}
 use Rattle.strand.specs.Vocabulary.{nth, choose}
 use Rattle.strand.specs.Strands.{lettersMatch}
 use Rattle.embedding.specs.Embedding.{Emb, letters}
-use Rattle.embedding.specs.Row.{Closed, Split, Best, IsRow, unitAt, overAt, arcAt}
+use Rattle.embedding.specs.Row.{Closed, Split, Best, IsRow, unitAt, overAt, arcAt, overBy}
 use Rattle.embedding.proofs.Splitting.{restrict, agree, join}
 use Rattle.embedding.proofs.Arc.{inner-closed, upon-arc}
 use Rattle.embedding.proofs.Window.{cut-to}
 use Rattle.embedding.proofs.Rows.{before-right, row-from}
 use Rattle.trace.specs.declared.turn.Turn.{Turn}
-use Rattle.rows.specs.Rows.{Setting, Tables, overBy, matches}
+use Rattle.rows.specs.Rows.{Setting, Tables, matches}
 use Rattle.trace.specs.Trace.{Turns, upon, left-end, inside, Turned, Put, Laid}
 use Rattle.rows.proofs.Entries.{over-other, over-free, over-far, over-unlike, over-short, over-arc}
 use Rattle.rows.proofs.Passes.{by-over}

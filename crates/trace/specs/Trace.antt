@@ -7,8 +7,8 @@ use mathlib.Core.List.{List}
 use lib.ListN.{length}
 use Rattle.strand.specs.Vocabulary.{nth}
 use Rattle.embedding.specs.Embedding.{Emb, letters}
-use Rattle.embedding.specs.Row.{Reach, Best, IsRow, unitAt, overAt}
-use Rattle.rows.specs.Rows.{Heavy}
+use Rattle.embedding.specs.Row.{Closed, Reach, Best, IsRow, unitAt, overAt}
+use Rattle.rows.specs.Rows.{Setting, Tables, Sealed, Heavy, Boxed}
 use Rattle.trace.specs.declared.turn.Turn.{Turn}
 
 -- The turns: upon the arc; with its left end; without its left end, and with its right end where that is taken.
@@ -61,7 +61,7 @@ pub record Kept (p pm q qm : List ℕ) (j t stop : ℕ) (work : List ℕ) : Type
   pub low : from ≤ j
   pub high : t ≤ to
   pub ends : to ≤ length p
-  pub row : stop < length q → IsRow (letters p q) (nth pm) (nth qm) from to (stop + 1) (nth qm stop) (nth work)
+  pub boxed : Boxed p pm q qm from to stop work
 
 -- Past the first row of the work slice, which is as before, is the row inside the arc (s, r) for the window P[j..t).
 pub record Ready (p pm q qm : List ℕ) (j t s r : ℕ) (old new : List ℕ) : Type 0 where
@@ -125,3 +125,26 @@ pub record LaidBut (p pm q qm : List ℕ) (j k s e a b l r : ℕ) (old new : Lis
   pub inner : Reach (letters p q) (nth pm) (nth qm) b a b l r
   pub embeds : (h : ℕ → ℕ) → ((x : ℕ) → j ≤ x → x < a → h x ≡ nth new x) → ((x : ℕ) → b ≤ x → x < k → h x ≡ nth new x)
       → Emb (letters p q) (nth pm) (nth qm) a b l r h → Emb (letters p q) (nth pm) (nth qm) j k s e h
+
+-- What the walk asks at the arc (s, r) that is the box or holds it, for the closed part P[j..to).
+pub record AtArc (p pm q qm : List ℕ) (j to s r stop places : ℕ) (work tables : List ℕ) : Type 0 where
+  pub setting : Setting p pm q qm j to
+  pub closed : (j < to) × Closed (nth pm) j to
+  pub ends : (s < r) × ((r < length q) × (nth qm s ≡ r))
+  pub box : (stop ≤ length q) × (stop < length q → Below qm stop s)
+  pub kept : Kept p pm q qm j to stop work
+  pub room : to ≤ places
+  pub levels : Levels (length p + 1) (r - (s + 1)) (r - (s + 1) - (nth qm stop - stop)) (length work)
+  pub tables-of : Tables p pm tables
+
+-- What the walk asks that places the part P[j..t) in Q[s..hi), where an arc begins at s and the box, if there is one, is that arc or in it.
+pub record FromArc (p pm q qm : List ℕ) (j t s hi stop places : ℕ) (work tables : List ℕ) : Type 0 where
+  pub setting : Setting p pm q qm j t
+  pub order : (j < t) × ((s < hi) × (hi ≤ length q))
+  pub reach : Reach (letters p q) (nth pm) (nth qm) t j t s hi
+  pub arc : Sealed qm s hi × (s < nth qm s)
+  pub box : (stop ≤ length q) × (stop < length q → Below qm stop s)
+  pub kept : Kept p pm q qm j t stop work
+  pub room : t ≤ places
+  pub levels : Levels (length p + 1) (hi - s) (hi - s - (nth qm stop - stop)) (length work)
+  pub tables-of : Tables p pm tables

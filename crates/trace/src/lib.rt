@@ -14,7 +14,7 @@ ghost use Rattle.strand.specs.Vocabulary.{nth};
 ghost use Rattle.embedding.specs.Row.{Best, Reach, Closed};
 ghost use Rattle.embedding.specs.Embedding.{letters};
 ghost use Rattle.rows.specs.Rows.{Setting, Tables, Sealed, workSize};
-ghost use Rattle.trace.specs.Trace.{Laid, Kept, Below, OnPath, Levels, ArcLevels, LaidBut};
+ghost use Rattle.trace.specs.Trace.{Laid, Kept, Below, OnPath, Levels, ArcLevels, LaidBut, FromArc, AtArc};
 
 // Writes the places of from.. as far as the motif up to `to` is taken by lo..hi, and gives how far that is.
 fn place(
@@ -112,14 +112,7 @@ fn enter(
     work: &mut [u16],
     tables: &[u16],
 ) -> Turn
-    requires { ⌜ Setting (now p) (now pm) (now q) (now qm) j to ⌝ }
-    requires { ⌜ (j < to) × Closed (nth (now pm)) j to ⌝ }
-    requires { ⌜ (s < r) × ((r < length (now q)) × (nth (now qm) s ≡ r)) ⌝ }
-    requires { ⌜ (stop ≤ length (now q)) × (stop < length (now q) → Below (now qm) stop s) ⌝ }
-    requires { ⌜ Kept (now p) (now pm) (now q) (now qm) j to stop (now work) ⌝ }
-    requires { ⌜ to ≤ length (now places) ⌝ }
-    requires { ⌜ Levels (length (now p) + 1) (r - (s + 1)) (r - (s + 1) - (nth (now qm) stop - stop)) (length (now work)) ⌝ }
-    requires { ⌜ Tables (now p) (now pm) (now tables) ⌝ }
+    requires { ⌜ AtArc (now p) (now pm) (now q) (now qm) j to s r stop (length (now places)) (now work) (now tables) ⌝ }
     ensures { λ t. ⌜ Best (letters (now (p .entry)) (now (q .entry))) (nth (now (pm .entry))) (nth (now (qm .entry))) to j (t .next) s (r + 1) ⌝ }
     ensures { λ t. ⌜ LaidBut (now (p .entry)) (now (pm .entry)) (now (q .entry)) (now (qm .entry)) j (t .next) s (r + 1) (t .start) (t .stop) (stop + 1) (nth (now (qm .entry)) stop) (now (places .entry)) (now (places .exit)) ⌝ }
 {
@@ -163,15 +156,7 @@ fn past(
     work: &mut [u16],
     tables: &[u16],
 ) -> Part
-    requires { ⌜ Setting (now p) (now pm) (now q) (now qm) j t ⌝ }
-    requires { ⌜ (j < t) × ((s < hi) × (hi ≤ length (now q))) ⌝ }
-    requires { ⌜ Reach (letters (now p) (now q)) (nth (now pm)) (nth (now qm)) t j t s hi ⌝ }
-    requires { ⌜ Sealed (now qm) s hi × (s < nth (now qm) s) ⌝ }
-    requires { ⌜ (stop ≤ length (now q)) × (stop < length (now q) → Below (now qm) stop s) ⌝ }
-    requires { ⌜ Kept (now p) (now pm) (now q) (now qm) j t stop (now work) ⌝ }
-    requires { ⌜ t ≤ length (now places) ⌝ }
-    requires { ⌜ Levels (length (now p) + 1) (hi - s) (hi - s - (nth (now qm) stop - stop)) (length (now work)) ⌝ }
-    requires { ⌜ Tables (now p) (now pm) (now tables) ⌝ }
+    requires { ⌜ FromArc (now p) (now pm) (now q) (now qm) j t s hi stop (length (now places)) (now work) (now tables) ⌝ }
     ensures { λ b. ⌜ LaidBut (now (p .entry)) (now (pm .entry)) (now (q .entry)) (now (qm .entry)) j t s hi (b .start) (b .stop) (stop + 1) (nth (now (qm .entry)) stop) (now (places .entry)) (now (places .exit)) ⌝ }
 {
     let r = tree::mate(qm, s);
@@ -202,15 +187,7 @@ fn along(
     work: &mut [u16],
     tables: &[u16],
 ) -> Part
-    requires { ⌜ Setting (now p) (now pm) (now q) (now qm) j t ⌝ }
-    requires { ⌜ (j < t) × ((s < hi) × (hi ≤ length (now q))) ⌝ }
-    requires { ⌜ Reach (letters (now p) (now q)) (nth (now pm)) (nth (now qm)) t j t s hi ⌝ }
-    requires { ⌜ Sealed (now qm) s hi × (s < nth (now qm) s) ⌝ }
-    requires { ⌜ (stop ≤ length (now q)) × (stop < length (now q) → Below (now qm) stop s) ⌝ }
-    requires { ⌜ Kept (now p) (now pm) (now q) (now qm) j t stop (now work) ⌝ }
-    requires { ⌜ t ≤ length (now places) ⌝ }
-    requires { ⌜ Levels (length (now p) + 1) (hi - s) (hi - s - (nth (now qm) stop - stop)) (length (now work)) ⌝ }
-    requires { ⌜ Tables (now p) (now pm) (now tables) ⌝ }
+    requires { ⌜ FromArc (now p) (now pm) (now q) (now qm) j t s hi stop (length (now places)) (now work) (now tables) ⌝ }
     ensures { λ b. ⌜ LaidBut (now (p .entry)) (now (pm .entry)) (now (q .entry)) (now (qm .entry)) j t s hi (b .start) (b .stop) (stop + 1) (nth (now (qm .entry)) stop) (now (places .entry)) (now (places .exit)) ⌝ }
 {
     let w = p.len() + 1;

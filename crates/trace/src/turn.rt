@@ -36,16 +36,9 @@ fn choose_turn(
     ensures { λ t. ⌜ Turns (matches (now (p .entry)) x) (matches (now (p .entry)) y) (nth (now (pm .entry))) to j here next t ⌝ }
 {
     let both = row::unit(p, pm, to, here as usize, y);
-    let over = row::over_entry(
-        p[j],
-        x,
-        pm[j],
-        j as u16,
-        to as u16,
-        tables[j],
-        y as u16,
-        next,
-    ) as usize;
+    let z = to as u16;
+    let d = tables[j];
+    let over = row::over_entry(p[j], x, pm[j], j as u16, z, d, y as u16, next) as usize;
     if over <= both {
         return Turn {
             start: j,

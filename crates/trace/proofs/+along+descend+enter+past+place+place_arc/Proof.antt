@@ -112,7 +112,7 @@ along-add-w : (t : ℕ) → along-lts.Need-add-w (
   descend-below t,
   descend.Post,
 ) (along-at t) along.Post
-along-add-w t c = omega (arith, (c .before .before .before .before .before .before .before .pre) .1 .0 .window .small)
+along-add-w t c = omega (arith, ((c .before .before .before .before .before .before .before .pre) .1) .setting .window .small)
 
 along-sub-middle : (t : ℕ) → along-lts.Need-sub-middle (
   middle-reads.Asked,
@@ -128,7 +128,7 @@ along-sub-middle : (t : ℕ) → along-lts.Need-sub-middle (
   descend-below t,
   descend.Post,
 ) (along-at t) along.Post
-along-sub-middle t c = omega (arith, (c .before .before .before .before .before .before .before .pre) .1 .1 .0)
+along-sub-middle t c = omega (arith, ((c .before .before .before .before .before .before .before .pre) .1) .order)
 
 along-middle-requires : (t : ℕ) → along-lts.Need-middle-requires (
   middle-reads.Asked,
@@ -144,7 +144,7 @@ along-middle-requires : (t : ℕ) → along-lts.Need-middle-requires (
   descend-below t,
   descend.Post,
 ) (along-at t) along.Post
-along-middle-requires t c κs = (nested-mates ((c .before .before .before .before .before .before .before .pre) .1 .0), (((c .before .before .before .before .before .before .before .pre) .1 .1 .0 .1 .0, (omega (arith, (c .before .before .before .before .before .before .before .pre) .1 .0 .equal, (c .before .before .before .before .before .before .before .pre) .1 .1 .0), (c .before .before .before .before .before .before .before .pre) .1 .1 .1 .1 .0 .1)), (omega (arith, (c .before .before .before .before .before .before .before .pre) .1 .0 .window .ends, (c .before .before .before .before .before .before .before .pre) .1 .0 .window .small), omega (arith, (c .before .before .before .before .before .before .before .pre) .1 .0 .equal, (c .before .before .before .before .before .before .before .pre) .1 .0 .short))))
+along-middle-requires t c κs = (nested-mates (((c .before .before .before .before .before .before .before .pre) .1) .setting), ((((c .before .before .before .before .before .before .before .pre) .1) .order .1 .0, (omega (arith, ((c .before .before .before .before .before .before .before .pre) .1) .setting .equal, ((c .before .before .before .before .before .before .before .pre) .1) .order), ((c .before .before .before .before .before .before .before .pre) .1) .arc .1)), (omega (arith, ((c .before .before .before .before .before .before .before .pre) .1) .setting .window .ends, ((c .before .before .before .before .before .before .before .pre) .1) .setting .window .small), omega (arith, ((c .before .before .before .before .before .before .before .pre) .1) .setting .equal, ((c .before .before .before .before .before .before .before .pre) .1) .setting .short))))
 
 along-past-requires : (t : ℕ) → along-lts.Need-past-requires (
   middle-reads.Asked,
@@ -160,7 +160,7 @@ along-past-requires : (t : ℕ) → along-lts.Need-past-requires (
   descend-below t,
   descend.Post,
 ) (along-at t) along.Post
-along-past-requires t c κs = (omega (arith, (c .before .before .before .before .before .before .before .before .before .before .before .pre) .0), ((c .before .before .before .before .before .before .before .before .before .before .before .pre) .1 .0, ((c .before .before .before .before .before .before .before .before .before .before .before .pre) .1 .1 .0, ((c .before .before .before .before .before .before .before .before .before .before .before .pre) .1 .1 .1 .0, ((c .before .before .before .before .before .before .before .before .before .before .before .pre) .1 .1 .1 .1 .0, ((c .before .before .before .before .before .before .before .before .before .before .before .pre) .1 .1 .1 .1 .1 .0, ((c .before .before .before .before .before .before .before .before .before .before .before .pre) .1 .1 .1 .1 .1 .1 .0, ((c .before .before .before .before .before .before .before .before .before .before .before .pre) .1 .1 .1 .1 .1 .1 .1 .0, ((c .before .before .before .before .before .before .before .before .before .before .before .pre) .1 .1 .1 .1 .1 .1 .1 .1 .0, (c .before .before .before .before .before .before .before .before .before .before .before .pre) .1 .1 .1 .1 .1 .1 .1 .1 .1)))))))))
+along-past-requires t c κs = (omega (arith, (c .before .before .before .before .before .before .before .before .before .before .before .pre) .0), record { setting = ((c .before .before .before .before .before .before .before .before .before .before .before .pre) .1) .setting; order = ((c .before .before .before .before .before .before .before .before .before .before .before .pre) .1) .order; reach = ((c .before .before .before .before .before .before .before .before .before .before .before .pre) .1) .reach; arc = ((c .before .before .before .before .before .before .before .before .before .before .before .pre) .1) .arc; box = ((c .before .before .before .before .before .before .before .before .before .before .before .pre) .1) .box; kept = ((c .before .before .before .before .before .before .before .before .before .before .before .pre) .1) .kept; room = ((c .before .before .before .before .before .before .before .before .before .before .before .pre) .1) .room; levels = ((c .before .before .before .before .before .before .before .before .before .before .before .pre) .1) .levels; tables-of = ((c .before .before .before .before .before .before .before .before .before .before .before .pre) .1) .tables-of })
 
 along-same-length : (t : ℕ) → along-lts.Need-same-length (
   middle-reads.Asked,
@@ -224,7 +224,7 @@ along-mate-requires : (t : ℕ) → along-lts.Need-mate-requires (
   descend-below t,
   descend.Post,
 ) (along-at t) along.Post
-along-mate-requires t c κs = omega (arith, (c .before .before .before .before .before .before .before .before .before .pre) .1 .0 .equal, (c .before .middle) .ensures .arc, (c .before .middle) .ensures .high, (c .before .before .before .before .before .before .before .before .before .pre) .1 .0 .molecule .inside ((c .before .before .before .before .before .before .before .before .before .args) .s) (omega (arith, (c .before .before .before .before .before .before .before .before .before .pre) .1 .1 .0)))
+along-mate-requires t c κs = omega (arith, ((c .before .before .before .before .before .before .before .before .before .pre) .1) .setting .equal, (c .before .middle) .ensures .arc, (c .before .middle) .ensures .high, ((c .before .before .before .before .before .before .before .before .before .pre) .1) .setting .molecule .inside ((c .before .before .before .before .before .before .before .before .before .args) .s) (omega (arith, ((c .before .before .before .before .before .before .before .before .before .pre) .1) .order)))
 
 along-keep-requires : (t : ℕ) → along-lts.Need-keep-requires (
   middle-reads.Asked,
@@ -240,7 +240,7 @@ along-keep-requires : (t : ℕ) → along-lts.Need-keep-requires (
   descend-below t,
   descend.Post,
 ) (along-at t) along.Post
-along-keep-requires t c κs = ((c .before .before .before .before .before .before .before .before .before .before .before .pre) .1 .0, ((c .before .before .before .before .before .before .before .before .before .before .before .pre) .1 .1 .1 .0 .closed, ((omega (arith, (c .before .mate) .ensures, (c .before .before .before .middle) .ensures .arc), (omega (arith, (c .before .mate) .ensures, (c .before .before .before .middle) .ensures .arc, (c .before .before .before .middle) .ensures .high, (c .before .before .before .before .before .before .before .before .before .before .before .pre) .1 .0 .molecule .inside ((c .before .before .before .before .before .before .before .before .before .before .before .args) .s) (omega (arith, (c .before .before .before .before .before .before .before .before .before .before .before .pre) .1 .1 .0))), sym ((c .before .mate) .ensures))), ((c .before .before .before .before .before .before .before .before .before .before .before .pre) .1 .1 .1 .1 .1 .1 .0, (levels-least ((c .before .before .before .before .before .before .before .before .before .before .before .pre) .1 .1 .1 .1 .1 .1 .1 .1 .0), (c .before .before .before .before .before .before .before .before .before .before .before .pre) .1 .1 .1 .1 .1 .1 .1 .1 .1)))))
+along-keep-requires t c κs = (((c .before .before .before .before .before .before .before .before .before .before .before .pre) .1) .setting, (((c .before .before .before .before .before .before .before .before .before .before .before .pre) .1) .reach .closed, ((omega (arith, (c .before .mate) .ensures, (c .before .before .before .middle) .ensures .arc), (omega (arith, (c .before .mate) .ensures, (c .before .before .before .middle) .ensures .arc, (c .before .before .before .middle) .ensures .high, ((c .before .before .before .before .before .before .before .before .before .before .before .pre) .1) .setting .molecule .inside ((c .before .before .before .before .before .before .before .before .before .before .before .args) .s) (omega (arith, ((c .before .before .before .before .before .before .before .before .before .before .before .pre) .1) .order))), sym ((c .before .mate) .ensures))), (((c .before .before .before .before .before .before .before .before .before .before .before .pre) .1) .kept, (levels-least (((c .before .before .before .before .before .before .before .before .before .before .before .pre) .1) .levels), ((c .before .before .before .before .before .before .before .before .before .before .before .pre) .1) .tables-of)))))
 
 along-mul-part : (t : ℕ) → along-lts.Need-mul-part (
   middle-reads.Asked,
@@ -256,7 +256,7 @@ along-mul-part : (t : ℕ) → along-lts.Need-mul-part (
   descend-below t,
   descend.Post,
 ) (along-at t) along.Post
-along-mul-part t c = omega (arith, levels-least ((c .before .before .before .before .before .before .before .before .before .before .before .before .before .before .pre) .1 .1 .1 .1 .1 .1 .1 .1 .0), (c .before .before .keep) .kept .1 .1 .1 .1 .1 .1 .1 .1 .1 .0, (c .before .before .before .before .before .before .before .before .before .before .before .before .before .before .pre) .1 .0 .window .small)
+along-mul-part t c = omega (arith, levels-least (((c .before .before .before .before .before .before .before .before .before .before .before .before .before .before .pre) .1) .levels), (c .before .before .keep) .kept .1 .1 .1 .1 .1 .1 .1 .1 .1 .0, ((c .before .before .before .before .before .before .before .before .before .before .before .before .before .before .pre) .1) .setting .window .small)
 
 along-sub-part : (t : ℕ) → along-lts.Need-sub-part (
   middle-reads.Asked,
@@ -272,7 +272,7 @@ along-sub-part : (t : ℕ) → along-lts.Need-sub-part (
   descend-below t,
   descend.Post,
 ) (along-at t) along.Post
-along-sub-part t c = omega (arith, levels-least ((c .before .before .before .before .before .before .before .before .before .before .before .before .before .before .pre) .1 .1 .1 .1 .1 .1 .1 .1 .0), (c .before .before .keep) .kept .1 .1 .1 .1 .1 .1 .1 .1 .1 .0, (c .before .before .before .before .before .before .before .before .before .before .before .before .before .before .pre) .1 .0 .window .small)
+along-sub-part t c = omega (arith, levels-least (((c .before .before .before .before .before .before .before .before .before .before .before .before .before .before .pre) .1) .levels), (c .before .before .keep) .kept .1 .1 .1 .1 .1 .1 .1 .1 .1 .0, ((c .before .before .before .before .before .before .before .before .before .before .before .before .before .before .pre) .1) .setting .window .small)
 
 along-part-part-start : (t : ℕ) → along-lts.Need-part-part-start (
   middle-reads.Asked,
@@ -288,7 +288,7 @@ along-part-part-start : (t : ℕ) → along-lts.Need-part-part-start (
   descend-below t,
   descend.Post,
 ) (along-at t) along.Post
-along-part-part-start t c = omega (arith, levels-least ((c .before .before .before .before .before .before .before .before .before .before .before .before .before .before .pre) .1 .1 .1 .1 .1 .1 .1 .1 .0), (c .before .before .keep) .kept .1 .1 .1 .1 .1 .1 .1 .1 .1 .0, (c .before .before .before .before .before .before .before .before .before .before .before .before .before .before .pre) .1 .0 .window .small)
+along-part-part-start t c = omega (arith, levels-least (((c .before .before .before .before .before .before .before .before .before .before .before .before .before .before .pre) .1) .levels), (c .before .before .keep) .kept .1 .1 .1 .1 .1 .1 .1 .1 .1 .0, ((c .before .before .before .before .before .before .before .before .before .before .before .before .before .before .pre) .1) .setting .window .small)
 
 along-part-part-end : (t : ℕ) → along-lts.Need-part-part-end (
   middle-reads.Asked,
@@ -304,7 +304,7 @@ along-part-part-end : (t : ℕ) → along-lts.Need-part-part-end (
   descend-below t,
   descend.Post,
 ) (along-at t) along.Post
-along-part-part-end t c = omega (arith, levels-least ((c .before .before .before .before .before .before .before .before .before .before .before .before .before .before .pre) .1 .1 .1 .1 .1 .1 .1 .1 .0), (c .before .before .keep) .kept .1 .1 .1 .1 .1 .1 .1 .1 .1 .0, (c .before .before .before .before .before .before .before .before .before .before .before .before .before .before .pre) .1 .0 .window .small)
+along-part-part-end t c = omega (arith, levels-least (((c .before .before .before .before .before .before .before .before .before .before .before .before .before .before .pre) .1) .levels), (c .before .before .keep) .kept .1 .1 .1 .1 .1 .1 .1 .1 .1 .0, ((c .before .before .before .before .before .before .before .before .before .before .before .before .before .before .pre) .1) .setting .window .small)
 
 along-along-requires : (t : ℕ) → along-lts.Need-along-requires (
   middle-reads.Asked,
@@ -320,7 +320,7 @@ along-along-requires : (t : ℕ) → along-lts.Need-along-requires (
   descend-below t,
   descend.Post,
 ) (along-at t) along.Post
-along-along-requires t c κs = (omega (arith, (c .before .before .before .before .before .before .before .before .before .before .before .before .before .before .before .before .pre) .0, (c .before .before .before .before .before .before .before .before .middle) .ensures .before ((c .before .before .before .before .before .before .before .if1) .left), (c .before .before .before .before .before .before .before .if1) .left), ((c .before .before .before .before .before .before .before .before .before .before .before .before .before .before .before .before .pre) .1 .0, ((c .before .before .before .before .before .before .before .before .before .before .before .before .before .before .before .before .pre) .1 .1 .0, ((c .before .before .before .before .before .before .before .before .before .before .before .before .before .before .before .before .pre) .1 .1 .1 .0, ((c .before .before .before .before .before .before .before .before .before .before .before .before .before .before .before .before .pre) .1 .1 .1 .1 .0, ((omega (arith, (c .before .before .before .before .before .before .before .before .middle) .ensures .arc, (c .before .before .before .before .before .before .before .before .middle) .ensures .high, (c .before .before .before .before .before .before .before .before .before .before .before .before .before .before .before .before .pre) .1 .0 .molecule .inside ((c .before .before .before .before .before .before .before .before .before .before .before .before .before .before .before .before .args) .s) (omega (arith, (c .before .before .before .before .before .before .before .before .before .before .before .before .before .before .before .before .pre) .1 .1 .0))), λ o. (c .before .before .before .before .before .before .before .before .middle) .ensures .path), (kept-part ((c .before .before .before .before .before .before .before .before .before .before .before .before .before .before .before .before .pre) .1 .0 .window .ends) (sym ((c .before .before .before .before .before .before .mate) .ensures)) (omega (arith, levels-least ((c .before .before .before .before .before .before .before .before .before .before .before .before .before .before .before .before .pre) .1 .1 .1 .1 .1 .1 .1 .1 .0), (c .before .before .before .before .keep) .kept .1 .1 .1 .1 .1 .1 .1 .1 .1 .0)) ((c .before .before .before .before .keep) .ensures), ((c .before .before .before .before .before .before .before .before .before .before .before .before .before .before .before .before .pre) .1 .1 .1 .1 .1 .1 .1 .0, (levels-half (nth ((c .before .before .before .before .before .before .before .before .before .before .before .before .before .before .before .before .args) .qm .now) ((c .before .before .before .before .before .before .before .before .before .before .before .before .before .before .before .before .args) .stop) - (c .before .before .before .before .before .before .before .before .before .before .before .before .before .before .before .before .args) .stop) (nth ((c .before .before .before .before .before .before .before .before .before .before .before .before .before .before .before .before .args) .qm .now) ((c .before .before .before .before .before .before .before .before .middle) .result) - (c .before .before .before .before .before .before .before .before .middle) .result) _ ((c .before .before .before .before .before .before .before .before .middle) .ensures .half ((c .before .before .before .before .before .before .before .if1) .left)) (omega (arith, (c .before .before .before .before .before .before .before .before .middle) .ensures .high, (c .before .before .before .before .before .before .before .before .middle) .ensures .arc, (c .before .before .before .before .before .before .before .before .before .before .before .before .before .before .before .before .pre) .1 .1 .1 .1 .0 .0 .high ((c .before .before .before .before .before .before .before .before .before .before .before .before .before .before .before .before .args) .s) (omega arith) ((c .before .before .before .before .before .before .before .before .before .before .before .before .before .before .before .before .pre) .1 .1 .0 .1 .0), (c .before .before .before .before .before .before .before .if1) .left)) (omega (arith, part-length (length ((c .before .before .before .before .before .before .before .before .before .before .before .before .before .before .before .before .args) .p .now) + 1) ((c .before .before .before .before .keep) .last .1 .1 .1 .1 .1 .1 .1 .1 .1 .0) (omega (arith, levels-least ((c .before .before .before .before .before .before .before .before .before .before .before .before .before .before .before .before .pre) .1 .1 .1 .1 .1 .1 .1 .1 .0), (c .before .before .before .before .keep) .kept .1 .1 .1 .1 .1 .1 .1 .1 .1 .0)), (c .before .before .before .before .keep) .kept .1 .1 .1 .1 .1 .1 .1 .1 .1 .0)) ((c .before .before .before .before .before .before .before .before .before .before .before .before .before .before .before .before .pre) .1 .1 .1 .1 .1 .1 .1 .1 .0), (c .before .before .before .before .before .before .before .before .before .before .before .before .before .before .before .before .pre) .1 .1 .1 .1 .1 .1 .1 .1 .1)))))))))
+along-along-requires t c κs = (omega (arith, (c .before .before .before .before .before .before .before .before .before .before .before .before .before .before .before .before .pre) .0, (c .before .before .before .before .before .before .before .before .middle) .ensures .before ((c .before .before .before .before .before .before .before .if1) .left), (c .before .before .before .before .before .before .before .if1) .left), record { setting = ((c .before .before .before .before .before .before .before .before .before .before .before .before .before .before .before .before .pre) .1) .setting; order = ((c .before .before .before .before .before .before .before .before .before .before .before .before .before .before .before .before .pre) .1) .order; reach = ((c .before .before .before .before .before .before .before .before .before .before .before .before .before .before .before .before .pre) .1) .reach; arc = ((c .before .before .before .before .before .before .before .before .before .before .before .before .before .before .before .before .pre) .1) .arc; box = (omega (arith, (c .before .before .before .before .before .before .before .before .middle) .ensures .arc, (c .before .before .before .before .before .before .before .before .middle) .ensures .high, ((c .before .before .before .before .before .before .before .before .before .before .before .before .before .before .before .before .pre) .1) .setting .molecule .inside ((c .before .before .before .before .before .before .before .before .before .before .before .before .before .before .before .before .args) .s) (omega (arith, ((c .before .before .before .before .before .before .before .before .before .before .before .before .before .before .before .before .pre) .1) .order))), λ o. (c .before .before .before .before .before .before .before .before .middle) .ensures .path); kept = kept-part (((c .before .before .before .before .before .before .before .before .before .before .before .before .before .before .before .before .pre) .1) .setting .window .ends) (sym ((c .before .before .before .before .before .before .mate) .ensures)) (omega (arith, levels-least (((c .before .before .before .before .before .before .before .before .before .before .before .before .before .before .before .before .pre) .1) .levels), (c .before .before .before .before .keep) .kept .1 .1 .1 .1 .1 .1 .1 .1 .1 .0)) ((c .before .before .before .before .keep) .ensures); room = ((c .before .before .before .before .before .before .before .before .before .before .before .before .before .before .before .before .pre) .1) .room; levels = levels-half (nth ((c .before .before .before .before .before .before .before .before .before .before .before .before .before .before .before .before .args) .qm .now) ((c .before .before .before .before .before .before .before .before .before .before .before .before .before .before .before .before .args) .stop) - (c .before .before .before .before .before .before .before .before .before .before .before .before .before .before .before .before .args) .stop) (nth ((c .before .before .before .before .before .before .before .before .before .before .before .before .before .before .before .before .args) .qm .now) ((c .before .before .before .before .before .before .before .before .middle) .result) - (c .before .before .before .before .before .before .before .before .middle) .result) _ ((c .before .before .before .before .before .before .before .before .middle) .ensures .half ((c .before .before .before .before .before .before .before .if1) .left)) (omega (arith, (c .before .before .before .before .before .before .before .before .middle) .ensures .high, (c .before .before .before .before .before .before .before .before .middle) .ensures .arc, ((c .before .before .before .before .before .before .before .before .before .before .before .before .before .before .before .before .pre) .1) .arc .0 .high ((c .before .before .before .before .before .before .before .before .before .before .before .before .before .before .before .before .args) .s) (omega arith) (((c .before .before .before .before .before .before .before .before .before .before .before .before .before .before .before .before .pre) .1) .order .1 .0), (c .before .before .before .before .before .before .before .if1) .left)) (omega (arith, part-length (length ((c .before .before .before .before .before .before .before .before .before .before .before .before .before .before .before .before .args) .p .now) + 1) ((c .before .before .before .before .keep) .last .1 .1 .1 .1 .1 .1 .1 .1 .1 .0) (omega (arith, levels-least (((c .before .before .before .before .before .before .before .before .before .before .before .before .before .before .before .before .pre) .1) .levels), (c .before .before .before .before .keep) .kept .1 .1 .1 .1 .1 .1 .1 .1 .1 .0)), (c .before .before .before .before .keep) .kept .1 .1 .1 .1 .1 .1 .1 .1 .1 .0)) (((c .before .before .before .before .before .before .before .before .before .before .before .before .before .before .before .before .pre) .1) .levels); tables-of = ((c .before .before .before .before .before .before .before .before .before .before .before .before .before .before .before .before .pre) .1) .tables-of })
 
 along-add-descend : (t : ℕ) → along-lts.Need-add-descend (
   middle-reads.Asked,
@@ -336,7 +336,7 @@ along-add-descend : (t : ℕ) → along-lts.Need-add-descend (
   descend-below t,
   descend.Post,
 ) (along-at t) along.Post
-along-add-descend t c = omega (arith, (c .before .before .before .before .before .before .before .before .before .before .before .before .before .middle) .ensures .arc, (c .before .before .before .before .before .before .before .before .before .before .before .before .before .middle) .ensures .high, (c .before .before .before .before .before .before .before .before .before .before .before .before .before .before .before .before .before .before .before .before .before .pre) .1 .0 .molecule .inside ((c .before .before .before .before .before .before .before .before .before .before .before .before .before .before .before .before .before .before .before .before .before .args) .s) (omega (arith, (c .before .before .before .before .before .before .before .before .before .before .before .before .before .before .before .before .before .before .before .before .before .pre) .1 .1 .0)), (c .before .before .before .before .before .before .before .before .before .before .before .before .before .before .before .before .before .before .before .before .before .pre) .1 .0 .short)
+along-add-descend t c = omega (arith, (c .before .before .before .before .before .before .before .before .before .before .before .before .before .middle) .ensures .arc, (c .before .before .before .before .before .before .before .before .before .before .before .before .before .middle) .ensures .high, ((c .before .before .before .before .before .before .before .before .before .before .before .before .before .before .before .before .before .before .before .before .before .pre) .1) .setting .molecule .inside ((c .before .before .before .before .before .before .before .before .before .before .before .before .before .before .before .before .before .before .before .before .before .args) .s) (omega (arith, ((c .before .before .before .before .before .before .before .before .before .before .before .before .before .before .before .before .before .before .before .before .before .pre) .1) .order)), ((c .before .before .before .before .before .before .before .before .before .before .before .before .before .before .before .before .before .before .before .before .before .pre) .1) .setting .short)
 
 along-descend-requires : (t : ℕ) → along-lts.Need-descend-requires (
   middle-reads.Asked,
@@ -352,7 +352,7 @@ along-descend-requires : (t : ℕ) → along-lts.Need-descend-requires (
   descend-below t,
   descend.Post,
 ) (along-at t) along.Post
-along-descend-requires t c κs = (omega (arith, (c .before .before .before .before .before .before .before .before .before .before .before .before .before .before .before .before .before .before .before .before .before .before .before .pre) .0, (c .before .before .before .before .before .before .before .before .before .before .before .before .before .mate) .ensures, (c .before .before .before .before .before .before .before .before .before .before .before .before .before .before .before .middle) .ensures .high, (c .before .before .before .before .before .before .before .before .before .before .before .before .before .before .before .middle) .ensures .arc, (c .before .before .before .before .before .before .before .before .before .before .before .before .before .before .if1) .left, (c .before .before .before .before .before .before .before .before .before .before .before .before .before .before .before .before .before .before .before .before .before .before .before .pre) .1 .1 .1 .1 .0 .0 .high ((c .before .before .before .before .before .before .before .before .before .before .before .before .before .before .before .before .before .before .before .before .before .before .before .args) .s) (omega arith) ((c .before .before .before .before .before .before .before .before .before .before .before .before .before .before .before .before .before .before .before .before .before .before .before .pre) .1 .1 .0 .1 .0)), (narrow _ _ ((c .before .before .before .before .before .before .before .before .before .before .before .before .before .before .before .before .before .before .before .before .before .before .before .pre) .1 .0) ((c .before .before .before .before .before .before .along) .ensures .inner .from) (omega (arith, (c .before .before .before .before .before .before .along) .ensures .high, (c .before .before .before .before .before .before .before .before .before .before .before .before .before .before .before .before .before .before .before .before .before .before .before .pre) .1 .0 .window .ends)), ((omega (arith, (c .before .before .before .before .before .before .before .before .before .before .before .before .before .mate) .ensures, (c .before .before .before .before .before .before .before .before .before .before .before .before .before .before .before .middle) .ensures .arc), omega (arith, (c .before .before .before .before .before .before .before .before .before .before .before .before .before .mate) .ensures, (c .before .before .before .before .before .before .before .before .before .before .before .before .before .before .before .middle) .ensures .arc, (c .before .before .before .before .before .before .before .before .before .before .before .before .before .before .before .middle) .ensures .high, (c .before .before .before .before .before .before .before .before .before .before .before .before .before .before .before .before .before .before .before .before .before .before .before .pre) .1 .0 .molecule .inside ((c .before .before .before .before .before .before .before .before .before .before .before .before .before .before .before .before .before .before .before .before .before .before .before .args) .s) (omega (arith, (c .before .before .before .before .before .before .before .before .before .before .before .before .before .before .before .before .before .before .before .before .before .before .before .pre) .1 .1 .0)))), (reach-to _ ((c .before .before .before .before .before .before .before .before .before .before .before .before .before .mate) .ensures) ((c .before .before .before .before .before .before .along) .ensures .inner), (inner-sealed ((c .before .before .before .before .before .before .before .before .before .before .before .before .before .before .before .before .before .before .before .before .before .before .before .pre) .1 .0 .molecule) _ _ (omega (arith, (c .before .before .before .before .before .before .before .before .before .before .before .before .before .mate) .ensures, (c .before .before .before .before .before .before .before .before .before .before .before .before .before .before .before .middle) .ensures .arc)) (omega (arith, (c .before .before .before .before .before .before .before .before .before .before .before .before .before .mate) .ensures, (c .before .before .before .before .before .before .before .before .before .before .before .before .before .before .before .middle) .ensures .arc, (c .before .before .before .before .before .before .before .before .before .before .before .before .before .before .before .middle) .ensures .high, (c .before .before .before .before .before .before .before .before .before .before .before .before .before .before .before .before .before .before .before .before .before .before .before .pre) .1 .0 .molecule .inside ((c .before .before .before .before .before .before .before .before .before .before .before .before .before .before .before .before .before .before .before .before .before .before .before .args) .s) (omega (arith, (c .before .before .before .before .before .before .before .before .before .before .before .before .before .before .before .before .before .before .before .before .before .before .before .pre) .1 .1 .0)))) (sym ((c .before .before .before .before .before .before .before .before .before .before .before .before .before .mate) .ensures)), (((c .before .before .before .before .before .before .before .before .before .before .before .before .before .before .before .before .before .before .before .before .before .before .before .pre) .1 .1 .1 .1 .1 .0 .0, λ o. below-next (sym ((c .before .before .before .before .before .before .before .before .before .before .before .before .before .mate) .ensures)) ((c .before .before .before .before .before .before .before .before .before .before .before .before .before .before .before .middle) .ensures .under ((c .before .before .before .before .before .before .before .before .before .before .before .before .before .before .before .before .before .before .before .before .before .before .before .pre) .1 .1 .1 .1 .1 .0 .1 o)) (λ i. omega (arith, i, (c .before .before .before .before .before .before .before .before .before .before .before .before .before .before .before .middle) .ensures .before ((c .before .before .before .before .before .before .before .before .before .before .before .before .before .before .if1) .left)))), (kept-back ((c .before .before .before .before .before .before .along) .last .1 .1 .1 .1 .1 .1 .1 .1 .1 .1 .0) _ _ ((c .before .before .before .before .before .before .along) .ensures .low) ((c .before .before .before .before .before .before .along) .ensures .high) (omega (arith, levels-least ((c .before .before .before .before .before .before .before .before .before .before .before .before .before .before .before .before .before .before .before .before .before .before .before .pre) .1 .1 .1 .1 .1 .1 .1 .1 .0), (c .before .before .before .before .before .before .before .before .before .before .before .keep) .kept .1 .1 .1 .1 .1 .1 .1 .1 .1 .0)) (kept-under ((c .before .before .before .before .before .before .before .before .before .before .before .before .before .before .before .before .before .before .before .before .before .before .before .args) .j) ((c .before .before .before .before .before .before .before .before .before .before .before .before .before .before .before .before .before .before .before .before .before .before .before .args) .t) (omega arith) (omega arith) ((c .before .before .before .before .before .before .before .before .before .before .before .keep) .ensures .under) ((c .before .before .before .before .before .before .before .before .before .before .before .before .before .before .before .before .before .before .before .before .before .before .before .pre) .1 .1 .1 .1 .1 .1 .0)), (omega (arith, (c .before .before .before .before .before .before .along) .ensures .high, (c .before .before .before .before .before .before .before .before .before .before .before .before .before .before .before .before .before .before .before .before .before .before .before .pre) .1 .1 .1 .1 .1 .1 .1 .0, (c .before .before .before .before .before .before .along) .ensures .long), (levels-at _ _ _ (omega (arith, (c .before .before .before .before .before .before .before .before .before .before .before .before .before .mate) .ensures, (c .before .before .before .before .before .before .before .before .before .before .before .before .before .before .before .middle) .ensures .high, (c .before .before .before .before .before .before .before .before .before .before .before .before .before .before .before .before .before .before .before .before .before .before .before .pre) .1 .1 .1 .1 .0 .0 .high ((c .before .before .before .before .before .before .before .before .before .before .before .before .before .before .before .before .before .before .before .before .before .before .before .args) .s) (omega arith) ((c .before .before .before .before .before .before .before .before .before .before .before .before .before .before .before .before .before .before .before .before .before .before .before .pre) .1 .1 .0 .1 .0), (c .before .before .before .before .before .before .before .before .before .before .before .before .before .before .if1) .left)) (omega (arith, (c .before .before .before .before .before .before .before .before .before .before .before .before .before .mate) .ensures, (c .before .before .before .before .before .before .before .before .before .before .before .before .before .before .before .middle) .ensures .high, (c .before .before .before .before .before .before .before .before .before .before .before .before .before .before .before .before .before .before .before .before .before .before .before .pre) .1 .1 .1 .1 .0 .0 .high ((c .before .before .before .before .before .before .before .before .before .before .before .before .before .before .before .before .before .before .before .before .before .before .before .args) .s) (omega arith) ((c .before .before .before .before .before .before .before .before .before .before .before .before .before .before .before .before .before .before .before .before .before .before .before .pre) .1 .1 .0 .1 .0), (c .before .before .before .before .before .before .before .before .before .before .before .before .before .before .if1) .left)) (back-length (length ((c .before .before .before .before .before .before .before .before .before .before .before .before .before .before .before .before .before .before .before .before .before .before .before .args) .p .now) + 1) ((c .before .before .before .before .before .before .before .before .before .before .before .keep) .last .1 .1 .1 .1 .1 .1 .1 .1 .1 .0) (omega (arith, levels-least ((c .before .before .before .before .before .before .before .before .before .before .before .before .before .before .before .before .before .before .before .before .before .before .before .pre) .1 .1 .1 .1 .1 .1 .1 .1 .0), (c .before .before .before .before .before .before .before .before .before .before .before .keep) .kept .1 .1 .1 .1 .1 .1 .1 .1 .1 .0)) ((c .before .before .before .before .before .before .along) .last .1 .1 .1 .1 .1 .1 .1 .1 .1 .1 .0) ((c .before .before .before .before .before .before .along) .kept .1 .1 .1 .1 .1 .1 .1 .1 .1 .1 .0) ∙ (c .before .before .before .before .before .before .before .before .before .before .before .keep) .kept .1 .1 .1 .1 .1 .1 .1 .1 .1 .0) ((c .before .before .before .before .before .before .before .before .before .before .before .before .before .before .before .before .before .before .before .before .before .before .before .pre) .1 .1 .1 .1 .1 .1 .1 .1 .0), (c .before .before .before .before .before .before .before .before .before .before .before .before .before .before .before .before .before .before .before .before .before .before .before .pre) .1 .1 .1 .1 .1 .1 .1 .1 .1)))))))))
+along-descend-requires t c κs = (omega (arith, (c .before .before .before .before .before .before .before .before .before .before .before .before .before .before .before .before .before .before .before .before .before .before .before .pre) .0, (c .before .before .before .before .before .before .before .before .before .before .before .before .before .mate) .ensures, (c .before .before .before .before .before .before .before .before .before .before .before .before .before .before .before .middle) .ensures .high, (c .before .before .before .before .before .before .before .before .before .before .before .before .before .before .before .middle) .ensures .arc, (c .before .before .before .before .before .before .before .before .before .before .before .before .before .before .if1) .left, ((c .before .before .before .before .before .before .before .before .before .before .before .before .before .before .before .before .before .before .before .before .before .before .before .pre) .1) .arc .0 .high ((c .before .before .before .before .before .before .before .before .before .before .before .before .before .before .before .before .before .before .before .before .before .before .before .args) .s) (omega arith) (((c .before .before .before .before .before .before .before .before .before .before .before .before .before .before .before .before .before .before .before .before .before .before .before .pre) .1) .order .1 .0)), (narrow _ _ (((c .before .before .before .before .before .before .before .before .before .before .before .before .before .before .before .before .before .before .before .before .before .before .before .pre) .1) .setting) ((c .before .before .before .before .before .before .along) .ensures .inner .from) (omega (arith, (c .before .before .before .before .before .before .along) .ensures .high, ((c .before .before .before .before .before .before .before .before .before .before .before .before .before .before .before .before .before .before .before .before .before .before .before .pre) .1) .setting .window .ends)), ((omega (arith, (c .before .before .before .before .before .before .before .before .before .before .before .before .before .mate) .ensures, (c .before .before .before .before .before .before .before .before .before .before .before .before .before .before .before .middle) .ensures .arc), omega (arith, (c .before .before .before .before .before .before .before .before .before .before .before .before .before .mate) .ensures, (c .before .before .before .before .before .before .before .before .before .before .before .before .before .before .before .middle) .ensures .arc, (c .before .before .before .before .before .before .before .before .before .before .before .before .before .before .before .middle) .ensures .high, ((c .before .before .before .before .before .before .before .before .before .before .before .before .before .before .before .before .before .before .before .before .before .before .before .pre) .1) .setting .molecule .inside ((c .before .before .before .before .before .before .before .before .before .before .before .before .before .before .before .before .before .before .before .before .before .before .before .args) .s) (omega (arith, ((c .before .before .before .before .before .before .before .before .before .before .before .before .before .before .before .before .before .before .before .before .before .before .before .pre) .1) .order)))), (reach-to _ ((c .before .before .before .before .before .before .before .before .before .before .before .before .before .mate) .ensures) ((c .before .before .before .before .before .before .along) .ensures .inner), (inner-sealed (((c .before .before .before .before .before .before .before .before .before .before .before .before .before .before .before .before .before .before .before .before .before .before .before .pre) .1) .setting .molecule) _ _ (omega (arith, (c .before .before .before .before .before .before .before .before .before .before .before .before .before .mate) .ensures, (c .before .before .before .before .before .before .before .before .before .before .before .before .before .before .before .middle) .ensures .arc)) (omega (arith, (c .before .before .before .before .before .before .before .before .before .before .before .before .before .mate) .ensures, (c .before .before .before .before .before .before .before .before .before .before .before .before .before .before .before .middle) .ensures .arc, (c .before .before .before .before .before .before .before .before .before .before .before .before .before .before .before .middle) .ensures .high, ((c .before .before .before .before .before .before .before .before .before .before .before .before .before .before .before .before .before .before .before .before .before .before .before .pre) .1) .setting .molecule .inside ((c .before .before .before .before .before .before .before .before .before .before .before .before .before .before .before .before .before .before .before .before .before .before .before .args) .s) (omega (arith, ((c .before .before .before .before .before .before .before .before .before .before .before .before .before .before .before .before .before .before .before .before .before .before .before .pre) .1) .order)))) (sym ((c .before .before .before .before .before .before .before .before .before .before .before .before .before .mate) .ensures)), ((((c .before .before .before .before .before .before .before .before .before .before .before .before .before .before .before .before .before .before .before .before .before .before .before .pre) .1) .box .0, λ o. below-next (sym ((c .before .before .before .before .before .before .before .before .before .before .before .before .before .mate) .ensures)) ((c .before .before .before .before .before .before .before .before .before .before .before .before .before .before .before .middle) .ensures .under (((c .before .before .before .before .before .before .before .before .before .before .before .before .before .before .before .before .before .before .before .before .before .before .before .pre) .1) .box .1 o)) (λ i. omega (arith, i, (c .before .before .before .before .before .before .before .before .before .before .before .before .before .before .before .middle) .ensures .before ((c .before .before .before .before .before .before .before .before .before .before .before .before .before .before .if1) .left)))), (kept-back ((c .before .before .before .before .before .before .along) .last .1 .1 .1 .1 .1 .1 .1 .1 .1 .1 .0) _ _ ((c .before .before .before .before .before .before .along) .ensures .low) ((c .before .before .before .before .before .before .along) .ensures .high) (omega (arith, levels-least (((c .before .before .before .before .before .before .before .before .before .before .before .before .before .before .before .before .before .before .before .before .before .before .before .pre) .1) .levels), (c .before .before .before .before .before .before .before .before .before .before .before .keep) .kept .1 .1 .1 .1 .1 .1 .1 .1 .1 .0)) (kept-under ((c .before .before .before .before .before .before .before .before .before .before .before .before .before .before .before .before .before .before .before .before .before .before .before .args) .j) ((c .before .before .before .before .before .before .before .before .before .before .before .before .before .before .before .before .before .before .before .before .before .before .before .args) .t) (omega arith) (omega arith) ((c .before .before .before .before .before .before .before .before .before .before .before .keep) .ensures .under) (((c .before .before .before .before .before .before .before .before .before .before .before .before .before .before .before .before .before .before .before .before .before .before .before .pre) .1) .kept)), (omega (arith, (c .before .before .before .before .before .before .along) .ensures .high, ((c .before .before .before .before .before .before .before .before .before .before .before .before .before .before .before .before .before .before .before .before .before .before .before .pre) .1) .room, (c .before .before .before .before .before .before .along) .ensures .long), (levels-at _ _ _ (omega (arith, (c .before .before .before .before .before .before .before .before .before .before .before .before .before .mate) .ensures, (c .before .before .before .before .before .before .before .before .before .before .before .before .before .before .before .middle) .ensures .high, ((c .before .before .before .before .before .before .before .before .before .before .before .before .before .before .before .before .before .before .before .before .before .before .before .pre) .1) .arc .0 .high ((c .before .before .before .before .before .before .before .before .before .before .before .before .before .before .before .before .before .before .before .before .before .before .before .args) .s) (omega arith) (((c .before .before .before .before .before .before .before .before .before .before .before .before .before .before .before .before .before .before .before .before .before .before .before .pre) .1) .order .1 .0), (c .before .before .before .before .before .before .before .before .before .before .before .before .before .before .if1) .left)) (omega (arith, (c .before .before .before .before .before .before .before .before .before .before .before .before .before .mate) .ensures, (c .before .before .before .before .before .before .before .before .before .before .before .before .before .before .before .middle) .ensures .high, ((c .before .before .before .before .before .before .before .before .before .before .before .before .before .before .before .before .before .before .before .before .before .before .before .pre) .1) .arc .0 .high ((c .before .before .before .before .before .before .before .before .before .before .before .before .before .before .before .before .before .before .before .before .before .before .before .args) .s) (omega arith) (((c .before .before .before .before .before .before .before .before .before .before .before .before .before .before .before .before .before .before .before .before .before .before .before .pre) .1) .order .1 .0), (c .before .before .before .before .before .before .before .before .before .before .before .before .before .before .if1) .left)) (back-length (length ((c .before .before .before .before .before .before .before .before .before .before .before .before .before .before .before .before .before .before .before .before .before .before .before .args) .p .now) + 1) ((c .before .before .before .before .before .before .before .before .before .before .before .keep) .last .1 .1 .1 .1 .1 .1 .1 .1 .1 .0) (omega (arith, levels-least (((c .before .before .before .before .before .before .before .before .before .before .before .before .before .before .before .before .before .before .before .before .before .before .before .pre) .1) .levels), (c .before .before .before .before .before .before .before .before .before .before .before .keep) .kept .1 .1 .1 .1 .1 .1 .1 .1 .1 .0)) ((c .before .before .before .before .before .before .along) .last .1 .1 .1 .1 .1 .1 .1 .1 .1 .1 .0) ((c .before .before .before .before .before .before .along) .kept .1 .1 .1 .1 .1 .1 .1 .1 .1 .1 .0) ∙ (c .before .before .before .before .before .before .before .before .before .before .before .keep) .kept .1 .1 .1 .1 .1 .1 .1 .1 .1 .0) (((c .before .before .before .before .before .before .before .before .before .before .before .before .before .before .before .before .before .before .before .before .before .before .before .pre) .1) .levels), ((c .before .before .before .before .before .before .before .before .before .before .before .before .before .before .before .before .before .before .before .before .before .before .before .pre) .1) .tables-of)))))))))
 
 along-same-length-3 : (t : ℕ) → along-lts.Need-same-length-3 (
   middle-reads.Asked,
@@ -384,7 +384,7 @@ along-same-length-4 : (t : ℕ) → along-lts.Need-same-length-4 (
   descend-below t,
   descend.Post,
 ) (along-at t) along.Post
-along-same-length-4 t c = (c .before .before .before .before .descend) .kept .1 .1 .1 .1 .1 .1 .1 .1 .1 .1 .0 ∙ back-length (length ((c .before .before .before .before .before .before .before .before .before .before .before .before .before .before .before .before .before .before .before .before .before .before .before .before .before .before .before .before .args) .p .now) + 1) ((c .before .before .before .before .before .before .before .before .before .before .before .before .before .before .before .before .keep) .last .1 .1 .1 .1 .1 .1 .1 .1 .1 .0) (omega (arith, levels-least ((c .before .before .before .before .before .before .before .before .before .before .before .before .before .before .before .before .before .before .before .before .before .before .before .before .before .before .before .before .pre) .1 .1 .1 .1 .1 .1 .1 .1 .0), (c .before .before .before .before .before .before .before .before .before .before .before .before .before .before .before .before .keep) .kept .1 .1 .1 .1 .1 .1 .1 .1 .1 .0)) ((c .before .before .before .before .before .before .before .before .before .before .before .along) .last .1 .1 .1 .1 .1 .1 .1 .1 .1 .1 .0) ((c .before .before .before .before .before .before .before .before .before .before .before .along) .kept .1 .1 .1 .1 .1 .1 .1 .1 .1 .1 .0) ∙ (c .before .before .before .before .before .before .before .before .before .before .before .before .before .before .before .before .keep) .kept .1 .1 .1 .1 .1 .1 .1 .1 .1 .0
+along-same-length-4 t c = (c .before .before .before .before .descend) .kept .1 .1 .1 .1 .1 .1 .1 .1 .1 .1 .0 ∙ back-length (length ((c .before .before .before .before .before .before .before .before .before .before .before .before .before .before .before .before .before .before .before .before .before .before .before .before .before .before .before .before .args) .p .now) + 1) ((c .before .before .before .before .before .before .before .before .before .before .before .before .before .before .before .before .keep) .last .1 .1 .1 .1 .1 .1 .1 .1 .1 .0) (omega (arith, levels-least (((c .before .before .before .before .before .before .before .before .before .before .before .before .before .before .before .before .before .before .before .before .before .before .before .before .before .before .before .before .pre) .1) .levels), (c .before .before .before .before .before .before .before .before .before .before .before .before .before .before .before .before .keep) .kept .1 .1 .1 .1 .1 .1 .1 .1 .1 .0)) ((c .before .before .before .before .before .before .before .before .before .before .before .along) .last .1 .1 .1 .1 .1 .1 .1 .1 .1 .1 .0) ((c .before .before .before .before .before .before .before .before .before .before .before .along) .kept .1 .1 .1 .1 .1 .1 .1 .1 .1 .1 .0) ∙ (c .before .before .before .before .before .before .before .before .before .before .before .before .before .before .before .before .keep) .kept .1 .1 .1 .1 .1 .1 .1 .1 .1 .0
 
 along-returns-2 : (t : ℕ) → along-lts.Need-returns-2 (
   middle-reads.Asked,
@@ -520,7 +520,7 @@ descend-along-requires : (t : ℕ) → descend-lts.Need-along-requires (
   along-below t,
   along.Post,
 ) (descend-at t) descend.Post
-descend-along-requires t c κs = (omega (arith, (c .before .before .before .before .before .before .before .before .before .before .before .before .before .before .before .before .before .before .before .pre) .0, (c .before .before .before .before .before .before .before .before .before .before .heaviest) .ensures .low, (c .before .before .before .before .before .before .before .before .before .before .before .before .before .before .before .before .before .before .before .pre) .1 .1 .1 .1 .1 .0 .0, (c .before .before .before .before .before .before .before .before .before .before .before .before .before .before .before .before .before .before .before .pre) .1 .0 .short, (heavy-in ((c .before .before .before .before .before .before .before .before .before .before .heaviest) .ensures) ((c .before .before .before .before .before .before .before .place) .ensures .0) ((c .before .before .before .before .before .before .before .before .before .before .before .before .before .before .before .before .before .before .before .pre) .1 .1 .1 .0) ((c .before .before .if2) .left))), (narrow _ _ ((c .before .before .before .before .before .before .before .before .before .before .before .before .before .before .before .before .before .before .before .pre) .1 .0) (omega (arith, (c .before .before .if2) .left)) ((c .before .before .before .before .before .before .before .before .before .before .before .before .before .before .before .before .before .before .before .pre) .1 .0 .window .ends), (((c .before .before .if2) .left, ((heavy-in ((c .before .before .before .before .before .before .before .before .before .before .heaviest) .ensures) ((c .before .before .before .before .before .before .before .place) .ensures .0) ((c .before .before .before .before .before .before .before .before .before .before .before .before .before .before .before .before .before .before .before .pre) .1 .1 .1 .0) ((c .before .before .if2) .left)), (c .before .before .before .before .before .before .before .before .before .before .before .before .before .before .before .before .before .before .before .pre) .1 .1 .0 .1)), (rest (split-left ((c .before .before .before .before .before .before .before .before .before .before .before .before .before .before .before .before .before .before .before .pre) .1 .0 .molecule) ((c .before .before .before .before .before .before .before .before .before .before .before .before .before .before .before .before .before .before .before .pre) .1 .1 .1 .1 .0) ((c .before .before .before .before .before .before .before .before .before .before .before .before .before .before .before .before .before .before .before .pre) .1 .1 .0 .1) ((c .before .before .before .before .before .before .before .before .before .before .heaviest) .ensures) (heavy-in ((c .before .before .before .before .before .before .before .before .before .before .heaviest) .ensures) ((c .before .before .before .before .before .before .before .place) .ensures .0) ((c .before .before .before .before .before .before .before .before .before .before .before .before .before .before .before .before .before .before .before .pre) .1 .1 .1 .0) ((c .before .before .if2) .left))) ((c .before .before .before .before .before .before .before .place) .ensures .0) (omega (arith, (c .before .before .if2) .left)) ((c .before .before .before .before .before .before .before .before .before .before .before .before .before .before .before .before .before .before .before .pre) .1 .1 .1 .0), ((heavy-on ((c .before .before .before .before .before .before .before .before .before .before .before .before .before .before .before .before .before .before .before .pre) .1 .0 .molecule) ((c .before .before .before .before .before .before .before .before .before .before .before .before .before .before .before .before .before .before .before .pre) .1 .1 .1 .1 .0) ((c .before .before .before .before .before .before .before .before .before .before .before .before .before .before .before .before .before .before .before .pre) .1 .1 .0 .1) ((c .before .before .before .before .before .before .before .before .before .before .heaviest) .ensures) (heavy-in ((c .before .before .before .before .before .before .before .before .before .before .heaviest) .ensures) ((c .before .before .before .before .before .before .before .place) .ensures .0) ((c .before .before .before .before .before .before .before .before .before .before .before .before .before .before .before .before .before .before .before .pre) .1 .1 .1 .0) ((c .before .before .if2) .left)), (c .before .before .before .before .before .before .before .before .before .before .heaviest) .ensures .arc (heavy-in ((c .before .before .before .before .before .before .before .before .before .before .heaviest) .ensures) ((c .before .before .before .before .before .before .before .place) .ensures .0) ((c .before .before .before .before .before .before .before .before .before .before .before .before .before .before .before .before .before .before .before .pre) .1 .1 .1 .0) ((c .before .before .if2) .left))), (((c .before .before .before .before .before .before .before .before .before .before .before .before .before .before .before .before .before .before .before .pre) .1 .1 .1 .1 .1 .0 .0, λ o. path-at ((c .before .before .before .before .before .before .before .before .before .before .before .before .before .before .before .before .before .before .before .pre) .1 .1 .1 .1 .1 .0 .1 o) ((c .before .before .before .before .before .before .before .before .before .before .heaviest) .ensures)), (kept-back ((c .before .before .before .before .before .before .before .place) .last .1 .1 .1 .1 .1 .1 .1 .1 .1 .0) _ _ ((c .before .before .before .before .before .before .before .place) .ensures .0 .reach .from) (omega arith) (omega (arith, levels-least ((c .before .before .before .before .before .before .before .before .before .before .before .before .before .before .before .before .before .before .before .pre) .1 .1 .1 .1 .1 .1 .1 .1 .0))) ((c .before .before .before .before .before .before .before .before .before .before .before .before .before .before .before .before .before .before .before .pre) .1 .1 .1 .1 .1 .1 .0), (omega (arith, (c .before .before .before .before .before .before .before .before .before .before .before .before .before .before .before .before .before .before .before .pre) .1 .1 .1 .1 .1 .1 .1 .0, (c .before .before .before .before .before .before .before .place) .ensures .1 .long), (levels-at _ _ _ (omega (arith, (c .before .before .before .before .before .before .before .before .before .before .heaviest) .ensures .low)) (omega (arith, (c .before .before .before .before .before .before .before .before .before .before .heaviest) .ensures .low)) (back-length (length ((c .before .before .before .before .before .before .before .before .before .before .before .before .before .before .before .before .before .before .before .args) .p .now) + 1) ((c .before .before .before .before .before .before .before .before .before .before .before .before .before .before .before .before .before .before .before .args) .work .now) (omega (arith, levels-least ((c .before .before .before .before .before .before .before .before .before .before .before .before .before .before .before .before .before .before .before .pre) .1 .1 .1 .1 .1 .1 .1 .1 .0))) ((c .before .before .before .before .before .before .before .place) .last .1 .1 .1 .1 .1 .1 .1 .1 .1 .0) ((c .before .before .before .before .before .before .before .place) .kept .1 .1 .1 .1 .1 .1 .1 .1 .1 .0)) ((c .before .before .before .before .before .before .before .before .before .before .before .before .before .before .before .before .before .before .before .pre) .1 .1 .1 .1 .1 .1 .1 .1 .0), (c .before .before .before .before .before .before .before .before .before .before .before .before .before .before .before .before .before .before .before .pre) .1 .1 .1 .1 .1 .1 .1 .1 .1)))))))))
+descend-along-requires t c κs = (omega (arith, (c .before .before .before .before .before .before .before .before .before .before .before .before .before .before .before .before .before .before .before .pre) .0, (c .before .before .before .before .before .before .before .before .before .before .heaviest) .ensures .low, (c .before .before .before .before .before .before .before .before .before .before .before .before .before .before .before .before .before .before .before .pre) .1 .1 .1 .1 .1 .0 .0, (c .before .before .before .before .before .before .before .before .before .before .before .before .before .before .before .before .before .before .before .pre) .1 .0 .short, (heavy-in ((c .before .before .before .before .before .before .before .before .before .before .heaviest) .ensures) ((c .before .before .before .before .before .before .before .place) .ensures .0) ((c .before .before .before .before .before .before .before .before .before .before .before .before .before .before .before .before .before .before .before .pre) .1 .1 .1 .0) ((c .before .before .if2) .left))), record { setting = narrow _ _ ((c .before .before .before .before .before .before .before .before .before .before .before .before .before .before .before .before .before .before .before .pre) .1 .0) (omega (arith, (c .before .before .if2) .left)) ((c .before .before .before .before .before .before .before .before .before .before .before .before .before .before .before .before .before .before .before .pre) .1 .0 .window .ends); order = ((c .before .before .if2) .left, ((heavy-in ((c .before .before .before .before .before .before .before .before .before .before .heaviest) .ensures) ((c .before .before .before .before .before .before .before .place) .ensures .0) ((c .before .before .before .before .before .before .before .before .before .before .before .before .before .before .before .before .before .before .before .pre) .1 .1 .1 .0) ((c .before .before .if2) .left)), (c .before .before .before .before .before .before .before .before .before .before .before .before .before .before .before .before .before .before .before .pre) .1 .1 .0 .1)); reach = rest (split-left ((c .before .before .before .before .before .before .before .before .before .before .before .before .before .before .before .before .before .before .before .pre) .1 .0 .molecule) ((c .before .before .before .before .before .before .before .before .before .before .before .before .before .before .before .before .before .before .before .pre) .1 .1 .1 .1 .0) ((c .before .before .before .before .before .before .before .before .before .before .before .before .before .before .before .before .before .before .before .pre) .1 .1 .0 .1) ((c .before .before .before .before .before .before .before .before .before .before .heaviest) .ensures) (heavy-in ((c .before .before .before .before .before .before .before .before .before .before .heaviest) .ensures) ((c .before .before .before .before .before .before .before .place) .ensures .0) ((c .before .before .before .before .before .before .before .before .before .before .before .before .before .before .before .before .before .before .before .pre) .1 .1 .1 .0) ((c .before .before .if2) .left))) ((c .before .before .before .before .before .before .before .place) .ensures .0) (omega (arith, (c .before .before .if2) .left)) ((c .before .before .before .before .before .before .before .before .before .before .before .before .before .before .before .before .before .before .before .pre) .1 .1 .1 .0); arc = (heavy-on ((c .before .before .before .before .before .before .before .before .before .before .before .before .before .before .before .before .before .before .before .pre) .1 .0 .molecule) ((c .before .before .before .before .before .before .before .before .before .before .before .before .before .before .before .before .before .before .before .pre) .1 .1 .1 .1 .0) ((c .before .before .before .before .before .before .before .before .before .before .before .before .before .before .before .before .before .before .before .pre) .1 .1 .0 .1) ((c .before .before .before .before .before .before .before .before .before .before .heaviest) .ensures) (heavy-in ((c .before .before .before .before .before .before .before .before .before .before .heaviest) .ensures) ((c .before .before .before .before .before .before .before .place) .ensures .0) ((c .before .before .before .before .before .before .before .before .before .before .before .before .before .before .before .before .before .before .before .pre) .1 .1 .1 .0) ((c .before .before .if2) .left)), (c .before .before .before .before .before .before .before .before .before .before .heaviest) .ensures .arc (heavy-in ((c .before .before .before .before .before .before .before .before .before .before .heaviest) .ensures) ((c .before .before .before .before .before .before .before .place) .ensures .0) ((c .before .before .before .before .before .before .before .before .before .before .before .before .before .before .before .before .before .before .before .pre) .1 .1 .1 .0) ((c .before .before .if2) .left))); box = ((c .before .before .before .before .before .before .before .before .before .before .before .before .before .before .before .before .before .before .before .pre) .1 .1 .1 .1 .1 .0 .0, λ o. path-at ((c .before .before .before .before .before .before .before .before .before .before .before .before .before .before .before .before .before .before .before .pre) .1 .1 .1 .1 .1 .0 .1 o) ((c .before .before .before .before .before .before .before .before .before .before .heaviest) .ensures)); kept = kept-back ((c .before .before .before .before .before .before .before .place) .last .1 .1 .1 .1 .1 .1 .1 .1 .1 .0) _ _ ((c .before .before .before .before .before .before .before .place) .ensures .0 .reach .from) (omega arith) (omega (arith, levels-least ((c .before .before .before .before .before .before .before .before .before .before .before .before .before .before .before .before .before .before .before .pre) .1 .1 .1 .1 .1 .1 .1 .1 .0))) ((c .before .before .before .before .before .before .before .before .before .before .before .before .before .before .before .before .before .before .before .pre) .1 .1 .1 .1 .1 .1 .0); room = omega (arith, (c .before .before .before .before .before .before .before .before .before .before .before .before .before .before .before .before .before .before .before .pre) .1 .1 .1 .1 .1 .1 .1 .0, (c .before .before .before .before .before .before .before .place) .ensures .1 .long); levels = levels-at _ _ _ (omega (arith, (c .before .before .before .before .before .before .before .before .before .before .heaviest) .ensures .low)) (omega (arith, (c .before .before .before .before .before .before .before .before .before .before .heaviest) .ensures .low)) (back-length (length ((c .before .before .before .before .before .before .before .before .before .before .before .before .before .before .before .before .before .before .before .args) .p .now) + 1) ((c .before .before .before .before .before .before .before .before .before .before .before .before .before .before .before .before .before .before .before .args) .work .now) (omega (arith, levels-least ((c .before .before .before .before .before .before .before .before .before .before .before .before .before .before .before .before .before .before .before .pre) .1 .1 .1 .1 .1 .1 .1 .1 .0))) ((c .before .before .before .before .before .before .before .place) .last .1 .1 .1 .1 .1 .1 .1 .1 .1 .0) ((c .before .before .before .before .before .before .before .place) .kept .1 .1 .1 .1 .1 .1 .1 .1 .1 .0)) ((c .before .before .before .before .before .before .before .before .before .before .before .before .before .before .before .before .before .before .before .pre) .1 .1 .1 .1 .1 .1 .1 .1 .0); tables-of = (c .before .before .before .before .before .before .before .before .before .before .before .before .before .before .before .before .before .before .before .pre) .1 .1 .1 .1 .1 .1 .1 .1 .1 })
 
 descend-same-length-3 : (t : ℕ) → descend-lts.Need-same-length-3 (
   heaviest-reads.Asked,
@@ -558,7 +558,7 @@ enter-turn-kept-requires : (t : ℕ) → enter-lts.Need-turn-kept-requires (
   descend-below t,
   descend.Post,
 ) (enter-at t) enter.Post
-enter-turn-kept-requires t c κs = ((c .before .before .before .before .before .before .before .before .before .pre) .1 .0, ((c .before .before .before .before .before .before .before .before .before .pre) .1 .1 .0 .1, (((c .before .before .before .before .before .before .before .before .before .pre) .1 .1 .0 .0, (c .before .before .before .before .before .before .before .before .before .pre) .1 .1 .1 .1 .1 .1 .0), ((c .before .before .before .before .before .before .before .before .before .pre) .1 .1 .1 .0, ((c .before .before .before .before .before .before .before .before .before .pre) .1 .1 .1 .1 .1 .0, (levels-least ((c .before .before .before .before .before .before .before .before .before .pre) .1 .1 .1 .1 .1 .1 .1 .0), (c .before .before .before .before .before .before .before .before .before .pre) .1 .1 .1 .1 .1 .1 .1 .1))))))
+enter-turn-kept-requires t c κs = (((c .before .before .before .before .before .before .before .before .before .pre) .1) .setting, (((c .before .before .before .before .before .before .before .before .before .pre) .1) .closed .1, ((((c .before .before .before .before .before .before .before .before .before .pre) .1) .closed .0, ((c .before .before .before .before .before .before .before .before .before .pre) .1) .room), (((c .before .before .before .before .before .before .before .before .before .pre) .1) .ends, (((c .before .before .before .before .before .before .before .before .before .pre) .1) .kept, (levels-least (((c .before .before .before .before .before .before .before .before .before .pre) .1) .levels), ((c .before .before .before .before .before .before .before .before .before .pre) .1) .tables-of))))))
 
 enter-same-length : (t : ℕ) → enter-lts.Need-same-length (
   turn-kept-reads.Asked,
@@ -582,7 +582,7 @@ enter-returns : (t : ℕ) → enter-lts.Need-returns (
   descend-below t,
   descend.Post,
 ) (enter-at t) enter.Post
-enter-returns t c = ((c .before .before .before .before .before .turn-kept) .ensures .0 .best, but-box ((c .if1) .taken) ((c .before .before .before .before .before .before .before .before .before .before .before .before .before .before .before .pre) .1 .1 .1 .0 .1 .1) (but-turn ((c .before .before .before .before .before .turn-kept) .ensures .0) ((c .before .before .before .before .before .turn-kept) .ensures .1 .0) (but-all _ ((c .before .before .before .before .before .turn-kept) .ensures .0 .inner))))
+enter-returns t c = ((c .before .before .before .before .before .turn-kept) .ensures .0 .best, but-box ((c .if1) .taken) (((c .before .before .before .before .before .before .before .before .before .before .before .before .before .before .before .pre) .1) .ends .1 .1) (but-turn ((c .before .before .before .before .before .turn-kept) .ensures .0) ((c .before .before .before .before .before .turn-kept) .ensures .1 .0) (but-all _ ((c .before .before .before .before .before .turn-kept) .ensures .0 .inner))))
 
 enter-add-descend : (t : ℕ) → enter-lts.Need-add-descend (
   turn-kept-reads.Asked,
@@ -590,7 +590,7 @@ enter-add-descend : (t : ℕ) → enter-lts.Need-add-descend (
   descend-below t,
   descend.Post,
 ) (enter-at t) enter.Post
-enter-add-descend t c = omega (arith, (c .before .before .before .before .before .before .before .before .before .before .before .before .before .before .before .pre) .1 .0 .short, (c .before .before .before .before .before .before .before .before .before .before .before .before .before .before .before .pre) .1 .1 .1 .0)
+enter-add-descend t c = omega (arith, ((c .before .before .before .before .before .before .before .before .before .before .before .before .before .before .before .pre) .1) .setting .short, ((c .before .before .before .before .before .before .before .before .before .before .before .before .before .before .before .pre) .1) .ends)
 
 enter-descend-requires : (t : ℕ) → enter-lts.Need-descend-requires (
   turn-kept-reads.Asked,
@@ -598,7 +598,7 @@ enter-descend-requires : (t : ℕ) → enter-lts.Need-descend-requires (
   descend-below t,
   descend.Post,
 ) (enter-at t) enter.Post
-enter-descend-requires t c κs = (omega (arith, (c .before .before .before .before .before .before .before .before .before .before .before .before .before .before .before .before .before .pre) .0, (c .before .before .before .before .before .before .before .before .before .before .before .before .before .before .before .before .before .pre) .1 .1 .1 .0), (narrow _ _ ((c .before .before .before .before .before .before .before .before .before .before .before .before .before .before .before .before .before .pre) .1 .0) ((c .before .before .before .before .before .before .before .turn-kept) .ensures .0 .order) (omega (arith, (c .before .before .before .before .before .before .before .turn-kept) .ensures .0 .goes, (c .before .before .before .before .before .before .before .turn-kept) .ensures .0 .ends, (c .before .before .before .before .before .before .before .before .before .before .before .before .before .before .before .before .before .pre) .1 .0 .window .ends)), ((omega (arith, (c .before .before .before .before .before .before .before .before .before .before .before .before .before .before .before .before .before .pre) .1 .1 .1 .0), omega (arith, (c .before .before .before .before .before .before .before .before .before .before .before .before .before .before .before .before .before .pre) .1 .1 .1 .0)), ((c .before .before .before .before .before .before .before .turn-kept) .ensures .0 .inner, (inner-sealed ((c .before .before .before .before .before .before .before .before .before .before .before .before .before .before .before .before .before .pre) .1 .0 .molecule) _ _ ((c .before .before .before .before .before .before .before .before .before .before .before .before .before .before .before .before .before .pre) .1 .1 .1 .0 .0) ((c .before .before .before .before .before .before .before .before .before .before .before .before .before .before .before .before .before .pre) .1 .1 .1 .0 .1 .0) ((c .before .before .before .before .before .before .before .before .before .before .before .before .before .before .before .before .before .pre) .1 .1 .1 .0 .1 .1), (((c .before .before .before .before .before .before .before .before .before .before .before .before .before .before .before .before .before .pre) .1 .1 .1 .1 .0 .0, λ o. below-next ((c .before .before .before .before .before .before .before .before .before .before .before .before .before .before .before .before .before .pre) .1 .1 .1 .0 .1 .1) ((c .before .before .before .before .before .before .before .before .before .before .before .before .before .before .before .before .before .pre) .1 .1 .1 .1 .0 .1 o) ((c .before .before .if1) .left)), ((c .before .before .before .before .before .before .before .turn-kept) .ensures .1 .1, (omega (arith, (c .before .before .before .before .before .before .before .turn-kept) .ensures .0 .goes, (c .before .before .before .before .before .before .before .turn-kept) .ensures .0 .ends, (c .before .before .before .before .before .before .before .before .before .before .before .before .before .before .before .before .before .pre) .1 .1 .1 .1 .1 .1 .0, (c .before .before .before .before .before .before .before .turn-kept) .kept .1 .1 .1 .1 .1 .1 .1 .1 .1 .0), (levels-at _ _ _ (omega arith) (omega arith) ((c .before .before .before .before .before .before .before .turn-kept) .kept .1 .1 .1 .1 .1 .1 .1 .1 .1 .1 .0) ((c .before .before .before .before .before .before .before .before .before .before .before .before .before .before .before .before .before .pre) .1 .1 .1 .1 .1 .1 .1 .0), (c .before .before .before .before .before .before .before .before .before .before .before .before .before .before .before .before .before .pre) .1 .1 .1 .1 .1 .1 .1 .1)))))))))
+enter-descend-requires t c κs = (omega (arith, (c .before .before .before .before .before .before .before .before .before .before .before .before .before .before .before .before .before .pre) .0, ((c .before .before .before .before .before .before .before .before .before .before .before .before .before .before .before .before .before .pre) .1) .ends), (narrow _ _ (((c .before .before .before .before .before .before .before .before .before .before .before .before .before .before .before .before .before .pre) .1) .setting) ((c .before .before .before .before .before .before .before .turn-kept) .ensures .0 .order) (omega (arith, (c .before .before .before .before .before .before .before .turn-kept) .ensures .0 .goes, (c .before .before .before .before .before .before .before .turn-kept) .ensures .0 .ends, ((c .before .before .before .before .before .before .before .before .before .before .before .before .before .before .before .before .before .pre) .1) .setting .window .ends)), ((omega (arith, ((c .before .before .before .before .before .before .before .before .before .before .before .before .before .before .before .before .before .pre) .1) .ends), omega (arith, ((c .before .before .before .before .before .before .before .before .before .before .before .before .before .before .before .before .before .pre) .1) .ends)), ((c .before .before .before .before .before .before .before .turn-kept) .ensures .0 .inner, (inner-sealed (((c .before .before .before .before .before .before .before .before .before .before .before .before .before .before .before .before .before .pre) .1) .setting .molecule) _ _ (((c .before .before .before .before .before .before .before .before .before .before .before .before .before .before .before .before .before .pre) .1) .ends .0) (((c .before .before .before .before .before .before .before .before .before .before .before .before .before .before .before .before .before .pre) .1) .ends .1 .0) (((c .before .before .before .before .before .before .before .before .before .before .before .before .before .before .before .before .before .pre) .1) .ends .1 .1), ((((c .before .before .before .before .before .before .before .before .before .before .before .before .before .before .before .before .before .pre) .1) .box .0, λ o. below-next (((c .before .before .before .before .before .before .before .before .before .before .before .before .before .before .before .before .before .pre) .1) .ends .1 .1) (((c .before .before .before .before .before .before .before .before .before .before .before .before .before .before .before .before .before .pre) .1) .box .1 o) ((c .before .before .if1) .left)), ((c .before .before .before .before .before .before .before .turn-kept) .ensures .1 .1, (omega (arith, (c .before .before .before .before .before .before .before .turn-kept) .ensures .0 .goes, (c .before .before .before .before .before .before .before .turn-kept) .ensures .0 .ends, ((c .before .before .before .before .before .before .before .before .before .before .before .before .before .before .before .before .before .pre) .1) .room, (c .before .before .before .before .before .before .before .turn-kept) .kept .1 .1 .1 .1 .1 .1 .1 .1 .1 .0), (levels-at _ _ _ (omega arith) (omega arith) ((c .before .before .before .before .before .before .before .turn-kept) .kept .1 .1 .1 .1 .1 .1 .1 .1 .1 .1 .0) (((c .before .before .before .before .before .before .before .before .before .before .before .before .before .before .before .before .before .pre) .1) .levels), ((c .before .before .before .before .before .before .before .before .before .before .before .before .before .before .before .before .before .pre) .1) .tables-of)))))))))
 
 enter-same-length-3 : (t : ℕ) → enter-lts.Need-same-length-3 (
   turn-kept-reads.Asked,
@@ -632,7 +632,7 @@ past-mate-requires : (t : ℕ) → past-lts.Need-mate-requires (
   enter-below t,
   enter.Post,
 ) (past-at t) past.Post
-past-mate-requires t c κs = omega (arith, (c .before .before .before .before .before .before .before .pre) .1 .0 .equal, (c .before .before .before .before .before .before .before .pre) .1 .1 .0)
+past-mate-requires t c κs = omega (arith, ((c .before .before .before .before .before .before .before .pre) .1) .setting .equal, ((c .before .before .before .before .before .before .before .pre) .1) .order)
 
 past-place-requires : (t : ℕ) → past-lts.Need-place-requires (
   mate-reads.Asked,
@@ -642,7 +642,7 @@ past-place-requires : (t : ℕ) → past-lts.Need-place-requires (
   enter-below t,
   enter.Post,
 ) (past-at t) past.Post
-past-place-requires t c κs = (omega (arith, (c .before .before .before .before .before .before .before .before .before .before .before .pre) .0), ((c .before .before .before .before .before .before .before .before .before .before .before .pre) .1 .0, ((omega (arith, (c .before .before .before .before .before .before .before .before .before .before .before .pre) .1 .1 .0), (c .before .before .before .before .before .before .before .before .before .before .before .pre) .1 .1 .0 .1 .1), ((c .before .before .before .before .before .before .before .before .before .before .before .pre) .1 .1 .1 .1 .0 .0, ((c .before .before .before .before .before .before .before .before .before .before .before .pre) .1 .1 .1 .1 .1 .1 .1 .0, (levels-all (nth ((c .before .before .before .before .before .before .before .before .before .before .before .args) .qm .now) ((c .before .before .before .before .before .before .before .before .before .before .before .args) .stop) - (c .before .before .before .before .before .before .before .before .before .before .before .args) .stop) ((c .before .before .before .before .before .before .before .before .before .before .before .pre) .1 .1 .1 .1 .0 .0) (box-none ((c .before .before .before .before .before .before .before .before .before .before .before .pre) .1 .0 .molecule) ((c .before .before .before .before .before .before .before .before .before .before .before .pre) .1 .0 .equal) ((c .before .before .before .before .before .before .before .before .before .before .before .pre) .1 .1 .1 .1 .1 .0 .1) ((c .before .before .before .before .before .before .before .before .before .before .before .pre) .1 .1 .1 .1 .0 .1) (omega (arith, first-end ((c .before .before .before .before .before .before .before .before .before .before .before .pre) .1 .0 .molecule) ((c .before .before .before .before .before .before .before .before .before .before .before .pre) .1 .1 .1 .1 .0 .0) ((c .before .before .before .before .before .before .before .before .before .before .before .pre) .1 .1 .0 .1 .1) ((c .before .before .before .before .before .before .before .before .before .before .before .pre) .1 .1 .0 .1 .0) ((c .before .before .before .before .before .before .before .before .before .before .before .pre) .1 .1 .1 .1 .0 .1) (sym ((c .before .before .before .mate) .ensures)), (c .before .before .before .before .before .before .before .before .before .before .before .pre) .1 .1 .0, (c .before .before .before .mate) .ensures)) (omega (arith, (c .before .before .before .mate) .ensures, (c .before .before .if1) .taken))) ((c .before .before .before .before .before .before .before .before .before .before .before .pre) .1 .1 .1 .1 .1 .1 .1 .1 .0), (c .before .before .before .before .before .before .before .before .before .before .before .pre) .1 .1 .1 .1 .1 .1 .1 .1 .1))))))
+past-place-requires t c κs = (omega (arith, (c .before .before .before .before .before .before .before .before .before .before .before .pre) .0), (((c .before .before .before .before .before .before .before .before .before .before .before .pre) .1) .setting, ((omega (arith, ((c .before .before .before .before .before .before .before .before .before .before .before .pre) .1) .order), ((c .before .before .before .before .before .before .before .before .before .before .before .pre) .1) .order .1 .1), (((c .before .before .before .before .before .before .before .before .before .before .before .pre) .1) .arc .0, (((c .before .before .before .before .before .before .before .before .before .before .before .pre) .1) .room, (levels-all (nth ((c .before .before .before .before .before .before .before .before .before .before .before .args) .qm .now) ((c .before .before .before .before .before .before .before .before .before .before .before .args) .stop) - (c .before .before .before .before .before .before .before .before .before .before .before .args) .stop) (((c .before .before .before .before .before .before .before .before .before .before .before .pre) .1) .arc .0) (box-none (((c .before .before .before .before .before .before .before .before .before .before .before .pre) .1) .setting .molecule) (((c .before .before .before .before .before .before .before .before .before .before .before .pre) .1) .setting .equal) (((c .before .before .before .before .before .before .before .before .before .before .before .pre) .1) .box .1) (((c .before .before .before .before .before .before .before .before .before .before .before .pre) .1) .arc .1) (omega (arith, first-end (((c .before .before .before .before .before .before .before .before .before .before .before .pre) .1) .setting .molecule) (((c .before .before .before .before .before .before .before .before .before .before .before .pre) .1) .arc .0) (((c .before .before .before .before .before .before .before .before .before .before .before .pre) .1) .order .1 .1) (((c .before .before .before .before .before .before .before .before .before .before .before .pre) .1) .order .1 .0) (((c .before .before .before .before .before .before .before .before .before .before .before .pre) .1) .arc .1) (sym ((c .before .before .before .mate) .ensures)), ((c .before .before .before .before .before .before .before .before .before .before .before .pre) .1) .order, (c .before .before .before .mate) .ensures)) (omega (arith, (c .before .before .before .mate) .ensures, (c .before .before .if1) .taken))) (((c .before .before .before .before .before .before .before .before .before .before .before .pre) .1) .levels), ((c .before .before .before .before .before .before .before .before .before .before .before .pre) .1) .tables-of))))))
 
 past-same-length : (t : ℕ) → past-lts.Need-same-length (
   mate-reads.Asked,
@@ -672,7 +672,7 @@ past-returns : (t : ℕ) → past-lts.Need-returns (
   enter-below t,
   enter.Post,
 ) (past-at t) past.Post
-past-returns t c = but-taken _ _ ((c .before .before .before .before .place) .ensures .0) ((c .before .before .before .before .before .before .before .before .before .before .before .before .before .before .before .before .pre) .1 .1 .1 .0) ((c .before .before .before .before .place) .ensures .1)
+past-returns t c = but-taken _ _ ((c .before .before .before .before .place) .ensures .0) (((c .before .before .before .before .before .before .before .before .before .before .before .before .before .before .before .before .pre) .1) .reach) ((c .before .before .before .before .place) .ensures .1)
 
 past-enter-requires : (t : ℕ) → past-lts.Need-enter-requires (
   mate-reads.Asked,
@@ -682,7 +682,7 @@ past-enter-requires : (t : ℕ) → past-lts.Need-enter-requires (
   enter-below t,
   enter.Post,
 ) (past-at t) past.Post
-past-enter-requires t c κs = (omega (arith, (c .before .before .before .before .before .before .before .before .before .before .before .pre) .0, first-end ((c .before .before .before .before .before .before .before .before .before .before .before .pre) .1 .0 .molecule) ((c .before .before .before .before .before .before .before .before .before .before .before .pre) .1 .1 .1 .1 .0 .0) ((c .before .before .before .before .before .before .before .before .before .before .before .pre) .1 .1 .0 .1 .1) ((c .before .before .before .before .before .before .before .before .before .before .before .pre) .1 .1 .0 .1 .0) ((c .before .before .before .before .before .before .before .before .before .before .before .pre) .1 .1 .1 .1 .0 .1) (sym ((c .before .before .before .mate) .ensures))), ((c .before .before .before .before .before .before .before .before .before .before .before .pre) .1 .0, (((c .before .before .before .before .before .before .before .before .before .before .before .pre) .1 .1 .0 .0, (c .before .before .before .before .before .before .before .before .before .before .before .pre) .1 .1 .1 .0 .closed), ((omega (arith, (c .before .before .before .mate) .ensures, (c .before .before .before .before .before .before .before .before .before .before .before .pre) .1 .1 .1 .1 .0 .1), (omega (arith, first-end ((c .before .before .before .before .before .before .before .before .before .before .before .pre) .1 .0 .molecule) ((c .before .before .before .before .before .before .before .before .before .before .before .pre) .1 .1 .1 .1 .0 .0) ((c .before .before .before .before .before .before .before .before .before .before .before .pre) .1 .1 .0 .1 .1) ((c .before .before .before .before .before .before .before .before .before .before .before .pre) .1 .1 .0 .1 .0) ((c .before .before .before .before .before .before .before .before .before .before .before .pre) .1 .1 .1 .1 .0 .1) (sym ((c .before .before .before .mate) .ensures)), (c .before .before .before .before .before .before .before .before .before .before .before .pre) .1 .1 .0), sym ((c .before .before .before .mate) .ensures))), ((c .before .before .before .before .before .before .before .before .before .before .before .pre) .1 .1 .1 .1 .1 .0, ((c .before .before .before .before .before .before .before .before .before .before .before .pre) .1 .1 .1 .1 .1 .1 .0, ((c .before .before .before .before .before .before .before .before .before .before .before .pre) .1 .1 .1 .1 .1 .1 .1 .0, (levels-at _ _ _ (omega (arith, first-end ((c .before .before .before .before .before .before .before .before .before .before .before .pre) .1 .0 .molecule) ((c .before .before .before .before .before .before .before .before .before .before .before .pre) .1 .1 .1 .1 .0 .0) ((c .before .before .before .before .before .before .before .before .before .before .before .pre) .1 .1 .0 .1 .1) ((c .before .before .before .before .before .before .before .before .before .before .before .pre) .1 .1 .0 .1 .0) ((c .before .before .before .before .before .before .before .before .before .before .before .pre) .1 .1 .1 .1 .0 .1) (sym ((c .before .before .before .mate) .ensures)))) (omega (arith, first-end ((c .before .before .before .before .before .before .before .before .before .before .before .pre) .1 .0 .molecule) ((c .before .before .before .before .before .before .before .before .before .before .before .pre) .1 .1 .1 .1 .0 .0) ((c .before .before .before .before .before .before .before .before .before .before .before .pre) .1 .1 .0 .1 .1) ((c .before .before .before .before .before .before .before .before .before .before .before .pre) .1 .1 .0 .1 .0) ((c .before .before .before .before .before .before .before .before .before .before .before .pre) .1 .1 .1 .1 .0 .1) (sym ((c .before .before .before .mate) .ensures)))) refl ((c .before .before .before .before .before .before .before .before .before .before .before .pre) .1 .1 .1 .1 .1 .1 .1 .1 .0), (c .before .before .before .before .before .before .before .before .before .before .before .pre) .1 .1 .1 .1 .1 .1 .1 .1 .1))))))))
+past-enter-requires t c κs = (omega (arith, (c .before .before .before .before .before .before .before .before .before .before .before .pre) .0, first-end (((c .before .before .before .before .before .before .before .before .before .before .before .pre) .1) .setting .molecule) (((c .before .before .before .before .before .before .before .before .before .before .before .pre) .1) .arc .0) (((c .before .before .before .before .before .before .before .before .before .before .before .pre) .1) .order .1 .1) (((c .before .before .before .before .before .before .before .before .before .before .before .pre) .1) .order .1 .0) (((c .before .before .before .before .before .before .before .before .before .before .before .pre) .1) .arc .1) (sym ((c .before .before .before .mate) .ensures))), record { setting = ((c .before .before .before .before .before .before .before .before .before .before .before .pre) .1) .setting; closed = (((c .before .before .before .before .before .before .before .before .before .before .before .pre) .1) .order .0, ((c .before .before .before .before .before .before .before .before .before .before .before .pre) .1) .reach .closed); ends = (omega (arith, (c .before .before .before .mate) .ensures, ((c .before .before .before .before .before .before .before .before .before .before .before .pre) .1) .arc .1), (omega (arith, first-end (((c .before .before .before .before .before .before .before .before .before .before .before .pre) .1) .setting .molecule) (((c .before .before .before .before .before .before .before .before .before .before .before .pre) .1) .arc .0) (((c .before .before .before .before .before .before .before .before .before .before .before .pre) .1) .order .1 .1) (((c .before .before .before .before .before .before .before .before .before .before .before .pre) .1) .order .1 .0) (((c .before .before .before .before .before .before .before .before .before .before .before .pre) .1) .arc .1) (sym ((c .before .before .before .mate) .ensures)), ((c .before .before .before .before .before .before .before .before .before .before .before .pre) .1) .order), sym ((c .before .before .before .mate) .ensures))); box = ((c .before .before .before .before .before .before .before .before .before .before .before .pre) .1) .box; kept = ((c .before .before .before .before .before .before .before .before .before .before .before .pre) .1) .kept; room = ((c .before .before .before .before .before .before .before .before .before .before .before .pre) .1) .room; levels = levels-at _ _ _ (omega (arith, first-end (((c .before .before .before .before .before .before .before .before .before .before .before .pre) .1) .setting .molecule) (((c .before .before .before .before .before .before .before .before .before .before .before .pre) .1) .arc .0) (((c .before .before .before .before .before .before .before .before .before .before .before .pre) .1) .order .1 .1) (((c .before .before .before .before .before .before .before .before .before .before .before .pre) .1) .order .1 .0) (((c .before .before .before .before .before .before .before .before .before .before .before .pre) .1) .arc .1) (sym ((c .before .before .before .mate) .ensures)))) (omega (arith, first-end (((c .before .before .before .before .before .before .before .before .before .before .before .pre) .1) .setting .molecule) (((c .before .before .before .before .before .before .before .before .before .before .before .pre) .1) .arc .0) (((c .before .before .before .before .before .before .before .before .before .before .before .pre) .1) .order .1 .1) (((c .before .before .before .before .before .before .before .before .before .before .before .pre) .1) .order .1 .0) (((c .before .before .before .before .before .before .before .before .before .before .before .pre) .1) .arc .1) (sym ((c .before .before .before .mate) .ensures)))) refl (((c .before .before .before .before .before .before .before .before .before .before .before .pre) .1) .levels); tables-of = ((c .before .before .before .before .before .before .before .before .before .before .before .pre) .1) .tables-of })
 
 past-add-place : (t : ℕ) → past-lts.Need-add-place (
   mate-reads.Asked,
@@ -692,7 +692,7 @@ past-add-place : (t : ℕ) → past-lts.Need-add-place (
   enter-below t,
   enter.Post,
 ) (past-at t) past.Post
-past-add-place t c = omega (arith, first-end ((c .before .before .before .before .before .before .before .before .before .before .before .before .before .before .before .before .pre) .1 .0 .molecule) ((c .before .before .before .before .before .before .before .before .before .before .before .before .before .before .before .before .pre) .1 .1 .1 .1 .0 .0) ((c .before .before .before .before .before .before .before .before .before .before .before .before .before .before .before .before .pre) .1 .1 .0 .1 .1) ((c .before .before .before .before .before .before .before .before .before .before .before .before .before .before .before .before .pre) .1 .1 .0 .1 .0) ((c .before .before .before .before .before .before .before .before .before .before .before .before .before .before .before .before .pre) .1 .1 .1 .1 .0 .1) (sym ((c .before .before .before .before .before .before .before .before .mate) .ensures)), (c .before .before .before .before .before .before .before .before .before .before .before .before .before .before .before .before .pre) .1 .1 .0, (c .before .before .before .before .before .before .before .before .before .before .before .before .before .before .before .before .pre) .1 .0 .short)
+past-add-place t c = omega (arith, first-end (((c .before .before .before .before .before .before .before .before .before .before .before .before .before .before .before .before .pre) .1) .setting .molecule) (((c .before .before .before .before .before .before .before .before .before .before .before .before .before .before .before .before .pre) .1) .arc .0) (((c .before .before .before .before .before .before .before .before .before .before .before .before .before .before .before .before .pre) .1) .order .1 .1) (((c .before .before .before .before .before .before .before .before .before .before .before .before .before .before .before .before .pre) .1) .order .1 .0) (((c .before .before .before .before .before .before .before .before .before .before .before .before .before .before .before .before .pre) .1) .arc .1) (sym ((c .before .before .before .before .before .before .before .before .mate) .ensures)), ((c .before .before .before .before .before .before .before .before .before .before .before .before .before .before .before .before .pre) .1) .order, ((c .before .before .before .before .before .before .before .before .before .before .before .before .before .before .before .before .pre) .1) .setting .short)
 
 past-place-requires-2 : (t : ℕ) → past-lts.Need-place-requires-2 (
   mate-reads.Asked,
@@ -702,7 +702,7 @@ past-place-requires-2 : (t : ℕ) → past-lts.Need-place-requires-2 (
   enter-below t,
   enter.Post,
 ) (past-at t) past.Post
-past-place-requires-2 t c κs = (omega (arith, (c .before .before .before .before .before .before .before .before .before .before .before .before .before .before .before .before .before .before .pre) .0, (c .before .before .before .before .before .before .before .before .before .before .mate) .ensures, (c .before .before .before .before .before .before .before .before .before .before .before .before .before .before .before .before .before .before .pre) .1 .1 .1 .1 .0 .1), (narrow _ _ ((c .before .before .before .before .before .before .before .before .before .before .before .before .before .before .before .before .before .before .pre) .1 .0) ((c .before .before .before .before .before .before .enter) .ensures .0 .reach .upto) ((c .before .before .before .before .before .before .before .before .before .before .before .before .before .before .before .before .before .before .pre) .1 .0 .window .ends), ((omega (arith, first-end ((c .before .before .before .before .before .before .before .before .before .before .before .before .before .before .before .before .before .before .pre) .1 .0 .molecule) ((c .before .before .before .before .before .before .before .before .before .before .before .before .before .before .before .before .before .before .pre) .1 .1 .1 .1 .0 .0) ((c .before .before .before .before .before .before .before .before .before .before .before .before .before .before .before .before .before .before .pre) .1 .1 .0 .1 .1) ((c .before .before .before .before .before .before .before .before .before .before .before .before .before .before .before .before .before .before .pre) .1 .1 .0 .1 .0) ((c .before .before .before .before .before .before .before .before .before .before .before .before .before .before .before .before .before .before .pre) .1 .1 .1 .1 .0 .1) (sym ((c .before .before .before .before .before .before .before .before .before .before .mate) .ensures))), (c .before .before .before .before .before .before .before .before .before .before .before .before .before .before .before .before .before .before .pre) .1 .1 .0 .1 .1), (first-behind ((c .before .before .before .before .before .before .before .before .before .before .before .before .before .before .before .before .before .before .pre) .1 .0 .molecule) ((c .before .before .before .before .before .before .before .before .before .before .before .before .before .before .before .before .before .before .pre) .1 .1 .1 .1 .0 .0) ((c .before .before .before .before .before .before .before .before .before .before .before .before .before .before .before .before .before .before .pre) .1 .1 .0 .1 .1) ((c .before .before .before .before .before .before .before .before .before .before .before .before .before .before .before .before .before .before .pre) .1 .1 .0 .1 .0) ((c .before .before .before .before .before .before .before .before .before .before .before .before .before .before .before .before .before .before .pre) .1 .1 .1 .1 .0 .1) (sym ((c .before .before .before .before .before .before .before .before .before .before .mate) .ensures)), (omega (arith, (c .before .before .before .before .before .before .before .before .before .before .before .before .before .before .before .before .before .before .pre) .1 .1 .1 .1 .1 .1 .1 .0, (c .before .before .before .before .before .before .enter) .ensures .1 .long), (levels-behind (nth ((c .before .before .before .before .before .before .before .before .before .before .before .before .before .before .before .before .before .before .args) .qm .now) ((c .before .before .before .before .before .before .before .before .before .before .before .before .before .before .before .before .before .before .args) .stop) - (c .before .before .before .before .before .before .before .before .before .before .before .before .before .before .before .before .before .before .args) .stop) ((c .before .before .before .before .before .before .before .before .before .before .mate) .result) (length ((c .before .before .before .before .before .before .enter) .last .1 .1 .1 .1 .1 .1 .1 .1 .1 .1 .0)) (first-behind ((c .before .before .before .before .before .before .before .before .before .before .before .before .before .before .before .before .before .before .pre) .1 .0 .molecule) ((c .before .before .before .before .before .before .before .before .before .before .before .before .before .before .before .before .before .before .pre) .1 .1 .1 .1 .0 .0) ((c .before .before .before .before .before .before .before .before .before .before .before .before .before .before .before .before .before .before .pre) .1 .1 .0 .1 .1) ((c .before .before .before .before .before .before .before .before .before .before .before .before .before .before .before .before .before .before .pre) .1 .1 .0 .1 .0) ((c .before .before .before .before .before .before .before .before .before .before .before .before .before .before .before .before .before .before .pre) .1 .1 .1 .1 .0 .1) (sym ((c .before .before .before .before .before .before .before .before .before .before .mate) .ensures))) (omega (arith, box-size ((c .before .before .before .before .before .before .before .before .before .before .before .before .before .before .before .before .before .before .pre) .1 .0 .molecule) ((c .before .before .before .before .before .before .before .before .before .before .before .before .before .before .before .before .before .before .pre) .1 .0 .equal) ((c .before .before .before .before .before .before .before .before .before .before .before .before .before .before .before .before .before .before .pre) .1 .1 .1 .1 .1 .0 .1) ((c .before .before .before .before .before .before .before .before .before .before .before .before .before .before .before .before .before .before .pre) .1 .1 .1 .1 .0 .1) (omega (arith, first-end ((c .before .before .before .before .before .before .before .before .before .before .before .before .before .before .before .before .before .before .pre) .1 .0 .molecule) ((c .before .before .before .before .before .before .before .before .before .before .before .before .before .before .before .before .before .before .pre) .1 .1 .1 .1 .0 .0) ((c .before .before .before .before .before .before .before .before .before .before .before .before .before .before .before .before .before .before .pre) .1 .1 .0 .1 .1) ((c .before .before .before .before .before .before .before .before .before .before .before .before .before .before .before .before .before .before .pre) .1 .1 .0 .1 .0) ((c .before .before .before .before .before .before .before .before .before .before .before .before .before .before .before .before .before .before .pre) .1 .1 .1 .1 .0 .1) (sym ((c .before .before .before .before .before .before .before .before .before .before .mate) .ensures)), (c .before .before .before .before .before .before .before .before .before .before .before .before .before .before .before .before .before .before .pre) .1 .1 .0, (c .before .before .before .before .before .before .before .before .before .before .mate) .ensures)), (c .before .before .before .before .before .before .before .before .before .before .mate) .ensures)) (omega (arith, (c .before .before .before .before .before .before .before .before .before .before .mate) .ensures, (c .before .before .before .before .before .before .before .before .before .before .before .before .before .before .before .before .before .before .pre) .1 .1 .1 .1 .0 .1)) ((c .before .before .before .before .before .before .enter) .kept .1 .1 .1 .1 .1 .1 .1 .1 .1 .1 .0) ((c .before .before .before .before .before .before .before .before .before .before .before .before .before .before .before .before .before .before .pre) .1 .1 .1 .1 .1 .1 .1 .1 .0), (c .before .before .before .before .before .before .before .before .before .before .before .before .before .before .before .before .before .before .pre) .1 .1 .1 .1 .1 .1 .1 .1 .1))))))
+past-place-requires-2 t c κs = (omega (arith, (c .before .before .before .before .before .before .before .before .before .before .before .before .before .before .before .before .before .before .pre) .0, (c .before .before .before .before .before .before .before .before .before .before .mate) .ensures, ((c .before .before .before .before .before .before .before .before .before .before .before .before .before .before .before .before .before .before .pre) .1) .arc .1), (narrow _ _ (((c .before .before .before .before .before .before .before .before .before .before .before .before .before .before .before .before .before .before .pre) .1) .setting) ((c .before .before .before .before .before .before .enter) .ensures .0 .reach .upto) (((c .before .before .before .before .before .before .before .before .before .before .before .before .before .before .before .before .before .before .pre) .1) .setting .window .ends), ((omega (arith, first-end (((c .before .before .before .before .before .before .before .before .before .before .before .before .before .before .before .before .before .before .pre) .1) .setting .molecule) (((c .before .before .before .before .before .before .before .before .before .before .before .before .before .before .before .before .before .before .pre) .1) .arc .0) (((c .before .before .before .before .before .before .before .before .before .before .before .before .before .before .before .before .before .before .pre) .1) .order .1 .1) (((c .before .before .before .before .before .before .before .before .before .before .before .before .before .before .before .before .before .before .pre) .1) .order .1 .0) (((c .before .before .before .before .before .before .before .before .before .before .before .before .before .before .before .before .before .before .pre) .1) .arc .1) (sym ((c .before .before .before .before .before .before .before .before .before .before .mate) .ensures))), ((c .before .before .before .before .before .before .before .before .before .before .before .before .before .before .before .before .before .before .pre) .1) .order .1 .1), (first-behind (((c .before .before .before .before .before .before .before .before .before .before .before .before .before .before .before .before .before .before .pre) .1) .setting .molecule) (((c .before .before .before .before .before .before .before .before .before .before .before .before .before .before .before .before .before .before .pre) .1) .arc .0) (((c .before .before .before .before .before .before .before .before .before .before .before .before .before .before .before .before .before .before .pre) .1) .order .1 .1) (((c .before .before .before .before .before .before .before .before .before .before .before .before .before .before .before .before .before .before .pre) .1) .order .1 .0) (((c .before .before .before .before .before .before .before .before .before .before .before .before .before .before .before .before .before .before .pre) .1) .arc .1) (sym ((c .before .before .before .before .before .before .before .before .before .before .mate) .ensures)), (omega (arith, ((c .before .before .before .before .before .before .before .before .before .before .before .before .before .before .before .before .before .before .pre) .1) .room, (c .before .before .before .before .before .before .enter) .ensures .1 .long), (levels-behind (nth ((c .before .before .before .before .before .before .before .before .before .before .before .before .before .before .before .before .before .before .args) .qm .now) ((c .before .before .before .before .before .before .before .before .before .before .before .before .before .before .before .before .before .before .args) .stop) - (c .before .before .before .before .before .before .before .before .before .before .before .before .before .before .before .before .before .before .args) .stop) ((c .before .before .before .before .before .before .before .before .before .before .mate) .result) (length ((c .before .before .before .before .before .before .enter) .last .1 .1 .1 .1 .1 .1 .1 .1 .1 .1 .0)) (first-behind (((c .before .before .before .before .before .before .before .before .before .before .before .before .before .before .before .before .before .before .pre) .1) .setting .molecule) (((c .before .before .before .before .before .before .before .before .before .before .before .before .before .before .before .before .before .before .pre) .1) .arc .0) (((c .before .before .before .before .before .before .before .before .before .before .before .before .before .before .before .before .before .before .pre) .1) .order .1 .1) (((c .before .before .before .before .before .before .before .before .before .before .before .before .before .before .before .before .before .before .pre) .1) .order .1 .0) (((c .before .before .before .before .before .before .before .before .before .before .before .before .before .before .before .before .before .before .pre) .1) .arc .1) (sym ((c .before .before .before .before .before .before .before .before .before .before .mate) .ensures))) (omega (arith, box-size (((c .before .before .before .before .before .before .before .before .before .before .before .before .before .before .before .before .before .before .pre) .1) .setting .molecule) (((c .before .before .before .before .before .before .before .before .before .before .before .before .before .before .before .before .before .before .pre) .1) .setting .equal) (((c .before .before .before .before .before .before .before .before .before .before .before .before .before .before .before .before .before .before .pre) .1) .box .1) (((c .before .before .before .before .before .before .before .before .before .before .before .before .before .before .before .before .before .before .pre) .1) .arc .1) (omega (arith, first-end (((c .before .before .before .before .before .before .before .before .before .before .before .before .before .before .before .before .before .before .pre) .1) .setting .molecule) (((c .before .before .before .before .before .before .before .before .before .before .before .before .before .before .before .before .before .before .pre) .1) .arc .0) (((c .before .before .before .before .before .before .before .before .before .before .before .before .before .before .before .before .before .before .pre) .1) .order .1 .1) (((c .before .before .before .before .before .before .before .before .before .before .before .before .before .before .before .before .before .before .pre) .1) .order .1 .0) (((c .before .before .before .before .before .before .before .before .before .before .before .before .before .before .before .before .before .before .pre) .1) .arc .1) (sym ((c .before .before .before .before .before .before .before .before .before .before .mate) .ensures)), ((c .before .before .before .before .before .before .before .before .before .before .before .before .before .before .before .before .before .before .pre) .1) .order, (c .before .before .before .before .before .before .before .before .before .before .mate) .ensures)), (c .before .before .before .before .before .before .before .before .before .before .mate) .ensures)) (omega (arith, (c .before .before .before .before .before .before .before .before .before .before .mate) .ensures, ((c .before .before .before .before .before .before .before .before .before .before .before .before .before .before .before .before .before .before .pre) .1) .arc .1)) ((c .before .before .before .before .before .before .enter) .kept .1 .1 .1 .1 .1 .1 .1 .1 .1 .1 .0) (((c .before .before .before .before .before .before .before .before .before .before .before .before .before .before .before .before .before .before .pre) .1) .levels), ((c .before .before .before .before .before .before .before .before .before .before .before .before .before .before .before .before .before .before .pre) .1) .tables-of))))))
 
 past-same-length-3 : (t : ℕ) → past-lts.Need-same-length-3 (
   mate-reads.Asked,
@@ -732,7 +732,7 @@ past-returns-2 : (t : ℕ) → past-lts.Need-returns-2 (
   enter-below t,
   enter.Post,
 ) (past-at t) past.Post
-past-returns-2 t c = but-rest (omega (arith, (c .before .before .before .before .before .before .before .before .before .before .before .before .before .before .before .mate) .ensures, (c .before .before .before .before .before .before .before .before .before .before .before .before .before .before .before .before .before .before .before .before .before .before .before .pre) .1 .1 .1 .1 .0 .1)) (omega (arith, first-end ((c .before .before .before .before .before .before .before .before .before .before .before .before .before .before .before .before .before .before .before .before .before .before .before .pre) .1 .0 .molecule) ((c .before .before .before .before .before .before .before .before .before .before .before .before .before .before .before .before .before .before .before .before .before .before .before .pre) .1 .1 .1 .1 .0 .0) ((c .before .before .before .before .before .before .before .before .before .before .before .before .before .before .before .before .before .before .before .before .before .before .before .pre) .1 .1 .0 .1 .1) ((c .before .before .before .before .before .before .before .before .before .before .before .before .before .before .before .before .before .before .before .before .before .before .before .pre) .1 .1 .0 .1 .0) ((c .before .before .before .before .before .before .before .before .before .before .before .before .before .before .before .before .before .before .before .before .before .before .before .pre) .1 .1 .1 .1 .0 .1) (sym ((c .before .before .before .before .before .before .before .before .before .before .before .before .before .before .before .mate) .ensures)))) (first-split ((c .before .before .before .before .before .before .before .before .before .before .before .before .before .before .before .before .before .before .before .before .before .before .before .pre) .1 .0 .molecule) ((c .before .before .before .before .before .before .before .before .before .before .before .before .before .before .before .before .before .before .before .before .before .before .before .pre) .1 .1 .1 .1 .0 .0) ((c .before .before .before .before .before .before .before .before .before .before .before .before .before .before .before .before .before .before .before .before .before .before .before .pre) .1 .1 .0 .1 .1) ((c .before .before .before .before .before .before .before .before .before .before .before .before .before .before .before .before .before .before .before .before .before .before .before .pre) .1 .1 .0 .1 .0) ((c .before .before .before .before .before .before .before .before .before .before .before .before .before .before .before .before .before .before .before .before .before .before .before .pre) .1 .1 .1 .1 .0 .1) (sym ((c .before .before .before .before .before .before .before .before .before .before .before .before .before .before .before .mate) .ensures))) ((c .before .before .before .before .before .before .before .before .before .before .before .enter) .ensures .0) ((c .before .before .before .before .place2) .ensures .0) ((c .before .before .before .before .before .before .before .before .before .before .before .before .before .before .before .before .before .before .before .before .before .before .before .pre) .1 .1 .1 .0) ((c .before .before .before .before .before .before .before .before .before .before .before .enter) .ensures .1) ((c .before .before .before .before .place2) .ensures .1)
+past-returns-2 t c = but-rest (omega (arith, (c .before .before .before .before .before .before .before .before .before .before .before .before .before .before .before .mate) .ensures, ((c .before .before .before .before .before .before .before .before .before .before .before .before .before .before .before .before .before .before .before .before .before .before .before .pre) .1) .arc .1)) (omega (arith, first-end (((c .before .before .before .before .before .before .before .before .before .before .before .before .before .before .before .before .before .before .before .before .before .before .before .pre) .1) .setting .molecule) (((c .before .before .before .before .before .before .before .before .before .before .before .before .before .before .before .before .before .before .before .before .before .before .before .pre) .1) .arc .0) (((c .before .before .before .before .before .before .before .before .before .before .before .before .before .before .before .before .before .before .before .before .before .before .before .pre) .1) .order .1 .1) (((c .before .before .before .before .before .before .before .before .before .before .before .before .before .before .before .before .before .before .before .before .before .before .before .pre) .1) .order .1 .0) (((c .before .before .before .before .before .before .before .before .before .before .before .before .before .before .before .before .before .before .before .before .before .before .before .pre) .1) .arc .1) (sym ((c .before .before .before .before .before .before .before .before .before .before .before .before .before .before .before .mate) .ensures)))) (first-split (((c .before .before .before .before .before .before .before .before .before .before .before .before .before .before .before .before .before .before .before .before .before .before .before .pre) .1) .setting .molecule) (((c .before .before .before .before .before .before .before .before .before .before .before .before .before .before .before .before .before .before .before .before .before .before .before .pre) .1) .arc .0) (((c .before .before .before .before .before .before .before .before .before .before .before .before .before .before .before .before .before .before .before .before .before .before .before .pre) .1) .order .1 .1) (((c .before .before .before .before .before .before .before .before .before .before .before .before .before .before .before .before .before .before .before .before .before .before .before .pre) .1) .order .1 .0) (((c .before .before .before .before .before .before .before .before .before .before .before .before .before .before .before .before .before .before .before .before .before .before .before .pre) .1) .arc .1) (sym ((c .before .before .before .before .before .before .before .before .before .before .before .before .before .before .before .mate) .ensures))) ((c .before .before .before .before .before .before .before .before .before .before .before .enter) .ensures .0) ((c .before .before .before .before .place2) .ensures .0) (((c .before .before .before .before .before .before .before .before .before .before .before .before .before .before .before .before .before .before .before .before .before .before .before .pre) .1) .reach) ((c .before .before .before .before .before .before .before .before .before .before .before .enter) .ensures .1) ((c .before .before .before .before .place2) .ensures .1)
 
 abbrev place-Inv-loop : place-lts.InvT-loop
 place-Inv-loop p pm q qm from to lo hi places₀ work₀ tables j₀ s₀ places work j s = Walked p pm q qm to from lo hi j s × Laid p pm q qm from j lo s places₀ places × (length work ≡ length work₀)

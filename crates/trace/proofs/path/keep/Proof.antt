@@ -27,7 +27,7 @@ part-part-end : tie.Need-part-part-end
 part-part-end c = search needs
 
 inner-row-requires : tie.Need-inner-row-requires
-inner-row-requires c κs = (c .before .before .before .before .before .before .before .before .before .before .before .pre .0, (c .before .before .before .before .before .before .before .before .before .before .before .pre .1 .1 .0, (room-part _ _ _ _ (c .before .before .before .cut .last .0) (c .before .before .before .before .before .before .before .before .before .before .before .pre .0 .short) (c .before .before .before .before .before .before .before .before .before .before .before .pre .1 .1 .0 .1 .0) (omega (arith, c .before .before .before .before .before .before .before .before .before .before .before .pre .1 .1 .1 .1 .0, c .before .before .before .cut .kept .0)), (c .before .before .before .before .before .before .before .before .before .before .before .pre .1 .1 .1 .1 .1, cut-box (length (c .before .before .before .before .before .before .before .before .before .before .before .args .p .now) + 1) (c .before .before .before .before .before .before .before .before .before .before .before .args .work .now) (c .before .before .before .cut .last .0) ((c .before .before .before .before .before .before .before .before .before .before .before .pre .1 .1 .1 .0) .low) ((c .before .before .before .before .before .before .before .before .before .before .before .pre .1 .1 .1 .0) .high) (c .before .before .before .before .before .before .before .before .before .before .before .pre .1 .0) (omega (arith, c .before .before .before .before .before .before .before .before .before .before .before .pre .1 .1 .1 .1 .0, c .before .before .before .cut .kept .0)) (record { row = (c .before .before .before .before .before .before .before .before .before .before .before .pre .1 .1 .1 .0) .row }) (c .before .before .before .cut .ensures)))))
+inner-row-requires c κs = (c .before .before .before .before .before .before .before .before .before .before .before .pre .0, (c .before .before .before .before .before .before .before .before .before .before .before .pre .1 .1 .0, (room-part _ _ _ _ (c .before .before .before .cut .last .0) (c .before .before .before .before .before .before .before .before .before .before .before .pre .0 .short) (c .before .before .before .before .before .before .before .before .before .before .before .pre .1 .1 .0 .1 .0) (omega (arith, c .before .before .before .before .before .before .before .before .before .before .before .pre .1 .1 .1 .1 .0, c .before .before .before .cut .kept .0)), (c .before .before .before .before .before .before .before .before .before .before .before .pre .1 .1 .1 .1 .1, cut-box (length (c .before .before .before .before .before .before .before .before .before .before .before .args .p .now) + 1) (c .before .before .before .before .before .before .before .before .before .before .before .args .work .now) (c .before .before .before .cut .last .0) ((c .before .before .before .before .before .before .before .before .before .before .before .pre .1 .1 .1 .0) .low) ((c .before .before .before .before .before .before .before .before .before .before .before .pre .1 .1 .1 .0) .high) (c .before .before .before .before .before .before .before .before .before .before .before .pre .1 .0) (omega (arith, c .before .before .before .before .before .before .before .before .before .before .before .pre .1 .1 .1 .1 .0, c .before .before .before .cut .kept .0)) ((c .before .before .before .before .before .before .before .before .before .before .before .pre .1 .1 .1 .0) .boxed) (c .before .before .before .cut .ensures)))))
 
 same-length : tie.Need-same-length
 same-length c = search needs
