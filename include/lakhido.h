@@ -11,7 +11,7 @@
  * - A pointer to 16-bit numbers is aligned to 2 bytes. Pointers to bytes need no alignment.
  * - A buffer of length 0 is not read or written, and its pointer may be null. Any other pointer is valid for its whole length.
  * - A buffer that a call may write (no `const`) overlaps no other buffer of the same call. Buffers with `const` may overlap each other.
- * - `work` may hold anything, and need not be initialised: no answer depends on what it holds. Every other buffer is initialised.
+ * - `work` may hold anything: no answer depends on it. That it may be uninitialised is not proved. Every other buffer is initialised.
  * - No call allocates, keeps a pointer, or has state of its own: calls on buffers that no other thread writes may run at the same time.
  * - Beside its buffers a call uses stack: see LAKHIDO_STACK.
  *
@@ -35,7 +35,8 @@ extern "C" {
 #define LAKHIDO_MOTIF_MOST 120
 
 /* A block is LAKHIDO_BLOCK bytes. A catalog has 1 to LAKHIDO_BLOCKS_MOST blocks, block d for molecule d; a cache 1 to LAKHIDO_SLOTS_MOST.
- * A block of zeros is empty: a new catalog and a new cache are all zeros. */
+ * A block of zeros is empty: a new catalog and a new cache are all zeros. A cache block, or slot, keeps the answers of one motif; motifs whose
+ * key (sum of bytes and mates) is equal mod the number of blocks share one, and the later takes its place. */
 #define LAKHIDO_BLOCK 512
 #define LAKHIDO_BLOCKS_MOST 512
 #define LAKHIDO_SLOTS_MOST 64

@@ -2,36 +2,196 @@
 """Writes the input of the test program catalog_test: `python3 tools/catalog_cases.py > crates/catalog_test/stdin`.
 
 The columns of a line are described in crates/catalog_test/src/main.rt. The answers of the cases are written here by hand, from the table of
-refusals and its order; those of random calls come from the plain model of `Random`.
+refusals and its order; those of random calls come from the plain model of `Random`. `Model` must give the same answers, and says what bytes
+and hits a call leaves.
 """
+import functools
+
+import matcher_cases
 
 LARGEST = 9999999
-CACHE = 513 * 512
+BLOCK = 512
+CACHE = 513 * BLOCK
 
 
 def say(text):
-    print('%-79s' % text)
+    print('%-101s' % text)
 
 
+def group(name):
+    say('G %02d %s' % (len(name), name))
+
+
+def refused(row, side, place=0):
+    return row * 100000 + side * 10000 + place
+
+
+def found(count, searched):
+    return 9000000 + count * 1000 + searched
+
+
+# The sum of a list of numbers, as the test program takes it. Every number counts: one other changes the sum.
+def total(numbers, before=0):
+    for x in numbers:
+        before = (before * 31 + x + 1) % 2 ** 32
+    return before
+
+
+@functools.cache
+def block_total(block):
+    return total(block)
+
+
+def bytes_total(data):
+    sum = 0
+    for i in range(0, len(data), BLOCK):
+        block = bytes(data[i:i + BLOCK])
+        sum = (sum * pow(31, len(block), 2 ** 32) + block_total(block)) % 2 ** 32
+    return sum
+
+
+@functools.cache
+def strand(bases, mates):
+    return matcher_cases.Strand(bases, mates, '')
+
+
+# The first refusal of a strand.
+def strand_refusal(bases, mates, side, greatest):
+    n = len(bases)
+    if n != len(mates):
+        return refused(1, side)
+    if n == 0:
+        return refused(2, side)
+    if greatest < n:
+        return refused(3, side)
+    rules = (lambda i: bases[i] not in 'ACGU', lambda i: n <= mates[i], lambda i: mates[mates[i]] != i,
+             lambda i: any(i < mates[a] < mates[i] for a in range(i)))
+    return next((refused(4 + k, side, i) for k, rule in enumerate(rules) for i in range(n) if rule(i)), 0)
+
+
+class Model:
+    """The bytes of catalog and cache, and which of their blocks are unsound: it never asks the bytes for that."""
+
+    def __init__(self):
+        self.bytes, self.unsound = bytearray(CACHE + 65 * BLOCK), set()
+
+    def block(self, b):
+        return self.bytes[BLOCK * b:BLOCK * (b + 1)]
+
+    def put(self, b, block, sealed=True):
+        if sealed:
+            block[508:512] = sum((i + 1) * v for i, v in enumerate(block[:508])).to_bytes(4, 'little')
+        self.bytes[BLOCK * b:BLOCK * (b + 1)] = block
+
+    # Sets a byte of a block, and where `sealed` its checksum: the bytes that are other ones then.
+    def set(self, i, v, sealed, unsound):
+        b, old = i // BLOCK, bytes(self.bytes)
+        (self.unsound.add if unsound else self.unsound.discard)(b)
+        self.bytes[i] = v
+        self.put(b, self.block(b), sealed)
+        return [(j, self.bytes[j]) for j in range(BLOCK * b + 508, BLOCK * (b + 1)) if j != i and self.bytes[j] != old[j]]
+
+    def held(self, d):
+        return self.bytes[BLOCK * d] != 0
+
+    def strand(self, b, at, width):
+        block = self.block(b)
+        n = block[1]
+        return strand(block[at:at + n].decode(), tuple(block[at + width + 2 * i] + 256 * block[at + width + 2 * i + 1] for i in range(n)))
+
+    def verdict(self, kind, d, cat, cache, work, hits, bases, mates):
+        for n, most in ((cat, 512), (cache, 64)):
+            if n % BLOCK or not 1 <= n // BLOCK <= most:
+                return refused(10, 2)
+        for i in range(cat // BLOCK):
+            if i in self.unsound:
+                return refused(11, 2, i)
+        if kind == 'Q':
+            late = refused(9, 2) if hits < cat // BLOCK else refused(8, 2) if work < 64 * (len(bases) + 1) + 1280 else 0
+            return strand_refusal(bases, mates, 0, 120) or late
+        if cat // BLOCK <= d:
+            return refused(12, 2)
+        if kind == 'R':
+            return 0 if self.held(d) else refused(14, 2)
+        return refused(13, 2) if self.held(d) else strand_refusal(bases, mates, 1, 160)
+
+    # A block of a kind with a strand: the bases from i on, the mates from j on.
+    def encoded(self, kind, bases, mates, i, j):
+        block = bytearray(BLOCK)
+        block[0:2] = kind, len(bases)
+        block[i:i + len(bases)] = bases.encode()
+        block[j:j + 2 * len(mates)] = b''.join(m.to_bytes(2, 'little') for m in mates)
+        return block
+
+    # An accepted call empties unsound cache blocks, and remove takes d out of the others.
+    def tidy(self, kind, d, slots):
+        for b in range(513, 513 + slots):
+            if b in self.unsound:
+                self.unsound.remove(b)
+                self.put(b, bytearray(BLOCK))
+            if kind == 'R':
+                block = self.block(b)
+                for at in (380, 444):
+                    block[at + d // 8] &= ~(1 << d % 8)
+                self.put(b, block)
+
+    # The hits, and how many molecules were searched.
+    def query(self, n, slots, bases, mates):
+        b = 513 + (sum(bases.encode()) + sum(mates)) % slots
+        entry, old, hits, searched = self.encoded(2, bases, mates, 20, 140), self.block(b), [], 0
+        known = old[:380] == entry[:380]
+        for d in filter(self.held, range(n)):
+            at, bit = d // 8, 1 << d % 8
+            if known and old[380 + at] & bit:
+                hit = old[444 + at] & bit
+            else:
+                hit = matcher_cases.longest(strand(bases, tuple(mates)), self.strand(d, 28, 160)) == len(bases)
+                searched += 1
+            entry[380 + at] |= bit
+            if hit:
+                entry[444 + at] |= bit
+                hits.append(d)
+        self.put(b, entry)
+        return hits, searched
+
+    # The answer of a call, and its hits; every byte of them is 7 where the call leaves them.
+    def call(self, kind, d, cat, cache, work, hits, bases, mates):
+        v, list = self.verdict(kind, d, cat, cache, work, hits, bases, mates), []
+        if v == 0:
+            self.tidy(kind, d, cache // BLOCK)
+            if kind == 'A':
+                self.put(d, self.encoded(1, bases, mates, 28, 188))
+            elif kind == 'R':
+                self.put(d, bytearray(BLOCK))
+            else:
+                list, searched = self.query(cat // BLOCK, cache // BLOCK, bases, mates)
+                v = found(len(list), searched)
+        return v, list + [1799] * (512 - len(list))
+
+
+MODEL = Model()
+
+
+def number_of(digit):
+    return 65535 if digit == 'z' else int(digit, 36)
+
+
+# A line, and for a call what it leaves.
 def line(kind, d=0, cat=0, cache=0, work=0, hits=0, answer=0, bases='', mates='', note=''):
     if note:
         say('# ' + note)
     long = mates[:1] in ('-', '=')
     n, k = (int(mates[1:]),) * 2 if long else (len(bases), len(mates))
-    say('%s %07d %06d %05d %05d %03d %07d %-13s %-13s %02d %03d %03d'
-        % (kind, d, cat, cache, work, hits, answer, bases, mates[0] if long else mates, len(bases), n, k))
-
-
-def group(name):
-    say('G %s:' % name)
-
-
-def refused(row, side, place=0):
-    return row * 10000 + side * 1000 + place
-
-
-def found(count, searched):
-    return 9000000 + count * 1000 + searched
+    left = listed = 0
+    if kind in 'ARQ':
+        all_bases = (bases * n)[:n]
+        all_mates = [(n - 1 - i if mates[0] == '=' else i) if long else number_of(mates[i]) for i in range(k)]
+        got, list = MODEL.call(kind, d, cat, cache, work, hits, all_bases, all_mates)
+        assert got == answer, (got, answer, note)
+        left = (bytes_total(MODEL.bytes[:cat]) + bytes_total(MODEL.bytes[CACHE:CACHE + cache])) % 2 ** 32
+        listed = total(list) if kind == 'Q' else 0
+    say('%s %07d %06d %05d %05d %03d %07d %-13s %-13s %02d %03d %03d %010d %010d'
+        % (kind, d, cat, cache, work, hits, answer, bases, mates[0] if long else mates, len(bases), n, k, left, listed))
 
 
 class World:
@@ -39,6 +199,7 @@ class World:
 
     def __init__(self, b, s):
         self.b, self.cat, self.cache = b, 512 * b, 512 * s
+        MODEL.__init__()
         line('N')
 
     def add(self, d, bases, mates, answer=0, note='', cat=None, cache=None):
@@ -55,8 +216,11 @@ class World:
 
 # A byte of the catalog, or one of the cache: an alteration (S), one of a block that is unsound with its right checksum (U), or one of a
 # foreign entry (F).
+# With the right checksum its bytes are set too.
 def set_byte(kind, i, v, note='', unsound=True):
-    line('S' if kind == 'S' else 'C', i, work=v, hits=0 if kind == 'F' else int(unsound), note=note)
+    for j, w in MODEL.set(i, v, kind != 'S', unsound and kind != 'F'):
+        line('B', j, work=w)
+    line('S', i, work=v, note=note)
 
 
 # Rows 1 to 7 of a strand of a side, and each two neighbours that can apply at once. Rows 2 and 3 cannot.
@@ -357,20 +521,6 @@ def spoil(how, x, bases, mates):
         mates[i] = j + i % 2
     if how == 2 and mates[i] == i and mates[j] == j:
         mates[i], mates[j] = j, i
-
-
-# The first refusal of a strand.
-def strand_refusal(bases, mates, side, greatest):
-    n = len(bases)
-    if n != len(mates):
-        return refused(1, side)
-    if n == 0:
-        return refused(2, side)
-    if greatest < n:
-        return refused(3, side)
-    rules = (lambda i: bases[i] not in 'ACGU', lambda i: n <= mates[i], lambda i: mates[mates[i]] != i,
-             lambda i: any(i < mates[a] < mates[i] for a in range(i)))
-    return next((refused(4 + k, side, i) for k, rule in enumerate(rules) for i in range(n) if rule(i)), 0)
 
 
 # The motif from position len(places) on has places in the molecule from y on.

@@ -1,14 +1,19 @@
-//! Links the library's archive, libcapi.a, from the folder LAKHIDO_LIB_DIR, or from target/staticlib of the repository. With the feature `c-peers` it
-//! also compiles the plain C versions of bindings/bench, which the benchmark times against.
+//! Links the library's archive, libcapi.a, from the folder LAKHIDO_LIB_DIR (a relative path is from the folder of this package), or from target/staticlib of
+//! the repository. With the feature `c-peers` it also compiles the plain C versions of benches/peers, which the benchmark times against.
 use std::env;
 use std::path::{Path, PathBuf};
 use std::process::Command;
 
 fn main() {
+    let architecture = env::var("CARGO_CFG_TARGET_ARCH").expect("cargo sets CARGO_CFG_TARGET_ARCH");
+    if architecture != "x86_64" {
+        println!("cargo::error=lakhido: the target is {architecture}, and the library's archive is for x86_64 alone");
+        return;
+    }
     let here = PathBuf::from(env::var_os("CARGO_MANIFEST_DIR").expect("cargo sets CARGO_MANIFEST_DIR"));
-    let repository = here.join("../..");
     println!("cargo::rerun-if-env-changed=LAKHIDO_LIB_DIR");
-    let folder = env::var_os("LAKHIDO_LIB_DIR").map_or_else(|| repository.join("target/staticlib"), PathBuf::from);
+    // The linker runs in the folder of the workspace, which may be another: the path is absolute.
+    let folder = here.join(env::var_os("LAKHIDO_LIB_DIR").unwrap_or_else(|| "../../target/staticlib".into()));
     let archive = folder.join("libcapi.a");
     println!("cargo::rerun-if-changed={}", archive.display());
     if !archive.exists() {
@@ -21,7 +26,7 @@ fn main() {
     println!("cargo::rustc-link-search=native={}", folder.display());
     println!("cargo::rustc-link-lib=static=capi");
     if env::var_os("CARGO_FEATURE_C_PEERS").is_some() {
-        compile_peers(&repository.join("bindings/bench"));
+        compile_peers(&here.join("benches/peers"));
     }
 }
 
@@ -36,7 +41,7 @@ fn compile_peers(sources: &Path) {
     for name in ["rows", "windows", "show", "sound", "query"] {
         let (source, object) = (sources.join(name).with_extension("c"), out.join(name).with_extension("o"));
         println!("cargo::rerun-if-changed={}", source.display());
-        run(Command::new(&compiler).args(["-std=gnu99", "-O3", "-march=x86-64", "-c", "-o"]).arg(&object).arg(&source));
+        run(Command::new(&compiler).args(["-std=gnu99", "-Wall", "-Wextra", "-O3", "-march=x86-64", "-c", "-o"]).arg(&object).arg(&source));
         objects.push(object);
     }
     run(Command::new("ar").arg("crs").arg(out.join("libpeers.a")).args(&objects));

@@ -88,6 +88,7 @@ pub struct Strand<'a> {
 }
 
 impl<'a> Strand<'a> {
+    /// The strand of these bases and mates. Nothing is checked.
     pub const fn new(bases: &'a [u8], mates: &'a [u16]) -> Self {
         Strand { bases, mates }
     }
@@ -155,6 +156,9 @@ pub fn remove(catalog: &mut [u8], cache: &mut [u8], number: usize) -> Result<(),
 /// Finds the molecules of the catalog that the motif, of 1 to [`MOTIF_MOST`] bases, embeds in, and writes their numbers, rising, to the start of `hits`,
 /// keeping the later entries. `hits` has at least as many entries as the catalog has blocks. What the cache knows of this motif is not searched
 /// again; the block of the motif's slot is written anew, and every unsound block of the cache is zeroed.
+///
+/// A cache block, or slot, keeps the answers of one motif; motifs whose key (sum of bytes and mates) is equal mod the number of blocks share one, and the
+/// later takes its place.
 ///
 /// `work` has at least [`query_work_size`] entries; what it holds before is of no matter, and what it holds after an accepted call is free.
 ///

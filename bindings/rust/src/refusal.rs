@@ -102,7 +102,9 @@ impl Side {
 /// A refused call. It has changed nothing.
 #[derive(Clone, Copy, PartialEq, Eq, Debug, Hash)]
 pub struct Refusal {
+    /// The first row of the table of refusals that applies, in the order that the call gives.
     pub reason: Reason,
+    /// The strand that it is about, if any.
     pub side: Side,
     /// The lowest position or block that the reason names, 0 where it names none.
     pub place: usize,

@@ -1,28 +1,30 @@
 -- The laws that the crates above go by: what is encoded is sound and is decoded again, a sound block is the encoding of what it holds,
--- a number is taken out of an entry, and one changed byte makes a sound block unsound. They see layouts through these only.
+-- a number is taken out of an entry, one changed byte makes a sound block unsound. They see layouts through these only.
 -- Assumes nothing.
 use mathlib.Core.Path.{_≡_, refl, sym, ap, _∙_}
-use mathlib.Core.Bool.{Bool, true, false, not, _||_}
+use mathlib.Core.Bool.{Bool, true, false, not, _||_, _&&_}
 use mathlib.Core.List.{List, _++_, append-assoc}
 use Prim.Native.Nat.{ℕ, suc, _+_, _-_, _<_, _≤_}
 use native.Mathlib.Omega.{arith}
-use lib.ListN.{length, drop, replicate, length-drop}
+use lib.ListN.{length, drop, replicate, length-drop, length-set, length-replicate}
 use lib.Seq.{length-take-le}
 use Rattle.strand.specs.Vocabulary.{nth, choose}
 use Rattle.strand.specs.Strands.{Strand, moleculeSide, motifSide, Proper}
 use Rattle.strand.proofs.ListLaws.{every-at, never, zeros-at, zeros-not, zeros-zero, zeros-are}
 use Rattle.octets.specs.Numbers.{Bytes}
-use Rattle.octets.specs.Checksum.{checked, checksumOk}
+use Rattle.octets.specs.Checksum.{checked, checksumOk, rechecked}
 use Rattle.octets.specs.Maps.{mapBytes, without}
 use Rattle.block.specs.Content.{Kind, moleculeKind, entryKind, emptyBlock, isEmpty, lengthIn, strandIn, moleculeIn, motifIn, searchedIn, hitIn, contentOf, moleculeBlock, entryBlock, encodeMolecule, encodeEntry}
-use Rattle.block.specs.Block.{hitOk, hitsOk, soundMolecule, soundEntry}
-use Rattle.block.specs.Buffer.{forgot}
+use Rattle.block.specs.Block.{hitOk, hitsOk, soundMolecule, soundEntry, forgot, cleaned}
 use Rattle.block.proofs.SoundLaws.{Content, Sound, blank, filled, molecule-zero, entry-zero, molecule-is, entry-is, entry-hits-ok}
 pub use Rattle.block.proofs.SoundLaws.{molecule-size, entry-size}
 pub use Rattle.block.proofs.Altered.{molecule-changed, entry-changed}
 use Rattle.block.proofs.RoundTrip as trip
 use Rattle.block.proofs.EntryLaws as entry
 use Rattle.block.proofs.EncodedLaws.{strand-proper, molecule-same, entry-same}
+use lib.Dec.{eqb}
+use borrow.Author.Tests.{eq-eqb, ne-eqb}
+use Rattle.octets.specs.Bits.{clearMap}
 
 -- ---- the empty block
 
@@ -169,3 +171,43 @@ module _ (s : List ℕ) (ok : soundEntry s ≡ true) where
     pub entry-hit-searched : (d : ℕ) → d < 512 → hitIn s d ≡ true → searchedIn s d ≡ true
     unfolding hitIn searchedIn hitsOk hitOk
     entry-hit-searched d l h = rw h at (every-at (hitOk s) 512 d (entry-hits-ok s ok full) l)
+
+-- ---- a block cleaned, a number forgotten
+
+pub length-cleaned : (s : List ℕ) → length (cleaned s) ≡ length s
+unfolding cleaned choose
+length-cleaned s = go (soundEntry s)
+  where
+    go : (b : Bool) → length (choose b s (replicate (length s) 0)) ≡ length s
+    go true = refl
+    go false = length-replicate (length s) 0
+
+pub length-forgot : (d : ℕ) (s : List ℕ) → length (forgot d s) ≡ length s
+unfolding forgot rechecked clearMap choose
+length-forgot d s = go (eqb (length s) 512 && eqb (nth s 0) 2)
+  where
+    go : (b : Bool) → length (choose b (rechecked (clearMap (clearMap s 380 d) 444 d)) s) ≡ length s
+    go true = simp length-set
+    go false = refl
+
+pub clean-yes : (s : List ℕ) → soundEntry s ≡ true → s ≡ cleaned s
+unfolding cleaned choose
+clean-yes s h = rw h
+
+pub clean-no : (s : List ℕ) → soundEntry s ≡ false → replicate (length s) 0 ≡ cleaned s
+unfolding cleaned choose
+clean-no s h = rw h
+
+module _ (d : ℕ) (s : List ℕ) where
+  pub forget-1 : (length s ≡ 512 → ⊥) → s ≡ forgot d s
+  unfolding forgot choose
+  forget-1 h = rw (ne-eqb (length s) 512 h)
+
+  pub forget-2 : length s ≡ 512 → (nth s 0 ≡ 2 → ⊥) → s ≡ forgot d s
+  unfolding forgot choose
+  forget-2 h k = rw (eq-eqb (length s) 512 h, ne-eqb (nth s 0) 2 k)
+
+  pub forget-3 : (u v r : List ℕ) → length s ≡ 512 → nth s 0 ≡ 2 → u ≡ clearMap s 380 d → v ≡ clearMap u 444 d
+      → r ≡ rechecked v → r ≡ forgot d s
+  unfolding forgot choose
+  forget-3 u v r h k eu ev er = rw (eq-eqb (length s) 512 h, eq-eqb (nth s 0) 2 k, ← eu, ← ev) er

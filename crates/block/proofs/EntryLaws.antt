@@ -15,9 +15,8 @@ use Rattle.octets.specs.Checksum.{checksumOf, checksumOk, checked}
 use Rattle.octets.specs.Bits.{mapBit, clearMap}
 use Rattle.octets.specs.Maps.{mapBytes, without}
 use Rattle.block.specs.Content.{entryKind, strandIn, contentOf, entryBlock}
-use Rattle.block.specs.Block.{contentOk, hitOk, hitsOk, soundEntry}
-use Rattle.block.specs.Buffer.{forgot}
-use Rattle.block.proofs.CodeLaws.{length-content, check-put}
+use Rattle.block.specs.Block.{contentOk, hitOk, hitsOk, soundEntry, forgot}
+use Rattle.block.proofs.PartLaws.{length-content, check-put}
 use Rattle.octets.proofs.MapLaws.{length-map, map-in, map-bit, clear-in, map-clear, map-small, length-clear}
 use Rattle.octets.proofs.ByteLaws.{small-append}
 use Rattle.block.proofs.RoundTrip.{small-content, kind-byte, strand-back, content-sound, check-sound}

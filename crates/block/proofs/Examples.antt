@@ -15,7 +15,7 @@ use Rattle.octets.specs.Checksum.{sumTo, checksumOf, checksumOk, checked}
 use Rattle.block.specs.Content.{moleculeKind, contentOf, moleculeBlock, entryBlock, encodeMolecule, encodeEntry}
 use Rattle.strand.proofs.ListLaws.{zeros-at, zeros-zero}
 use Rattle.octets.proofs.SumLaws.{sum-append, sum-blank}
-use Rattle.block.proofs.CodeLaws.{length-content}
+use Rattle.block.proofs.PartLaws.{length-content}
 use Rattle.block.proofs.RoundTrip.{small-content, check-sound}
 
 -- Its first 29 bytes; the rest up to the checksum is zero.

@@ -1,13 +1,9 @@
 pub mod SoundLaws
-pub mod CodeLaws
+pub mod PartLaws
 pub mod Altered
 pub mod RoundTrip
 pub mod EntryLaws
-pub mod BufferLaws
-pub mod BlockLaws
 pub mod EncodedLaws
-pub mod WriteLaws
 pub mod ContentLaws
-pub mod OutcomeLaws
 pub mod Examples
 pub mod Claims

@@ -23,9 +23,8 @@ use Rattle.block.specs.Block.{contentWith, contentOk, soundMolecule}
 use Rattle.octets.proofs.ByteLaws.{small-append, small-zeros, small-bytes}
 use Rattle.octets.proofs.SumLaws.{sum-append, sum-small}
 use Rattle.octets.proofs.ScanLaws.{length-bytes}
-use Rattle.block.proofs.BlockLaws.{regroup}
-use Rattle.block.proofs.CodeLaws.{length-content, length-padded, length-head}
-use Rattle.block.proofs.SoundLaws.{content-8, molecule-rules}
+use Rattle.block.proofs.PartLaws.{regroup, length-content, length-padded, length-head}
+use Rattle.block.proofs.SoundLaws.{bases-3, mates-2, content-5, molecule-rules}
 
 -- ---- two-byte numbers
 
@@ -179,11 +178,12 @@ module _ (k : Kind) (bases mates t : List ℕ) (ha : 2 ≤ k .start) (hk : k .mo
   pub content-sound : contentOk k block ≡ true
   content-sound =
       ap (λ (n : ℕ). contentWith k n block) length-byte
-      ∙ sym (content-8 k (length bases) block kind-byte (P .enough) hb
+      ∙ sym (mates-2 (matesAt k) (k .most) (length bases) block (ap (all isZero) unused₂-part ∙ zeros-zero (2 * k .most - length (bytesOf mates)))
+      ∙ content-5 k (length bases) block kind-byte (P .enough) hb
+      (sym (bases-3 (k .side) (k .start) (k .most) (length bases) block
       (ap (all isZero) blank-part ∙ zeros-zero (k .start - 2))
-      (ap (all (isLetter (k .side))) bases-part ∙ P .letters)
-      (ap (all isZero) unused-part ∙ zeros-zero (k .most - length bases))
-      (ap (all isZero) unused₂-part ∙ zeros-zero (2 * k .most - length (bytesOf mates))))
+      (ap (all (isLetter (k .side))) bases-part ∙ P .letters))
+      ∙ ap (all isZero) unused-part ∙ zeros-zero (k .most - length bases)))
       ∙ ap isNested mates-part ∙ nested-test mates (rw (← hm) at (P .nested))
 
 -- ---- bytes

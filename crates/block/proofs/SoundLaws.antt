@@ -17,12 +17,33 @@ use Rattle.octets.specs.Numbers.{isZero, words}
 use Rattle.octets.specs.Checksum.{checksumOk}
 use Rattle.octets.specs.Bits.{bitOf, mapBit, bitsWithin}
 use Rattle.block.specs.Content.{Kind, moleculeKind, entryKind, matesAt, matesEnd, isEmpty, lengthIn}
-use Rattle.block.specs.Block.{blockOf, contentWith, contentOk, hitOk, hitsOk, moleculeRules, entryRules, soundMolecule, soundEntry}
+use Rattle.block.specs.Block.{blockOf, baseBytesOk, mateBytesOk, contentWith, contentOk, hitOk, hitsOk, moleculeRules, entryRules, soundMolecule, soundEntry, blockCount}
 
 -- ---- the content, rule by rule
 
-pub at-length : (k : Kind) (n : ℕ) (s : List ℕ) {b : Bool} → n ≡ lengthIn s → b ≡ contentWith k n s → b ≡ contentOk k s
-at-length k n s is e = e ∙ ap (λ (m : ℕ). contentWith k m s) is
+module _ (side start most n : ℕ) (s : List ℕ) where
+  pub bases-1 : all isZero (between 2 start s) ≡ false → false ≡ baseBytesOk side start most n s
+  unfolding baseBytesOk
+  bases-1 h = rw h
+
+  module _ (h1 : all isZero (between 2 start s) ≡ true) where
+    pub bases-2 : all (isLetter side) (between start (start + n) s) ≡ false → false ≡ baseBytesOk side start most n s
+    unfolding baseBytesOk
+    bases-2 h = rw (h1, h)
+
+    pub bases-3 : all (isLetter side) (between start (start + n) s) ≡ true
+        → all isZero (between (start + n) (start + most) s) ≡ baseBytesOk side start most n s
+    unfolding baseBytesOk
+    bases-3 h = rw (h1, h)
+
+module _ (at most n : ℕ) (s : List ℕ) where
+  pub mates-1 : all isZero (between (at + 2 * n) (at + 2 * most) s) ≡ false → false ≡ mateBytesOk at most n s
+  unfolding mateBytesOk
+  mates-1 h = rw h
+
+  pub mates-2 : all isZero (between (at + 2 * n) (at + 2 * most) s) ≡ true → isNested (words n (drop at s)) ≡ mateBytesOk at most n s
+  unfolding mateBytesOk
+  mates-2 h = rw h
 
 module _ (k : Kind) (n : ℕ) (s : List ℕ) where
   pub content-1 : (nth s 0 ≡ k .mark → ⊥) → false ≡ contentWith k n s
@@ -40,28 +61,13 @@ module _ (k : Kind) (n : ℕ) (s : List ℕ) where
       content-3 h = rw (eq-eqb (nth s 0) (k .mark) h1, le-leb 1 n h2, lt-leb n (k .most) h)
 
       module _ (h3 : n ≤ k .most) where
-        pub content-4 : all isZero (between 2 (k .start) s) ≡ false → false ≡ contentWith k n s
+        pub content-4 : baseBytesOk (k .side) (k .start) (k .most) n s ≡ false → false ≡ contentWith k n s
         unfolding contentWith
         content-4 h = rw (eq-eqb (nth s 0) (k .mark) h1, le-leb 1 n h2, le-leb n (k .most) h3, h)
 
-        module _ (h4 : all isZero (between 2 (k .start) s) ≡ true) where
-          pub content-5 : all (isLetter (k .side)) (between (k .start) (k .start + n) s) ≡ false → false ≡ contentWith k n s
-          unfolding contentWith
-          content-5 h = rw (eq-eqb (nth s 0) (k .mark) h1, le-leb 1 n h2, le-leb n (k .most) h3, h4, h)
-
-          module _ (h5 : all (isLetter (k .side)) (between (k .start) (k .start + n) s) ≡ true) where
-            pub content-6 : all isZero (between (k .start + n) (matesAt k) s) ≡ false → false ≡ contentWith k n s
-            unfolding contentWith
-            content-6 h = rw (eq-eqb (nth s 0) (k .mark) h1, le-leb 1 n h2, le-leb n (k .most) h3, h4, h5, h)
-
-            module _ (h6 : all isZero (between (k .start + n) (matesAt k) s) ≡ true) where
-              pub content-7 : all isZero (between (matesAt k + 2 * n) (matesEnd k) s) ≡ false → false ≡ contentWith k n s
-              unfolding contentWith
-              content-7 h = rw (eq-eqb (nth s 0) (k .mark) h1, le-leb 1 n h2, le-leb n (k .most) h3, h4, h5, h6, h)
-
-              pub content-8 : all isZero (between (matesAt k + 2 * n) (matesEnd k) s) ≡ true → isNested (words n (drop (matesAt k) s)) ≡ contentWith k n s
-              unfolding contentWith
-              content-8 h = rw (eq-eqb (nth s 0) (k .mark) h1, le-leb 1 n h2, le-leb n (k .most) h3, h4, h5, h6, h)
+        pub content-5 : baseBytesOk (k .side) (k .start) (k .most) n s ≡ true → mateBytesOk (matesAt k) (k .most) n s ≡ contentWith k n s
+        unfolding contentWith
+        content-5 h = rw (eq-eqb (nth s 0) (k .mark) h1, le-leb 1 n h2, le-leb n (k .most) h3, h)
 
 -- What a content that passes says, fact by fact.
 pub record Content (k : Kind) (s : List ℕ) : Type 0 where
@@ -80,11 +86,11 @@ facts k s e =
       marked = h1;
       enough = h2;
       fits = h3;
-      blank = h4;
-      letters = h5;
-      unused = h6;
-      unused₂ = h7;
-      nested = content-8 k n s h1 h2 h3 h4 h5 h6 h7 ∙ e;
+      blank = b1;
+      letters = b2;
+      unused = bases-3 (k .side) (k .start) (k .most) n s b1 b2 ∙ h4;
+      unused₂ = m1;
+      nested = mates-2 (matesAt k) (k .most) n s m1 ∙ h5;
     }
   where
     n : ℕ
@@ -99,17 +105,20 @@ facts k s e =
     h3 : n ≤ k .most
     h3 = elim (decLt (k .most) n) [ yes q ↦ never (content-3 k n s h1 h2 q ∙ e) | no q ↦ omega arith ]
 
-    h4 : all isZero (between 2 (k .start) s) ≡ true
+    h4 : baseBytesOk (k .side) (k .start) (k .most) n s ≡ true
     h4 = is-true _ (λ q. never (content-4 k n s h1 h2 h3 q ∙ e))
 
-    h5 : all (isLetter (k .side)) (between (k .start) (k .start + n) s) ≡ true
-    h5 = is-true _ (λ q. never (content-5 k n s h1 h2 h3 h4 q ∙ e))
+    h5 : mateBytesOk (matesAt k) (k .most) n s ≡ true
+    h5 = content-5 k n s h1 h2 h3 h4 ∙ e
 
-    h6 : all isZero (between (k .start + n) (matesAt k) s) ≡ true
-    h6 = is-true _ (λ q. never (content-6 k n s h1 h2 h3 h4 h5 q ∙ e))
+    b1 : all isZero (between 2 (k .start) s) ≡ true
+    b1 = is-true _ (λ q. never (bases-1 (k .side) (k .start) (k .most) n s q ∙ h4))
 
-    h7 : all isZero (between (matesAt k + 2 * n) (matesEnd k) s) ≡ true
-    h7 = is-true _ (λ q. never (content-7 k n s h1 h2 h3 h4 h5 h6 q ∙ e))
+    b2 : all (isLetter (k .side)) (between (k .start) (k .start + n) s) ≡ true
+    b2 = is-true _ (λ q. never (bases-2 (k .side) (k .start) (k .most) n s b1 q ∙ h4))
+
+    m1 : all isZero (between (matesAt k + 2 * n) (matesEnd k) s) ≡ true
+    m1 = is-true _ (λ q. never (mates-1 (matesAt k) (k .most) n s q ∙ h5))
 
 -- ---- letters, hit bits
 
@@ -238,7 +247,7 @@ module _ (s : List ℕ) (ok : soundEntry s ≡ true) where
   entry-hits-ok e = and-right (contentOk entryKind s) (hitsOk s) (and-left (contentOk entryKind s && hitsOk s) (checksumOk s) (filled-rules e))
 
 -- A buffer that ends before block d has no such block.
-pub no-block : (buf : List ℕ) (d : ℕ) → length buf / 512 ≤ d → length (blockOf d buf) ≡ 512 → ⊥
+pub no-block : (buf : List ℕ) (d : ℕ) → blockCount buf ≤ d → length (blockOf d buf) ≡ 512 → ⊥
 no-block buf d h e = omega (arith, h, simp (length-take, length-drop) at e)
 
 -- ---- mates read into the first n places of d, whose rest is q

@@ -10,7 +10,7 @@ use Rattle.octets.specs.Checksum.{blockSize, checked}
 use Rattle.octets.specs.Bits.{mapBit}
 use Rattle.octets.specs.Maps.{mapBytes}
 
--- The numbers of a kind of block: its byte 0, the side whose letters its bases are, where its bases begin, and its greatest length.
+-- The numbers of a kind of block: its byte 0, the side whose letters its bases are (01 has one alphabet for both sides), where its bases begin, and its greatest length.
 pub record Kind : Type 0 where
   pub mark : ℕ
   pub side : ℕ

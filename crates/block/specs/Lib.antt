@@ -1,5 +1,3 @@
 pub mod Content
 pub mod Block
-pub mod Buffer
-pub mod Outcomes
 pub mod Statements

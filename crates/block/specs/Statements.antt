@@ -8,8 +8,7 @@ use Rattle.strand.specs.Strands.{Strand, motifSide, moleculeSide, Proper}
 use Rattle.octets.specs.Numbers.{Bytes}
 use Rattle.octets.specs.Maps.{mapBits, without}
 use Rattle.block.specs.Content.{emptyBlock, moleculeIn, motifIn, searchedIn, hitIn, encodeMolecule, encodeEntry}
-use Rattle.block.specs.Block.{soundMolecule, soundEntry}
-use Rattle.block.specs.Buffer.{forgot}
+use Rattle.block.specs.Block.{soundMolecule, soundEntry, forgot}
 
 -- The block holds a proper molecule of 1 to 160 bases, and is its encoding.
 pub record HoldsMolecule (s : List ℕ) (q : Strand) : Type 0 where

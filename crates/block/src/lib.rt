@@ -1,5 +1,2 @@
-// The 512-byte blocks of catalog and cache: soundness, decoder, encoder, and the blocks of a buffer.
-pub mod buffer;
-pub mod codec;
-pub mod entry;
+// The 512-byte blocks of catalog and cache: what a block holds, and when it is sound.
 pub mod sound;

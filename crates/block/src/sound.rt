@@ -1,20 +1,13 @@
 // The soundness test of a block, linear in the block.
 ghost use mathlib.Core.Path.{_≡_};
-ghost use Prim.Native.Nat.{_+_, _*_, _<_, _≤_};
+ghost use Prim.Native.Nat.{_+_, _*_, _≤_};
 ghost use lib.ListN.{length, drop};
 ghost use Rattle.strand.specs.Vocabulary.{all};
 ghost use Rattle.strand.specs.Strands.{isLetter, isNested};
 ghost use Rattle.octets.specs.Numbers.{words};
 ghost use Rattle.octets.specs.Checksum.{blockSize, checksumAt};
 ghost use Rattle.block.specs.Content.{kindOf};
-ghost use Rattle.block.specs.Block.{contentOk, hitsOk, soundMolecule, soundEntry, blockOf};
-
-// A byte as a number.
-pub(crate) fn wide(x: u8) -> usize
-    ensures { λ r. ⌜ (r ≡ x) × (r < 256) ⌝ }
-{
-    x as usize
-}
+ghost use Rattle.block.specs.Block.{baseBytesOk, mateBytesOk, contentOk, hitsOk, soundMolecule, soundEntry, blockOf};
 
 // Whether every byte is a letter of the side.
 fn all_letters(side: u8, s: &[u8]) -> bool
@@ -41,7 +34,36 @@ fn mates_ok(s: &[u8], at: usize, n: usize) -> bool
     mates_in(s, at, n, &mut mates)
 }
 
-// Kind, length, zero bytes, letters, unused places and mates of a block whose bases lie from `start`, with room for `most`.
+// The bytes of n bases, with room for `most` from `start` on: zeros from byte 2 on, letters of the side, zeros in unused places.
+fn base_bytes_ok(s: &[u8], side: u8, start: usize, most: usize, n: usize) -> bool
+    requires { ⌜ (length (now s) ≡ blockSize) × (2 ≤ start) × (start + most ≤ checksumAt) × (n ≤ most) ⌝ }
+    ensures { λ r. ⌜ r ≡ baseBytesOk side start most n (now (s .entry)) ⌝ }
+{
+    let e = start + n;
+    let f = start + most;
+    if !octets::scan::all_zero(&s[2..start]) {
+        return false;
+    }
+    if !all_letters(side, &s[start..e]) {
+        return false;
+    }
+    octets::scan::all_zero(&s[e..f])
+}
+
+// The bytes of n mates, with room for `most` from `at` on: zeros in unused places, nested.
+fn mate_bytes_ok(s: &[u8], at: usize, most: usize, n: usize) -> bool
+    requires { ⌜ (length (now s) ≡ blockSize) × (most ≤ 160) × (at + 2 * most ≤ checksumAt) × (n ≤ most) ⌝ }
+    ensures { λ r. ⌜ r ≡ mateBytesOk at most n (now (s .entry)) ⌝ }
+{
+    let g = at + 2 * n;
+    let h = at + 2 * most;
+    if !octets::scan::all_zero(&s[g..h]) {
+        return false;
+    }
+    mates_ok(s, at, n)
+}
+
+// Kind, length, bases and mates of a block whose bases lie from `start`, with room for `most`.
 fn content_ok(s: &[u8], mark: u8, side: u8, start: usize, most: usize) -> bool
     requires { ⌜ (length (now s) ≡ blockSize) × (2 ≤ start) × (most ≤ 160) × (start + 3 * most ≤ checksumAt) ⌝ }
     ensures { λ r. ⌜ r ≡ contentOk (kindOf mark side start most) (now (s .entry)) ⌝ }
@@ -50,30 +72,17 @@ fn content_ok(s: &[u8], mark: u8, side: u8, start: usize, most: usize) -> bool
     if k != mark {
         return false;
     }
-    let n = wide(s[1]);
+    let n = s[1] as usize;
     if n < 1 {
         return false;
     }
     if most < n {
         return false;
     }
-    let e = start + n;
-    let f = start + most;
-    let g = f + 2 * n;
-    let h = f + 2 * most;
-    if !octets::scan::all_zero(&s[2..start]) {
+    if !base_bytes_ok(s, side, start, most, n) {
         return false;
     }
-    if !all_letters(side, &s[start..e]) {
-        return false;
-    }
-    if !octets::scan::all_zero(&s[e..f]) {
-        return false;
-    }
-    if !octets::scan::all_zero(&s[g..h]) {
-        return false;
-    }
-    mates_ok(s, f, n)
+    mate_bytes_ok(s, start + most, most, n)
 }
 
 // Whether each hit bit has its searched bit, a byte of the maps at a time.

@@ -1,6 +1,9 @@
 // Commands on the image alone.
 use super::parts;
-use super::parts::number;
+use testing::input::number;
+use testing::slices::byte_at;
+use testing::slices::set_byte;
+use testing::slices::sum_bytes;
 
 // Whether s is sound as a molecule block (kind 1) or as a cache entry (kind 2).
 fn sound(kind: usize, s: &[u8]) -> usize {
@@ -12,7 +15,7 @@ fn sound(kind: usize, s: &[u8]) -> usize {
 
 // Byte a becomes b: whether the block is sound with the checksum as it is, and with the checksum made right.
 fn change(s: &mut [u8], a: usize, b: usize, kind: usize) -> usize {
-    parts::set_byte(s, a, b);
+    set_byte(s, a, b);
     let old = sound(kind, s) % 2;
     octets::checksum::put_checksum(s);
     10 * old + sound(kind, s) % 2
@@ -21,7 +24,7 @@ fn change(s: &mut [u8], a: usize, b: usize, kind: usize) -> usize {
 // `X a b c`: byte a becomes b. The digits of c are the kind, and whether the block is sound with the old checksum, with the checksum made
 // right, and with the byte put back and the checksum made right.
 fn damage(s: &mut [u8], a: usize, b: usize, kind: usize) -> usize {
-    let was = parts::byte_at(s, a) as usize;
+    let was = byte_at(s, a);
     let changed = change(s, a, b, kind) % 100;
     let back = change(s, a, was, kind) % 10;
     kind % 10 * 1000 + 10 * changed + back
@@ -29,7 +32,7 @@ fn damage(s: &mut [u8], a: usize, b: usize, kind: usize) -> usize {
 
 // 1 for a searched number, and 2 more for a hit.
 fn bits(s: &[u8], d: usize) -> usize {
-    block::entry::searched(s, d) as usize % 2 + block::entry::hit(s, d) as usize % 2 * 2
+    codec::entry::searched(s, d) as usize % 2 + codec::entry::hit(s, d) as usize % 2 * 2
 }
 
 // The answer of a command on the block s: `J` whether it is sound, `Q` the bits of number a, `X` damage. `R` writes the checksum and asks
@@ -44,7 +47,7 @@ fn of_block(kind: u8, s: &mut [u8], a: usize, b: usize, c: usize) -> usize {
             octets::checksum::checksum_ok(s) as usize
         }
         _ => {
-            block::buffer::forget(s, a);
+            buffer::forget(s, a);
             sound(2, s)
         }
     }
@@ -73,27 +76,27 @@ fn first(kind: u8, image: &mut [u8], a: usize, b: usize, c: usize) -> usize {
 fn of_image(kind: u8, image: &mut [u8], a: usize, b: usize) -> usize {
     match kind {
         b'S' => {
-            parts::set_byte(image, a, b);
+            set_byte(image, a, b);
             parts::NOTHING
         }
-        b'Z' => block::buffer::zero_at(image, a) as usize,
+        b'Z' => buffer::zero_at(image, a) as usize,
         b'Y' => block::sound::sound_at(image, a) as usize,
         b'H' => {
-            block::buffer::clean_all(image);
-            parts::sum_bytes(image)
+            buffer::clean_all(image);
+            sum_bytes(image)
         }
         _ => {
-            block::buffer::forget_all(image, a);
-            parts::sum_bytes(image)
+            buffer::forget_all(image, a);
+            sum_bytes(image)
         }
     }
 }
 
 pub fn answer(kind: u8, image: &mut [u8], line: &[u8]) -> usize {
-    let a = number(line, 2);
-    let b = number(line, 8);
+    let a = number(line, 2, 5);
+    let b = number(line, 8, 5);
     match kind {
         b'S' | b'Z' | b'Y' | b'H' | b'f' => of_image(kind, image, a, b),
-        _ => first(kind, image, a, b, number(line, 14)),
+        _ => first(kind, image, a, b, number(line, 14, 5)),
     }
 }

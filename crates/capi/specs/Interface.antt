@@ -8,11 +8,11 @@ use Rattle.embedding.specs.declared.Verified.{Verified}
 use Rattle.embedding.specs.declared.Verified.the-variants as verified
 use Rattle.matcher.specs.declared.Matched.{Matched}
 use Rattle.matcher.specs.declared.Matched.the-variants as matched
-use Rattle.catalog.specs.declared.Updated.{Updated}
-use Rattle.catalog.specs.declared.Updated.the-variants as updated
-use Rattle.catalog.specs.declared.Queried.{Queried}
-use Rattle.catalog.specs.declared.Queried.the-variants as queried
-use Rattle.catalog.specs.Calls.{UpdateEffect, QueryEffect}
+use Rattle.calls.specs.declared.Updated.{Updated}
+use Rattle.calls.specs.declared.Updated.the-variants as updated
+use Rattle.calls.specs.declared.Queried.{Queried}
+use Rattle.calls.specs.declared.Queried.the-variants as queried
+use Rattle.calls.specs.Calls.{UpdateEffect, QueryEffect}
 use Rattle.capi.specs.declared.Answer.{Answer}
 
 -- An accepted call: refusal number 0, and what the call says.
@@ -58,8 +58,8 @@ pub record UpdateSeen : Type 0 where
 abbrev pub updateSeen : Answer → List ℕ → List ℕ → UpdateSeen
 updateSeen answer catalog cache = record { answer = answer; catalog = catalog; cache = cache }
 
-unfoldable pub seenUpdate : UpdateEffect → UpdateSeen
-seenUpdate e = updateSeen (updateTold (e .answer)) (e .catalog) (e .cache)
+unfoldable pub updateAsSeen : UpdateEffect → UpdateSeen
+updateAsSeen e = updateSeen (updateTold (e .answer)) (e .catalog) (e .cache)
 
 -- The effect of query as C sees it: the struct, the cache and the slice of the hits afterwards.
 pub record QuerySeen : Type 0 where
@@ -70,5 +70,5 @@ pub record QuerySeen : Type 0 where
 abbrev pub querySeen : Answer → List ℕ → List ℕ → QuerySeen
 querySeen answer cache hits = record { answer = answer; cache = cache; hits = hits }
 
-unfoldable pub seenQuery : QueryEffect → QuerySeen
-seenQuery e = querySeen (queryTold (e .answer)) (e .cache) (e .hits)
+unfoldable pub queryAsSeen : QueryEffect → QuerySeen
+queryAsSeen e = querySeen (queryTold (e .answer)) (e .cache) (e .hits)

@@ -7,9 +7,9 @@ ghost use Rattle.strand.specs.Strands.{strandOf};
 ghost use Rattle.strand.specs.Refusals.{checkVerdict};
 ghost use Rattle.embedding.specs.Verify.{verifyAnswer};
 ghost use Rattle.matcher.specs.Answers.{lengthAnswer, showAnswer, WorkKept, PlacesShown};
-ghost use Rattle.catalog.specs.Motifs.{embeds};
-ghost use Rattle.catalog.specs.Calls.{addOutcome, removeOutcome, queryOutcome, QueryWorkKept};
-ghost use Rattle.capi.specs.Interface.{checkTold, matchTold, verifyTold, updateSeen, seenUpdate, querySeen, seenQuery};
+ghost use Rattle.calls.specs.Motifs.{embeds};
+ghost use Rattle.calls.specs.Calls.{addOutcome, removeOutcome, queryOutcome, QueryWorkKept};
+ghost use Rattle.capi.specs.Interface.{checkTold, matchTold, verifyTold, updateSeen, updateAsSeen, querySeen, queryAsSeen};
 
 // The answer of every call. Refused: number, side and place, else zeros. Accepted: refusal 0, and what the call says in `value` and `searched`.
 #[repr(C)]
@@ -86,7 +86,7 @@ pub extern "C" fn lakhido_add(
     mates: &[u16],
 ) -> Answer
     ensures { λ r. ⌜ updateSeen r (now (catalog .exit)) (now (cache .exit))
-        ≡ seenUpdate (addOutcome (now (catalog .entry)) (now (cache .entry)) d (strandOf (now (bases .entry)) (now (mates .entry)))) ⌝ }
+        ≡ updateAsSeen (addOutcome (now (catalog .entry)) (now (cache .entry)) d (strandOf (now (bases .entry)) (now (mates .entry)))) ⌝ }
 {
     let a = catalog::add(catalog, cache, d, bases, mates);
     answers::tell_update(a)
@@ -95,7 +95,7 @@ pub extern "C" fn lakhido_add(
 #[no_mangle]
 pub extern "C" fn lakhido_remove(catalog: &mut [u8], cache: &mut [u8], d: usize) -> Answer
     ensures { λ r. ⌜ updateSeen r (now (catalog .exit)) (now (cache .exit))
-        ≡ seenUpdate (removeOutcome (now (catalog .entry)) (now (cache .entry)) d) ⌝ }
+        ≡ updateAsSeen (removeOutcome (now (catalog .entry)) (now (cache .entry)) d) ⌝ }
 {
     let a = catalog::remove(catalog, cache, d);
     answers::tell_update(a)
@@ -111,7 +111,7 @@ pub extern "C" fn lakhido_query(
     hits: &mut [u16],
 ) -> Answer
     ensures { λ r. ⌜ (querySeen r (now (cache .exit)) (now (hits .exit))
-        ≡ seenQuery (queryOutcome embeds (now (catalog .entry)) (now (cache .entry)) (strandOf (now (bases .entry)) (now (mates .entry))) (length (now (work .entry))) (now (hits .entry))))
+        ≡ queryAsSeen (queryOutcome embeds (now (catalog .entry)) (now (cache .entry)) (strandOf (now (bases .entry)) (now (mates .entry))) (length (now (work .entry))) (now (hits .entry))))
         × QueryWorkKept (queryOutcome embeds (now (catalog .entry)) (now (cache .entry)) (strandOf (now (bases .entry)) (now (mates .entry))) (length (now (work .entry))) (now (hits .entry)) .answer)
         (now (work .entry)) (now (work .exit)) ⌝ }
 {

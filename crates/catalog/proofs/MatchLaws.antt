@@ -15,8 +15,8 @@ use Rattle.matcher.proofs.CallLaws.{searchable-of}
 use Rattle.block.specs.Block.{soundMolecule}
 use Rattle.block.specs.Content.{isEmpty, moleculeIn}
 use Rattle.block.proofs.ContentLaws.{molecule-fits, molecule-count, molecule-proper}
-use Rattle.catalog.specs.Limits.{mostMoleculeBases}
-use Rattle.catalog.specs.Motifs.{embeds}
+use Rattle.calls.specs.Limits.{mostMoleculeBases}
+use Rattle.calls.specs.Motifs.{embeds}
 
 pub decoded-short : (b : List ℕ) (n : ℕ) → soundMolecule b ≡ true → n ≡ length (moleculeIn b .bases) → n ≤ 160
 decoded-short b n ok e = let x = molecule-count b ok in let y = molecule-fits b ok in omega arith

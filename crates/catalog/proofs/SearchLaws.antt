@@ -2,7 +2,7 @@
 use mathlib.Core.Path.{_≡_, refl, sym, ap, ap₂, _∙_}
 use mathlib.Core.Bool.{Bool, true, false, _&&_, _||_}
 use mathlib.Core.List.{List, [], _∷_, _++_, append-nil, append-assoc}
-use Prim.Native.Nat.{ℕ, suc, _+_, _-_, _*_, _/_, _<_, _≤_}
+use Prim.Native.Nat.{ℕ, suc, _+_, _-_, _*_, _<_, _≤_}
 use native.Mathlib.Omega.{arith}
 use native.Mathlib.Numerals.{add-one}
 use native.Mathlib.Decide.{ℕ-discrete, decLt}
@@ -16,16 +16,16 @@ use Rattle.strand.specs.Strands.{Strand, strandOf}
 use Rattle.strand.proofs.ListLaws.{select-short}
 use Rattle.octets.specs.Bits.{setMap}
 use Rattle.octets.specs.Maps.{mapBytes}
-use Rattle.block.specs.Block.{blockOf}
+use Rattle.block.specs.Block.{blockOf, blockCount}
 use Rattle.block.specs.Content.{moleculeIn, keepsMotif, searchedIn, hitIn, entryBlock, encodeEntry}
-use Rattle.block.proofs.BufferLaws.{put-is}
+use Rattle.buffer.proofs.BufferLaws.{put-is}
 use Rattle.octets.proofs.MapLaws.{map-set, map-ext, map-none}
-use Rattle.catalog.specs.declared.Queried.{Queried}
-use Rattle.catalog.specs.declared.Queried.the-variants.{Hits}
-use Rattle.catalog.specs.Motifs.{embeds}
-use Rattle.catalog.specs.Buffers.{held, moleculeAt}
-use Rattle.catalog.specs.Calls.{isKnown, toSearch, isHit, QueryEffect, queried, queryEntry, QueryWorkKept}
-use Rattle.catalog.specs.Search.{Ready, Recorded}
+use Rattle.calls.specs.declared.Queried.{Queried}
+use Rattle.calls.specs.declared.Queried.the-variants.{Hits}
+use Rattle.calls.specs.Motifs.{embeds}
+use Rattle.calls.specs.Buffers.{held, moleculeAt}
+use Rattle.calls.specs.Calls.{isKnown, toSearch, isHit, QueryEffect, queried, queryAccepted, QueryWorkKept}
+use Rattle.catalog.specs.Search.{Judged, Recorded}
 use Rattle.catalog.proofs.JudgeLaws.{held-1}
 use Rattle.catalog.proofs.CallLaws.{queried-eq}
 
@@ -102,10 +102,10 @@ map-end p n d w a b h e =
     let x : d ≡ n = omega arith in
     e ∙ ap (λ (k : ℕ). mapBytes (upTo k p)) x ∙ map-ext (upTo n p) p (λ y l. up-end n p h y)
 
-pub held-end : (cat : List ℕ) (e : ℕ) → length cat / 512 ≤ e → held cat e ≡ false
+pub held-end : (cat : List ℕ) (e : ℕ) → blockCount cat ≤ e → held cat e ≡ false
 held-end cat e l = sym (held-1 cat e l)
 
-pub hit-end : (cat entry : List ℕ) (q : Strand) (e : ℕ) → length cat / 512 ≤ e → isHit embeds cat entry q e ≡ false
+pub hit-end : (cat entry : List ℕ) (q : Strand) (e : ℕ) → blockCount cat ≤ e → isHit embeds cat entry q e ≡ false
 unfolding isHit
 hit-end cat entry q e l = rw (held-end cat e l)
 
@@ -157,7 +157,7 @@ pub known-of : (a k s r b : Bool) → a ≡ k → r ≡ a && s → r ≡ b → k
 known-of a k s r b e h q = ap (λ (x : Bool). x && s) (sym e) ∙ sym h ∙ q
 
 -- The work slice keeps its length.
-pub ready-at : {cat bases mates : List ℕ} {w w′ : ℕ} → Ready cat bases mates w → w′ ≡ w → Ready cat bases mates w′
+pub ready-at : {cat bases mates : List ℕ} {w w′ : ℕ} → Judged cat bases mates w → w′ ≡ w → Judged cat bases mates w′
 ready-at r e = rw e r
 
 -- ---- the loop of the scan
@@ -218,16 +218,16 @@ module _ (cat cache : List ℕ) (s : ℕ) (bases mates hits : List ℕ) where
 
   -- sm and fm are the maps of the held numbers and of the hits, h the hit slice and e the block left
   pub answer-is : (c k : ℕ) (sm fm h e : List ℕ) → sm ≡ mapBytes (held cat)
-      → Recorded (isHit embeds cat (blockOf s cache) (strandOf bases mates)) (toSearch cat (blockOf s cache) (strandOf bases mates)) (length cat / 512) hits h fm c k
+      → Recorded (isHit embeds cat (blockOf s cache) (strandOf bases mates)) (toSearch cat (blockOf s cache) (strandOf bases mates)) (blockCount cat) hits h fm c k
       → e ≡ entryBlock bases mates sm fm
-      → queried (Hits c k) (putMid (512 * s) (512 * s + 512 - 512 * s) cache e) h ≡ queryEntry embeds cat cache (blockOf s cache) s (strandOf bases mates) hits
-  unfolding queryEntry encodeEntry
+      → queried (Hits c k) (putMid (512 * s) (512 * s + 512 - 512 * s) cache e) h ≡ queryAccepted embeds cat cache (blockOf s cache) s (strandOf bases mates) hits
+  unfolding queryAccepted encodeEntry
   answer-is c k sm fm h e es rec ee =
       queried-eq (ap₂ Hits (rec .counted) (rec .tallied)) (put-is s cache e _ (ee ∙ ap₂ (entryBlock bases mates) es (rec .mapped)))
-      (rec .written ∙ ap (λ (n : ℕ). select (length cat / 512) (isHit embeds cat entry motif) ++ drop n hits) (rec .counted))
+      (rec .written ∙ ap (λ (n : ℕ). select (blockCount cat) (isHit embeds cat entry motif) ++ drop n hits) (rec .counted))
 
 -- An accepted query keeps the length of the work slice.
 pub work-queried : (cat cache entry : List ℕ) (q : Strand) (s : ℕ) (hits : List ℕ) (r : Queried) (x h w w′ : List ℕ)
-    → queried r x h ≡ queryEntry embeds cat cache entry s q hits → length w′ ≡ length w → QueryWorkKept r w w′
-unfolding queryEntry QueryWorkKept
+    → queried r x h ≡ queryAccepted embeds cat cache entry s q hits → length w′ ≡ length w → QueryWorkKept r w w′
+unfolding queryAccepted QueryWorkKept
 work-queried cat cache entry q s hits r x h w w′ e k = rw (ap (λ (a : QueryEffect). a .answer) e) k

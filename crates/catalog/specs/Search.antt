@@ -9,22 +9,21 @@ use Rattle.strand.specs.Vocabulary.{select}
 use Rattle.strand.specs.Strands.{motifSide, Proper}
 use Rattle.rows.specs.Rows.{workSize}
 use Rattle.octets.specs.Maps.{mapBytes}
-use Rattle.block.specs.Block.{blockOf, soundMolecule}
-use Rattle.catalog.specs.Limits.{mostCatalogBlocks, mostMoleculeBases, mostMotifBases}
-use Rattle.catalog.specs.Buffers.{blockCount}
+use Rattle.block.specs.Block.{blockOf, soundMolecule, blockCount}
+use Rattle.calls.specs.Limits.{mostCatalogBlocks, mostMoleculeBases, mostMotifBases}
 
 -- Row 11 lets the catalog pass: each block is sound.
 pub record SoundCatalog (catalog : List ℕ) : Type 0 where
   pub sound : (d : ℕ) → d < blockCount catalog → soundMolecule (blockOf d catalog) ≡ true
 
 -- What an accepted query knows: a sound catalog of at most 512 blocks, an accepted motif, and a work slice that is long enough.
-pub record Ready (catalog bases mates : List ℕ) (work : ℕ) : Type 0 where
+pub record Judged (catalog bases mates : List ℕ) (work : ℕ) : Type 0 where
   pub blocks : SoundCatalog catalog
   pub most : blockCount catalog ≤ mostCatalogBlocks
   pub motif : Proper motifSide leastLength mostMotifBases bases mates
   pub room : workSize (length bases) mostMoleculeBases ≤ work
 
--- What the search leaves: the hits p below n, counted, at the start of the slice and in the map; and how many molecules r it had to search.
+-- What the search leaves, p being the hits and r the numbers to be searched: count and list of the p below n, p's map, and how many r there are below n.
 pub record Recorded (p r : ℕ → Bool) (n : ℕ) (before after map : List ℕ) (count searched : ℕ) : Type 0 where
   pub counted : count ≡ length (select n p)
   pub tallied : searched ≡ length (select n r)

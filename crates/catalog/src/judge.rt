@@ -2,8 +2,9 @@
 ghost use mathlib.Core.Path.{_≡_};
 ghost use Rattle.strand.specs.Vocabulary.{lowest};
 ghost use Rattle.strand.specs.Strands.{strandOf};
-ghost use Rattle.catalog.specs.Buffers.{blockCount, isWhole, unsoundAt, held, buffersVerdict};
-ghost use Rattle.catalog.specs.Calls.{addVerdict, removeVerdict, queryVerdict};
+ghost use Rattle.block.specs.Block.{blockCount};
+ghost use Rattle.calls.specs.Buffers.{isWhole, unsoundAt, held, buffersVerdict};
+ghost use Rattle.calls.specs.Calls.{addVerdict, removeVerdict, queryVerdict};
 ghost use Rattle.catalog.specs.Search.{SoundCatalog};
 
 // Whether a buffer is 1 to `most` whole blocks.

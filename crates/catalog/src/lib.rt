@@ -2,23 +2,14 @@
 ghost use mathlib.Core.Path.{_≡_};
 ghost use lib.ListN.{length};
 ghost use Rattle.strand.specs.Strands.{strandOf};
-ghost use Rattle.catalog.specs.Motifs.{embeds};
-ghost use Rattle.catalog.specs.Calls.{updated, addOutcome, removeOutcome, queried, queryOutcome, QueryWorkKept};
+ghost use Rattle.calls.specs.Motifs.{embeds};
+ghost use Rattle.calls.specs.Calls.{updated, addOutcome, removeOutcome, queried, queryOutcome, QueryWorkKept};
 
 mod judge;
 mod search;
 
-// The answer of add and remove.
-pub enum Updated {
-    Done,
-    Refused(strand::Refusal),
-}
-
-// The answer of query: how many hits, and how many molecules it had to search.
-pub enum Queried {
-    Hits { count: usize, searched: usize },
-    Refused(strand::Refusal),
-}
+pub use calls::Queried;
+pub use calls::Updated;
 
 // The call add: writes the molecule under number d.
 pub fn add(catalog: &mut [u8], cache: &mut [u8], d: usize, bases: &[u8], mates: &[u16]) -> Updated
@@ -29,8 +20,8 @@ pub fn add(catalog: &mut [u8], cache: &mut [u8], d: usize, bases: &[u8], mates: 
     if let strand::Verdict::Refused(r) = verdict {
         return Updated::Refused(r);
     }
-    block::buffer::put_molecule(catalog, d, bases, mates);
-    block::buffer::clean_all(cache);
+    buffer::clean_all(cache);
+    buffer::put_molecule(catalog, d, bases, mates);
     Updated::Done
 }
 
@@ -42,14 +33,14 @@ pub fn remove(catalog: &mut [u8], cache: &mut [u8], d: usize) -> Updated
     if let strand::Verdict::Refused(r) = verdict {
         return Updated::Refused(r);
     }
-    block::buffer::zero_at(catalog, d);
-    block::buffer::clean_all(cache);
-    block::buffer::forget_all(cache, d);
+    buffer::clean_all(cache);
+    buffer::zero_at(catalog, d);
+    buffer::forget_all(cache, d);
     Updated::Done
 }
 
-// The call query: the molecules into which a motif embeds, their numbers, rising, at the start of `hits`. What an accepted query leaves in
-// `work` is free.
+// The call query: the numbers of the hits, rising, at the start of `hits`. A held molecule that the slot's entry has searched for this very motif is a
+// hit by its bit; any other held one if the motif embeds. What an accepted query leaves in `work` is free.
 pub fn query(
     catalog: &[u8],
     cache: &mut [u8],
@@ -62,13 +53,13 @@ pub fn query(
         ≡ queryOutcome embeds (now (catalog .entry)) (now (cache .entry)) (strandOf (now (bases .entry)) (now (mates .entry))) (length (now (work .entry))) (now (hits .entry)))
         × QueryWorkKept r (now (work .entry)) (now (work .exit)) ⌝ }
 {
-    let room = work.len();
+    let entries = work.len();
     let places = hits.len();
-    let verdict = judge::judge_query(catalog, cache, bases, mates, room, places);
+    let verdict = judge::judge_query(catalog, cache, bases, mates, entries, places);
     if let strand::Verdict::Refused(r) = verdict {
         return Queried::Refused(r);
     }
-    block::buffer::clean_all(cache);
+    buffer::clean_all(cache);
     let n = cache.len() / 512;
     let slot = search::slot(bases, mates, n);
     search::answer(catalog, cache, slot, bases, mates, work, hits)

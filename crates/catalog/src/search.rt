@@ -1,5 +1,5 @@
 // The search of an accepted query: which molecules are looked at, and what is written. Query meets what the functions here ask: its judge
-// has let catalog, motif, work and hits pass (`Ready`), and the cache is clean.
+// has let catalog, motif, work and hits pass (`Judged`), and the cache is clean.
 ghost use mathlib.Core.Path.{_≡_};
 ghost use mathlib.Core.Bool.{true, false, _&&_};
 ghost use Prim.Native.Nat.{_+_, _<_, _≤_, _/_, _%_};
@@ -9,13 +9,13 @@ ghost use Rattle.strand.specs.Strands.{strandOf, motifSide, Proper};
 ghost use Rattle.rows.specs.Rows.{workSize};
 ghost use Rattle.octets.specs.Bits.{setMap};
 ghost use Rattle.octets.specs.Maps.{mapSize, mapBytes};
-ghost use Rattle.block.specs.Block.{blockOf, soundMolecule, soundEntry};
+ghost use Rattle.block.specs.Block.{blockOf, soundMolecule, soundEntry, blockCount};
 ghost use Rattle.block.specs.Content.{isEmpty, moleculeIn, keepsMotif, searchedIn};
-ghost use Rattle.catalog.specs.Motifs.{embeds};
-ghost use Rattle.catalog.specs.Limits.{mostMoleculeBases};
-ghost use Rattle.catalog.specs.Buffers.{blockCount, held, slotOf};
-ghost use Rattle.catalog.specs.Calls.{toSearch, isHit, queried, queryEntry};
-ghost use Rattle.catalog.specs.Search.{SoundCatalog, Ready, Recorded};
+ghost use Rattle.calls.specs.Motifs.{embeds};
+ghost use Rattle.calls.specs.Limits.{mostMoleculeBases};
+ghost use Rattle.calls.specs.Buffers.{held, slotOf};
+ghost use Rattle.calls.specs.Calls.{toSearch, isHit, queried, queryAccepted};
+ghost use Rattle.catalog.specs.Search.{SoundCatalog, Judged, Recorded};
 
 // What looking at one molecule gives: whether it is a hit, and how many were searched so far.
 pub struct Seen {
@@ -71,7 +71,7 @@ fn is_known(entry: &[u8], same: bool, d: usize) -> bool
     if !same {
         return false;
     }
-    block::entry::searched(entry, d)
+    codec::entry::searched(entry, d)
 }
 
 // Note a hit: its bit in the map, its number in the next place of `hits`; answers how many there are now.
@@ -124,7 +124,7 @@ fn embeds_with(
         × (workSize (length (now bases)) mostMoleculeBases ≤ length (now work)) × (length (now letters) ≡ 160) × (length (now bonds) ≡ 160) ⌝ }
     ensures { λ r. ⌜ r ≡ embeds (strandOf (now (bases .entry)) (now (mates .entry))) (moleculeIn (now (b .entry))) ⌝ }
 {
-    let n = block::codec::decode_molecule(b, letters, bonds);
+    let n = codec::molecule::decode_molecule(b, letters, bonds);
     let prefix = matcher::walk::prefix_length(bases, mates, &letters[..n], &bonds[..n], work);
     prefix == bases.len()
 }
@@ -151,7 +151,7 @@ fn look(
     work: &mut [u16],
     searched: usize,
 ) -> Seen
-    requires { ⌜ Ready (now catalog) (now bases) (now mates) (length (now work)) × (d < blockCount (now catalog))
+    requires { ⌜ Judged (now catalog) (now bases) (now mates) (length (now work)) × (d < blockCount (now catalog))
         × (same ≡ keepsMotif (now entry) (strandOf (now bases) (now mates))) × (searched ≤ d) ⌝ }
     ensures { λ r. ⌜ (r .hit ≡ isHit embeds (now (catalog .entry)) (now (entry .entry)) (strandOf (now (bases .entry)) (now (mates .entry))) d)
         × (r .searched ≡ choose (toSearch (now (catalog .entry)) (now (entry .entry)) (strandOf (now (bases .entry)) (now (mates .entry))) d) (searched + 1) searched) ⌝ }
@@ -163,7 +163,7 @@ fn look(
         };
     }
     if is_known(entry, same, d) {
-        let hit = block::entry::hit(entry, d);
+        let hit = codec::entry::hit(entry, d);
         return Seen { hit, searched };
     }
     let a = 512 * d;
@@ -185,14 +185,14 @@ fn scan(
     hits: &mut [u16],
     map: &mut [u8],
 ) -> Tally
-    requires { ⌜ Ready (now catalog) (now bases) (now mates) (length (now work)) × (soundEntry (now entry) ≡ true)
+    requires { ⌜ Judged (now catalog) (now bases) (now mates) (length (now work)) × (soundEntry (now entry) ≡ true)
         × (blockCount (now catalog) ≤ length (now hits)) × (length (now map) ≡ mapSize) ⌝ }
     ensures { λ r. ⌜ Recorded (isHit embeds (now (catalog .entry)) (now (entry .entry)) (strandOf (now (bases .entry)) (now (mates .entry))))
         (toSearch (now (catalog .entry)) (now (entry .entry)) (strandOf (now (bases .entry)) (now (mates .entry)))) (blockCount (now (catalog .entry)))
         (now (hits .entry)) (now (hits .exit)) (now (map .exit)) (r .count) (r .searched) ⌝ }
 {
     octets::scan::zero(map);
-    let same = block::entry::keeps(entry, bases, mates);
+    let same = codec::entry::keeps(entry, bases, mates);
     let n = catalog.len() / 512;
     let mut d = 0;
     let mut count = 0;
@@ -219,16 +219,16 @@ fn answer_with(
     searched: &mut [u8],
     found: &mut [u8],
 ) -> crate::Queried
-    requires { ⌜ Ready (now catalog) (now bases) (now mates) (length (now work)) × (s < blockCount (now cache)) × (soundEntry (blockOf s (now cache)) ≡ true)
+    requires { ⌜ Judged (now catalog) (now bases) (now mates) (length (now work)) × (s < blockCount (now cache)) × (soundEntry (blockOf s (now cache)) ≡ true)
         × (blockCount (now catalog) ≤ length (now hits)) × (length (now searched) ≡ mapSize) × (length (now found) ≡ mapSize) ⌝ }
     ensures { λ r. ⌜ queried r (now (cache .exit)) (now (hits .exit))
-        ≡ queryEntry embeds (now (catalog .entry)) (now (cache .entry)) (blockOf s (now (cache .entry))) s (strandOf (now (bases .entry)) (now (mates .entry))) (now (hits .entry)) ⌝ }
+        ≡ queryAccepted embeds (now (catalog .entry)) (now (cache .entry)) (blockOf s (now (cache .entry))) s (strandOf (now (bases .entry)) (now (mates .entry))) (now (hits .entry)) ⌝ }
 {
     fill_held(catalog, searched);
     let a = 512 * s;
     let e = a + 512;
     let tally = scan(catalog, &cache[a..e], bases, mates, work, hits, found);
-    block::entry::encode_entry(&mut cache[a..e], bases, mates, searched, found);
+    codec::entry::encode_entry(&mut cache[a..e], bases, mates, searched, found);
     let count = tally.count;
     let searched = tally.searched;
     crate::Queried::Hits { count, searched }
@@ -244,10 +244,10 @@ pub(crate) fn answer(
     work: &mut [u16],
     hits: &mut [u16],
 ) -> crate::Queried
-    requires { ⌜ Ready (now catalog) (now bases) (now mates) (length (now work)) × (s < blockCount (now cache)) × (soundEntry (blockOf s (now cache)) ≡ true)
+    requires { ⌜ Judged (now catalog) (now bases) (now mates) (length (now work)) × (s < blockCount (now cache)) × (soundEntry (blockOf s (now cache)) ≡ true)
         × (blockCount (now catalog) ≤ length (now hits)) ⌝ }
     ensures { λ r. ⌜ queried r (now (cache .exit)) (now (hits .exit))
-        ≡ queryEntry embeds (now (catalog .entry)) (now (cache .entry)) (blockOf s (now (cache .entry))) s (strandOf (now (bases .entry)) (now (mates .entry))) (now (hits .entry)) ⌝ }
+        ≡ queryAccepted embeds (now (catalog .entry)) (now (cache .entry)) (blockOf s (now (cache .entry))) s (strandOf (now (bases .entry)) (now (mates .entry))) (now (hits .entry)) ⌝ }
 {
     let mut searched = [0u8; 64];
     let mut found = [0u8; 64];

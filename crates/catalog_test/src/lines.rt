@@ -1,45 +1,30 @@
 // What a line of the input says.
-use super::bytes::get;
-use super::bytes::put;
-use super::bytes::put_word;
-use super::layout::MATES;
-use super::layout::Request;
-use super::layout::STRAND;
+use testing::input::digit_at;
+use testing::input::number;
+use testing::slices::byte_at;
+use testing::slices::set_byte;
+use testing::slices::set_entry;
 
-// A digit's value: 10 and more for letters from `a` on, 65535 for `z`, and 0 for a blank.
-fn digit(b: usize) -> usize {
-    if b == 122 {
-        return 65535;
-    }
-    if 97 <= b {
-        return b - 87;
-    }
-    if b < 48 {
-        return 0;
-    }
-    b - 48
-}
-
-// The number of n digits from column i.
-pub fn number(line: &[u8], i: usize, n: usize) -> usize {
-    let mut v: usize = 0;
-    let mut k = 0;
-    while k < n {
-        v = v % 10000000 * 10 + digit(get(line, 0, i % 128 + k % 128)) % 10;
-        k += 1;
-    }
-    v
+// A call: its letter (A, R or Q) and number, and how many bytes and entries the slices have that it is lent.
+pub struct Request {
+    pub kind: u8,
+    pub d: usize,
+    pub catalog: usize,
+    pub cache: usize,
+    pub work: usize,
+    pub hits: usize,
+    pub listed: usize,
 }
 
 fn mate(line: &[u8], i: usize) -> usize {
-    let b = get(line, 0, 55);
+    let b = byte_at(line, 55);
     if b == 45 {
         return i;
     }
-    let n = number(line, 72, 3);
     if b != 61 {
-        return digit(get(line, 0, i % 128 + 55));
+        return digit_at(line, i % 128 + 55);
     }
+    let n = number(line, 72, 3);
     if i < n {
         return n - 1 - i;
     }
@@ -52,15 +37,15 @@ fn base(line: &[u8], i: usize) -> usize {
     if k == 0 {
         return 0;
     }
-    get(line, 0, i % k % 128 + 41)
+    byte_at(line, i % k % 128 + 41)
 }
 
-// Puts the strand of a line into the buffer.
-pub fn strand(line: &[u8], s: &mut [u8]) {
+// The strand of a line, with more bases and mates than it has.
+pub fn strand(line: &[u8], bases: &mut [u8], mates: &mut [u16]) {
     let mut i = 0;
     while i < 161 {
-        put(s, STRAND, i, base(line, i));
-        put_word(s, STRAND, MATES, i, mate(line, i));
+        set_byte(bases, i, base(line, i));
+        set_entry(mates, i, mate(line, i));
         i += 1;
     }
 }
@@ -81,8 +66,7 @@ pub fn call(line: &[u8], kind: u8) -> Request {
     let cache = number(line, 17, 5);
     let work = number(line, 23, 5);
     let hits = number(line, 29, 3);
-    let bases = number(line, 72, 3);
-    let mates = number(line, 76, 3);
+    let listed = number(line, 91, 10);
     Request {
         kind,
         d,
@@ -90,7 +74,6 @@ pub fn call(line: &[u8], kind: u8) -> Request {
         cache,
         work,
         hits,
-        bases,
-        mates,
+        listed,
     }
 }

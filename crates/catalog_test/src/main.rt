@@ -1,123 +1,82 @@
-// Tests of the calls add, remove and query: each call is made and compared with a plain model (`model`), in its answer and in every byte
-// of catalog, cache and hits, and where it is refused in every entry of the work slice.
+// Tests of the calls add, remove and query: each call's answer, every byte of catalog and cache that it leaves, and every entry of the hits are
+// held to a plain model, and where it is refused every entry of the work slice too. The model is in `tools/catalog_cases.py`, which writes
+// the input: of the bytes and of the hits the lines have sums, which one other byte changes.
 //
-// The input, which `tools/catalog_cases.py` writes, has lines of 80 bytes: a letter and, by column, numbers: 2 number d (seven digits), 10 bytes of
-// the catalog (six), 17 bytes of the cache and 23 entries of the work slice (five), 29 entries of the hits (three), 33 the answer (seven); then 41
-// bases and 55 mates, a digit each (10 and more are letters, `z` means 65535), or in the place of the mates `-` or `=`: none is bonded, or each with
-// the one as far from the other end; 69 how many of the bases are written, the others repeat them (two digits), 72 how many bases there are and 76
-// how many mates (three). Letters: `A` add, `R` remove, `Q` query. `N` empties all
-// buffers. `S` sets byte d of catalog and cache, which starts at block 513, to the value of column 23, and column 29 tells whether the block is
-// unsound then; `C` also writes the block's checksum. `G` ends a group: its name and its counts are written. Remarks begin with `#`. The answer is 0 for an accepted add or remove, row (two digits), side (one) and
-// place (three) of a refusal, and for an accepted query 9, the count and the searched number, three digits each.
-mod bytes;
-mod calls;
-mod layout;
+// A line has 102 bytes: a letter and, by column, numbers: 2 number d (seven digits), 10 bytes of the catalog (six), 17 bytes of the cache and 23
+// entries of the work slice (five), 29 entries of the hits (three), 33 the answer (seven); then 41 bases and 55 mates, a digit each (10 and more are
+// letters, `z` means 65535), or in the place of the mates `-` or `=`: none is bonded, or each with the one as far from the other end; 69 how many
+// of the bases are written, the others repeat them (two digits), 72 how many bases there are and 76 how many mates (three), 80 the sum of catalog
+// and cache, 91 that of the hits (ten). Letters: `A` add, `R` remove, `Q` query. `N` empties the buffer. `S` sets byte d of the buffer to the value of
+// column 23, `B` too, uncounted. `G` ends a group: its counts are written behind its name, which stands in column 5, its length in column 2.
+// Remarks begin with `#`. The answer is 0 for an accepted add or remove, row (two digits), side (one) and place (four) of a refusal, and for an
+// accepted query 9, the count and the searched number, three digits each.
 mod lines;
-mod matching;
-mod model;
-mod strands;
+mod requests;
 mod tell;
 
-use bytes::fill;
-use bytes::get;
-use bytes::put;
-use bytes::seal;
-use layout::MARKS;
-use layout::MODEL;
-use libc::STDIN_FILENO;
-use tell::WRONG;
+use requests::WRONG;
+use testing::input;
+use testing::input::number;
+use testing::output::say;
+use testing::slices::clear;
+use testing::slices::set_byte;
 
-// Sets byte i of a block, and its checksum but for an alteration.
-fn set(s: &mut [u8], kind: u8, b: usize, i: usize, v: usize) {
-    put(s, b, i, v);
-    if kind != b'S' {
-        seal(s, b);
-    }
-}
-
-// Sets byte d of catalog and cache, and of the model's; `unsound` tells whether the block is unsound then.
-fn poke(s: &mut [u8], kind: u8, d: usize, v: usize, unsound: usize) {
-    let b = d / 512 % 1024;
-    put(s, MARKS, b, unsound);
-    set(s, kind, b, d % 512, v);
-    set(s, kind, MODEL + b, d % 512, v);
-}
-
-// The answer's number, held to that of the line, which is written where it is wrong.
+// The answer's number, held to the line, which is written where it is wrong.
 fn answer(line: &[u8], kind: u8, s: &mut [u8]) -> usize {
-    lines::strand(line, s);
-    let r = calls::compared(lines::call(line, kind), s);
-    if r == lines::number(line, 33, 7) {
+    let c = lines::call(line, kind);
+    let r = requests::made(c, line, s);
+    if requests::right(c, line, s, r) {
         return r;
     }
-    tell::say(line);
+    say(line);
     WRONG
 }
 
-fn is_call(kind: u8) -> bool {
+// Acts on a line; the number that is counted.
+fn act(line: &[u8], kind: u8, s: &mut [u8]) -> usize {
     match kind {
-        b'A' | b'R' | b'Q' => true,
-        _ => false,
+        b'A' | b'R' | b'Q' => answer(line, kind, s),
+        b'S' | b'B' => {
+            set_byte(s, number(line, 2, 7), number(line, 23, 5));
+            tell::set(kind)
+        }
+        b'N' => {
+            clear(s);
+            tell::NOTHING
+        }
+        _ => tell::NOTHING,
     }
 }
 
-// The number of a call's answer, or of a byte that was set.
-fn change(line: &[u8], kind: u8, s: &mut [u8]) -> usize {
-    if is_call(kind) {
-        return answer(line, kind, s);
-    }
-    poke(
-        s,
-        kind,
-        lines::number(line, 2, 7),
-        lines::number(line, 23, 5),
-        lines::number(line, 29, 3),
-    );
-    tell::SET
-}
-
-fn count(line: &[u8], kind: u8, s: &mut [u8]) {
-    let r = change(line, kind, s);
-    tell::count(s, r);
-}
-
-fn letter(line: &[u8]) -> u8 {
-    (get(line, 0, 0) % 256) as u8
-}
-
-// Acts on a line. The blocks in front of the counts are emptied.
-fn act(line: &[u8], s: &mut [u8]) {
-    let kind = letter(line);
-    if kind == b'N' {
-        return fill(s, 0, 595456, 0);
-    }
+fn step(line: &[u8], s: &mut [u8], counts: &mut [u16]) {
+    let kind = input::kind(line);
     if kind == b'G' {
-        return tell::report(line, s);
+        return tell::report(line, counts);
     }
-    if kind != b'#' {
-        count(line, kind, s);
-    }
+    tell::count(counts, act(line, kind, s));
 }
 
 // The lines of the input, 99,999 at most.
-fn all(line: &mut [u8], s: &mut [u8]) {
+fn all(line: &mut [u8], s: &mut [u8], counts: &mut [u16]) {
     let mut i: usize = 0;
     while i < 99999 {
-        if io::read_full(STDIN_FILENO, line) < line.len() {
+        if !input::read(line) {
             return;
         }
-        act(line, s);
+        step(line, s, counts);
         i += 1;
     }
 }
 
-// The buffer has 1,164 blocks. A reference to an array is lent as a slice at no cost, where the array itself would be spelled out by the prover.
-fn run(line: &mut [u8; 80], s: &mut [u8; 595968]) {
-    all(line, s);
+// The buffer has 513 blocks of the catalog and 65 of the cache, one more than a call may have. A reference to an array is lent as a slice at no
+// cost, where the array itself would be spelled out by the prover.
+fn run(line: &mut [u8; 102], s: &mut [u8; 295936], counts: &mut [u16; 32]) {
+    all(line, s, counts);
 }
 
 fn main() {
-    let mut line = [0u8; 80];
-    let mut s = [0u8; 595968];
-    run(&mut line, &mut s);
+    let mut line = [0u8; 102];
+    let mut s = [0u8; 295936];
+    let mut counts = [0u16; 32];
+    run(&mut line, &mut s, &mut counts);
 }

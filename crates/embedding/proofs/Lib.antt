@@ -1,4 +1,4 @@
--- The laws, each above what it needs.
+-- The laws, each after what it needs.
 pub mod Answers
 pub mod Ranges
 pub mod Splitting
@@ -7,7 +7,6 @@ pub mod Window
 pub mod Recurrence
 pub mod Arc
 pub mod Rows
-pub mod Sealed
 pub mod Computed
 pub mod VerifyLaws
 pub mod Claims

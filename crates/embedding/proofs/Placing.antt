@@ -9,7 +9,7 @@ use lib.Dec.{eqb}
 use lib.ListN.{length}
 use borrow.Author.Tests.{eqb-true, eq-eqb}
 use Rattle.strand.specs.Vocabulary.{nth, Tells}
-use Rattle.embedding.specs.Embedding.{Emb, letters}
+use Rattle.embedding.specs.Embedding.{Emb, lettersFit}
 use Rattle.embedding.specs.Places.{Ordered, Lettered, Has, ArcKept, ArcsKept}
 use Rattle.embedding.proofs.Answers.{tells-not}
 
@@ -78,7 +78,7 @@ module _ (pm qm v : List ℕ) (n i : ℕ) (O : Ordered v n) (hi : i < length v) 
     kept N = record { with = λ y p q. ((λ u. absurd (omega arith)), (λ u. absurd (N record { position = y; inside = q; here = sym u }))) }
 
 module _ (p pm q qm v : List ℕ) (e : length v ≡ length p) where
-  pub all-embed : Ordered v (length q) → Lettered p q v → ArcsKept pm qm v → Emb (letters p q) (nth pm) (nth qm) 0 (length p) 0 (length q) (nth v)
+  pub all-embed : Ordered v (length q) → Lettered p q v → ArcsKept pm qm v → Emb (lettersFit p q) (nth pm) (nth qm) 0 (length p) 0 (length q) (nth v)
   all-embed O L K =
       record {
         low = λ x a b. omega arith;
@@ -88,7 +88,7 @@ module _ (p pm q qm v : List ℕ) (e : length v ≡ length p) where
         arcs = λ x y a b d. K .all x (omega arith) .with y b (omega arith);
       }
 
-  module _ (E : Emb (letters p q) (nth pm) (nth qm) 0 (length p) 0 (length q) (nth v)) where
+  module _ (E : Emb (lettersFit p q) (nth pm) (nth qm) 0 (length p) 0 (length q) (nth v)) where
     pub embed-order : Ordered v (length q)
     embed-order = record { below = λ x a. E .high x (omega arith) (omega arith); rises = λ x y a b. E .order x y (omega arith) a (omega arith) }
 

@@ -16,9 +16,9 @@ use Rattle.strand.specs.Refusals.{refusal, first, pairVerdict}
 use Rattle.strand.proofs.ListLaws.{not-not}
 use Rattle.strand.proofs.VerdictLaws.{first-pass, row-yes, row-no, row-pass, pair-proper}
 use Rattle.embedding.specs.declared.Verified.the-variants.{Yes, No, Refused}
-use Rattle.embedding.specs.Embedding.{letters, Emb}
+use Rattle.embedding.specs.Embedding.{lettersFit, Emb}
 use Rattle.embedding.specs.Longest.{verified}
-use Rattle.embedding.specs.Verify.{verifyVerdict, answerOf, verifyAnswer}
+use Rattle.embedding.specs.Verify.{verifyVerdict, verifyUnless, verifyAnswer}
 use Rattle.embedding.proofs.Answers.{not-true-is}
 use Rattle.embedding.proofs.Computed.{verified-iff}
 
@@ -55,34 +55,34 @@ module _ (p pm q qm v : List ℕ) where
 
   -- The answers.
   pub answer-refused : (x : Refusal) → verifyVerdict p pm q qm v ≡ verdict.Refused x → Refused x ≡ verifyAnswer p pm q qm v
-  unfolding answerOf
+  unfolding verifyUnless
   answer-refused x e = rw e
 
   module _ (e : verifyVerdict p pm q qm v ≡ verdict.Accepted) where
-    pub answer-yes : Emb (letters p q) (nth pm) (nth qm) 0 (length p) 0 (length q) (nth v) → Yes ≡ verifyAnswer p pm q qm v
-    unfolding answerOf choose
+    pub answer-yes : Emb (lettersFit p q) (nth pm) (nth qm) 0 (length p) 0 (length q) (nth v) → Yes ≡ verifyAnswer p pm q qm v
+    unfolding verifyUnless choose
     answer-yes E = rw (e, verified-iff lettersMatch p pm q qm v .1 (accepted-count e, E))
 
-    pub answer-no : (Emb (letters p q) (nth pm) (nth qm) 0 (length p) 0 (length q) (nth v) → ⊥) → No ≡ verifyAnswer p pm q qm v
-    unfolding answerOf choose
+    pub answer-no : (Emb (lettersFit p q) (nth pm) (nth qm) 0 (length p) 0 (length q) (nth v) → ⊥) → No ≡ verifyAnswer p pm q qm v
+    unfolding verifyUnless choose
     answer-no n = rw (e, not-true-is _ (λ t. n (verified-iff lettersMatch p pm q qm v .0 t .1)))
 
   -- Yes exactly when both strands are accepted and the places are an embedding of the whole P.
   yes-facts : verifyAnswer p pm q qm v ≡ Yes
-      → (pairVerdict p pm q qm ≡ verdict.Accepted) × (length v ≡ length p) × Emb (letters p q) (nth pm) (nth qm) 0 (length p) 0 (length q) (nth v)
+      → (pairVerdict p pm q qm ≡ verdict.Accepted) × (length v ≡ length p) × Emb (lettersFit p q) (nth pm) (nth qm) 0 (length p) 0 (length q) (nth v)
   yes-facts a = go (verifyVerdict p pm q qm v) refl
     where
       go : (w : Verdict) → verifyVerdict p pm q qm v ≡ w
-          → (pairVerdict p pm q qm ≡ verdict.Accepted) × (length v ≡ length p) × Emb (letters p q) (nth pm) (nth qm) 0 (length p) 0 (length q) (nth v)
+          → (pairVerdict p pm q qm ≡ verdict.Accepted) × (length v ≡ length p) × Emb (lettersFit p q) (nth pm) (nth qm) 0 (length p) 0 (length q) (nth v)
       go (verdict.Refused x) e = absurd (let z = answer-refused x e ∙ a in let y : _≡_ {A = ℕ} 0 1 = cc in omega arith)
       go verdict.Accepted e = (accepted-pair e, accepted-count e, test (verified lettersMatch p pm q qm v) refl)
         where
-          test : (b : Bool) → verified lettersMatch p pm q qm v ≡ b → Emb (letters p q) (nth pm) (nth qm) 0 (length p) 0 (length q) (nth v)
+          test : (b : Bool) → verified lettersMatch p pm q qm v ≡ b → Emb (lettersFit p q) (nth pm) (nth qm) 0 (length p) 0 (length q) (nth v)
           test true t = verified-iff lettersMatch p pm q qm v .0 t .1
           test false t =
               absurd (let z = answer-no e (λ E. true≢false (sym (verified-iff lettersMatch p pm q qm v .1 (accepted-count e, E)) ∙ t)) ∙ a in
               let y : _≡_ {A = ℕ} 0 1 = cc in omega arith)
 
   pub verify-yes : (verifyAnswer p pm q qm v ≡ Yes)
-      ↔ ((pairVerdict p pm q qm ≡ verdict.Accepted) × (length v ≡ length p) × Emb (letters p q) (nth pm) (nth qm) 0 (length p) 0 (length q) (nth v))
+      ↔ ((pairVerdict p pm q qm ≡ verdict.Accepted) × (length v ≡ length p) × Emb (lettersFit p q) (nth pm) (nth qm) 0 (length p) 0 (length q) (nth v))
   verify-yes = (yes-facts, λ h. sym (answer-yes (sym (judged-pass (h .0) (h .1))) (h .2)))

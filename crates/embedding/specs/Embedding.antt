@@ -13,8 +13,8 @@ abbrev pub fits : (ℕ → ℕ → Bool) → List ℕ → List ℕ → ℕ → �
 fits rule pb qb x u = rule (nth pb x) (nth qb u)
 
 -- 01, bases: the two bases are equal, which means the same byte.
-abbrev pub letters : List ℕ → List ℕ → ℕ → ℕ → Bool
-letters pb qb = fits lettersMatch pb qb
+abbrev pub lettersFit : List ℕ → List ℕ → ℕ → ℕ → Bool
+lettersFit pb qb = fits lettersMatch pb qb
 
 -- 01, Embedding: f gives each position of P[a..b) a position of Q[s..e), such that ..
 pub record Emb (fit : ℕ → ℕ → Bool) (pm qm : ℕ → ℕ) (a b s e : ℕ) (f : ℕ → ℕ) : Type 0 where

@@ -39,20 +39,20 @@ C = 67
 abbrev G : ℕ
 G = 71
 
-abbrev row : List ℕ → List ℕ → List ℕ → List ℕ → ℕ → List ℕ → Example
-row pb pm qb qm best places = record { pb = pb; pm = pm; qb = qb; qm = qm; best = best; places = places }
+abbrev example : List ℕ → List ℕ → List ℕ → List ℕ → ℕ → List ℕ → Example
+example pb pm qb qm best places = record { pb = pb; pm = pm; qb = qb; qm = qm; best = best; places = places }
 
 unfoldable pub examples : List Example
 examples =
-    row (A ∷ []) (0 ∷ []) (A ∷ []) (0 ∷ []) 1 []
-    ∷ row (G ∷ C ∷ []) (1 ∷ 0 ∷ []) (G ∷ A ∷ C ∷ []) (2 ∷ 1 ∷ 0 ∷ []) 2 (0 ∷ 2 ∷ [])
-    ∷ row (G ∷ C ∷ []) (0 ∷ 1 ∷ []) (G ∷ A ∷ C ∷ []) (2 ∷ 1 ∷ 0 ∷ []) 1 []
-    ∷ row (G ∷ C ∷ []) (1 ∷ 0 ∷ []) (G ∷ C ∷ []) (0 ∷ 1 ∷ []) 0 []
-    ∷ row (G ∷ C ∷ []) (0 ∷ 1 ∷ []) (G ∷ C ∷ C ∷ []) (2 ∷ 1 ∷ 0 ∷ []) 2 (0 ∷ 1 ∷ [])
-    ∷ row (G ∷ C ∷ []) (0 ∷ 1 ∷ []) (G ∷ G ∷ C ∷ []) (2 ∷ 1 ∷ 0 ∷ []) 2 (1 ∷ 2 ∷ [])
-    ∷ row (A ∷ G ∷ C ∷ []) (0 ∷ 2 ∷ 1 ∷ []) (A ∷ G ∷ []) (0 ∷ 1 ∷ []) 1 []
-    ∷ row (A ∷ G ∷ C ∷ []) (0 ∷ 2 ∷ 1 ∷ []) (A ∷ G ∷ A ∷ C ∷ []) (0 ∷ 3 ∷ 2 ∷ 1 ∷ []) 3 (0 ∷ 1 ∷ 3 ∷ [])
-    ∷ row (G ∷ G ∷ C ∷ C ∷ []) (3 ∷ 2 ∷ 1 ∷ 0 ∷ []) (G ∷ G ∷ C ∷ C ∷ []) (0 ∷ 2 ∷ 1 ∷ 3 ∷ []) 0 []
+    example (A ∷ []) (0 ∷ []) (A ∷ []) (0 ∷ []) 1 []
+    ∷ example (G ∷ C ∷ []) (1 ∷ 0 ∷ []) (G ∷ A ∷ C ∷ []) (2 ∷ 1 ∷ 0 ∷ []) 2 (0 ∷ 2 ∷ [])
+    ∷ example (G ∷ C ∷ []) (0 ∷ 1 ∷ []) (G ∷ A ∷ C ∷ []) (2 ∷ 1 ∷ 0 ∷ []) 1 []
+    ∷ example (G ∷ C ∷ []) (1 ∷ 0 ∷ []) (G ∷ C ∷ []) (0 ∷ 1 ∷ []) 0 []
+    ∷ example (G ∷ C ∷ []) (0 ∷ 1 ∷ []) (G ∷ C ∷ C ∷ []) (2 ∷ 1 ∷ 0 ∷ []) 2 (0 ∷ 1 ∷ [])
+    ∷ example (G ∷ C ∷ []) (0 ∷ 1 ∷ []) (G ∷ G ∷ C ∷ []) (2 ∷ 1 ∷ 0 ∷ []) 2 (1 ∷ 2 ∷ [])
+    ∷ example (A ∷ G ∷ C ∷ []) (0 ∷ 2 ∷ 1 ∷ []) (A ∷ G ∷ []) (0 ∷ 1 ∷ []) 1 []
+    ∷ example (A ∷ G ∷ C ∷ []) (0 ∷ 2 ∷ 1 ∷ []) (A ∷ G ∷ A ∷ C ∷ []) (0 ∷ 3 ∷ 2 ∷ 1 ∷ []) 3 (0 ∷ 1 ∷ 3 ∷ [])
+    ∷ example (G ∷ G ∷ C ∷ C ∷ []) (3 ∷ 2 ∷ 1 ∷ 0 ∷ []) (G ∷ G ∷ C ∷ C ∷ []) (0 ∷ 2 ∷ 1 ∷ 3 ∷ []) 0 []
     ∷ []
 
 pub settled : examplesOk examples ≡ true

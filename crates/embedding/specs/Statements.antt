@@ -9,7 +9,7 @@ use Rattle.strand.specs.declared.Verdict.the-variants.{Accepted}
 use Rattle.strand.specs.Vocabulary.{nth}
 use Rattle.strand.specs.Strands.{Inside}
 use Rattle.strand.specs.Refusals.{pairVerdict}
-use Rattle.embedding.specs.Embedding.{fits, letters, Emb, Embeds, ClosedPrefix}
+use Rattle.embedding.specs.Embedding.{fits, lettersFit, Emb, Embeds, ClosedPrefix}
 use Rattle.embedding.specs.Longest.{closedTo, longest, verified}
 use Rattle.embedding.specs.Verify.{verifyAnswer}
 use Rattle.embedding.specs.declared.Verified.the-variants.{Yes}
@@ -47,7 +47,7 @@ pub record VerifiedSays (rule : ℕ → ℕ → Bool) (pb pm qb qm v : List ℕ)
 abbrev pub VerifySays : List ℕ → List ℕ → List ℕ → List ℕ → List ℕ → Type 0
 VerifySays p pm q qm v =
     (verifyAnswer p pm q qm v ≡ Yes)
-    ↔ ((pairVerdict p pm q qm ≡ Accepted) × (length v ≡ length p) × Emb (letters p q) (nth pm) (nth qm) 0 (length p) 0 (length q) (nth v))
+    ↔ ((pairVerdict p pm q qm ≡ Accepted) × (length v ≡ length p) × Emb (lettersFit p q) (nth pm) (nth qm) 0 (length p) 0 (length q) (nth v))
 
 -- All the claims.
 pub record Claims : Type 0 where

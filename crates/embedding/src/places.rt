@@ -5,7 +5,7 @@ ghost use Prim.Native.Nat.{_+_, _<_};
 ghost use lib.ListN.{length};
 ghost use Rattle.strand.specs.Vocabulary.{nth, Tells};
 ghost use Rattle.strand.specs.Strands.{Inside};
-ghost use Rattle.embedding.specs.Embedding.{Emb, letters};
+ghost use Rattle.embedding.specs.Embedding.{Emb, lettersFit};
 ghost use Rattle.embedding.specs.Places.{Ordered, Lettered, Has, ArcKept, ArcsKept};
 
 // Whether the places rise and lie in the molecule.
@@ -108,7 +108,7 @@ pub(crate) fn is_embedding(p: &[u8], pm: &[u16], q: &[u8], qm: &[u16], places: &
     requires { ⌜ length (now places) ≡ length (now p) ⌝ }
     requires { ⌜ (length (now pm) ≡ length (now p)) × (length (now qm) ≡ length (now q)) ⌝ }
     requires { ⌜ Inside (nth (now pm)) (length (now pm)) ⌝ }
-    ensures { λ r. ⌜ Tells r (Emb (letters (now (p .entry)) (now (q .entry))) (nth (now (pm .entry))) (nth (now (qm .entry))) 0 (length (now (p .entry))) 0 (length (now (q .entry))) (nth (now (places .entry)))) ⌝ }
+    ensures { λ r. ⌜ Tells r (Emb (lettersFit (now (p .entry)) (now (q .entry))) (nth (now (pm .entry))) (nth (now (qm .entry))) 0 (length (now (p .entry))) 0 (length (now (q .entry))) (nth (now (places .entry)))) ⌝ }
 {
     if !in_order(places, q.len()) {
         return false;

@@ -1,5 +1,5 @@
 // The definition of an embedding, written out.
-use super::make::get;
+use testing::slices::entry_at;
 
 // The definition at the positions x and y: the place of y lies in the molecule and its base is the same; and where x lies before y, the
 // places rise, and x and y are an arc exactly when their places are.
@@ -12,8 +12,8 @@ fn pair_fits(
     x: usize,
     y: usize,
 ) -> bool {
-    let u = get(places, x);
-    let v = get(places, y);
+    let u = entry_at(places, x);
+    let v = entry_at(places, y);
     if p.len() <= y {
         return false;
     }
@@ -29,10 +29,10 @@ fn pair_fits(
     if v <= u {
         return false;
     }
-    if get(pm, x) == y {
-        return get(qm, u) == v;
+    if entry_at(pm, x) == y {
+        return entry_at(qm, u) == v;
     }
-    get(qm, u) != v
+    entry_at(qm, u) != v
 }
 
 // Position x fits with every position.

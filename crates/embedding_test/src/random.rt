@@ -1,15 +1,14 @@
 // All lists of places for random nested pairs, against the definition written out: how many answers are wrong, and how many are yes.
 use super::make::nested;
-use super::make::put;
 use super::naive::fits;
-use super::tell::end_line;
-use super::tell::number;
-use super::tell::say;
 use embedding::Verified;
+use testing::output::number;
+use testing::output::say;
+use testing::slices::set_entry;
 
 // The next random number, how many answers are wrong, and how many are yes.
 struct Tally {
-    seed: u64,
+    seed: usize,
     wrong: usize,
     yes: usize,
 }
@@ -33,7 +32,7 @@ fn added(a: Tally, b: Tally) -> Tally {
 }
 
 // The answer, where the definition says `want`.
-fn judged(seed: u64, a: Verified, want: bool) -> Tally {
+fn judged(seed: usize, a: Verified, want: bool) -> Tally {
     match a {
         Verified::Yes => {
             if want {
@@ -71,7 +70,7 @@ fn judged(seed: u64, a: Verified, want: bool) -> Tally {
     }
 }
 
-fn compared(seed: u64, p: &[u8], pm: &[u16], q: &[u8], qm: &[u16], places: &[u16]) -> Tally {
+fn compared(seed: usize, p: &[u8], pm: &[u16], q: &[u8], qm: &[u16], places: &[u16]) -> Tally {
     let want = fits(p, pm, q, qm, places);
     judged(seed, embedding::verify(p, pm, q, qm, places), want)
 }
@@ -81,7 +80,7 @@ fn write_list(code: usize, places: &mut [u16]) {
     let mut rest = code;
     let mut i = 0;
     while i < places.len() {
-        put(places, i, rest % 8);
+        set_entry(places, i, rest % 8);
         rest = rest / 8;
         i += 1;
     }
@@ -90,7 +89,7 @@ fn write_list(code: usize, places: &mut [u16]) {
 // Compares the lists below `count`, and hands the seed on.
 fn lists(
     count: usize,
-    seed: u64,
+    seed: usize,
     p: &[u8],
     pm: &[u16],
     q: &[u8],
@@ -113,8 +112,8 @@ fn lists(
 
 // Makes a random pair and compares all lists of 4 places below 8.
 fn trial(
-    seed: u64,
-    kinds: u64,
+    seed: usize,
+    kinds: usize,
     p: &mut [u8],
     pm: &mut [u16],
     q: &mut [u8],
@@ -128,7 +127,7 @@ fn trial(
 }
 
 // A random pair of 4 and 7 bases.
-fn one_pair(seed: u64, kinds: u64) -> Tally {
+fn one_pair(seed: usize, kinds: usize) -> Tally {
     let mut p = [0u8; 4];
     let mut pm = [0u16; 4];
     let mut q = [0u8; 7];
@@ -147,7 +146,7 @@ fn one_pair(seed: u64, kinds: u64) -> Tally {
     )
 }
 
-fn pairs(count: usize, kinds: u64) -> Tally {
+fn pairs(count: usize, kinds: usize) -> Tally {
     let mut sum = Tally {
         seed: 12345,
         wrong: 0,
@@ -163,10 +162,9 @@ fn pairs(count: usize, kinds: u64) -> Tally {
 
 fn tell(name: &[u8], t: Tally) {
     say(name);
-    number(t.wrong);
-    say(b" yes");
-    number(t.yes);
-    end_line();
+    number(b" ", t.wrong);
+    number(b" yes ", t.yes);
+    say(b"\n");
 }
 
 // Of 1, 2 and 4 letters.

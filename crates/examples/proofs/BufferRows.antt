@@ -9,21 +9,21 @@ use lib.ListN.{length, replicate, set, length-replicate, length-set}
 use lib.Seq.{length-sets, getD-set-same}
 use Rattle.strand.specs.Vocabulary.{nth, choose, some, lowestFrom, lowest}
 use Rattle.strand.specs.Strands.{noSide, isLetter, notLetter, mateOutside, notMutual, crosses, crossedAt}
-use Rattle.strand.specs.Refusals.{refusal, first, row, rowAt, strandVerdict}
+use Rattle.strand.specs.Refusals.{refusal, first, refuseIf, refuseAtLowest, strandVerdict}
 use Rattle.strand.specs.declared.Verdict.the-variants.{Accepted}
 use Rattle.strand.proofs.ListLaws.{zeros-not, lowest-all, lowest-found}
 use Rattle.octets.specs.Numbers.{bytes32}
 use Rattle.octets.specs.Checksum.{blockSize, checksumAt, checksumOf, rechecked}
-use Rattle.block.specs.Block.{blockOf, soundMolecule}
-use Rattle.block.specs.Buffer.{putBlock}
+use Rattle.block.specs.Block.{blockOf, soundMolecule, blockCount}
+use Rattle.buffer.specs.Buffer.{putBlock}
 use Rattle.block.specs.Content.{moleculeKind, emptyBlock, isEmpty, encodeMolecule}
 use Rattle.block.proofs.SoundLaws.{content-1, molecule-content}
-use Rattle.catalog.specs.Limits.{moleculeVerdict}
-use Rattle.catalog.specs.Motifs.{embeds}
-use Rattle.catalog.specs.Buffers.{blockCount, unsoundAt, buffersVerdict}
-use Rattle.catalog.specs.Answers.{refused, refusedBy}
-use Rattle.catalog.proofs.BlockUse.{empty-molecule, molecule-length}
-use Rattle.catalog.proofs.ReadingLaws.{count-is, whole-is, put-length, put-block}
+use Rattle.calls.specs.Limits.{moleculeVerdict}
+use Rattle.calls.specs.Motifs.{embeds}
+use Rattle.calls.specs.Buffers.{unsoundAt, buffersVerdict}
+use Rattle.calls.specs.Results.{refused, refusedBy}
+use Rattle.calls.proofs.BlockUse.{empty-molecule, molecule-length}
+use Rattle.calls.proofs.ReadingLaws.{count-is, whole-is, put-length, put-block}
 use Rattle.catalog.proofs.JudgeLaws.{buffers-3, add-1, remove-1, query-1}
 use Rattle.history.specs.Events.{Call, add, remove, query, call}
 use Rattle.history.specs.History.{zeroed, bytesResult, bytesLog, AllRefused}
@@ -41,7 +41,7 @@ uneven-refused c = not-whole (call c ∷ []) uneven (inr odd) .0
     odd e = omega (arith, length-replicate {A = ℕ} 513 0)
 
 pub a-accepted : moleculeVerdict a ≡ Accepted
-unfolding moleculeVerdict strandVerdict first row rowAt choose some lowestFrom lowest isLetter notLetter mateOutside notMutual crosses crossedAt
+unfolding moleculeVerdict strandVerdict first refuseIf refuseAtLowest choose some lowestFrom lowest isLetter notLetter mateOutside notMutual crosses crossedAt
 a-accepted = refl
 
 rechecked-length : (s : List ℕ) → length (rechecked s) ≡ length s

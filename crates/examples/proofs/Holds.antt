@@ -4,21 +4,21 @@ use mathlib.Core.Bool.{true}
 use mathlib.Core.List.{List, [], _∷_, _++_}
 use Rattle.strand.specs.Vocabulary.{choose, every, some, lowestFrom, lowest, largest, tab, someList}
 use Rattle.strand.specs.Strands.{lettersMatch, isLetter, notLetter, mateOutside, notMutual, crosses, crossedAt}
-use Rattle.strand.specs.Refusals.{first, row, rowAt, strandVerdict, checkVerdict, pairVerdict}
+use Rattle.strand.specs.Refusals.{first, refuseIf, refuseAtLowest, strandVerdict, checkVerdict, pairVerdict}
 use Rattle.strand.proofs.ListLaws.{and-true}
 use Rattle.embedding.specs.Longest.{longest, prefixOk, closedTo, placesOk, verified}
 use Rattle.embedding.specs.Verify as verify
 use Rattle.embedding.specs.Examples.{exampleOk, examples}
 use Rattle.matcher.specs.Answers as matcher
 use Rattle.block.proofs.Examples.{checksum-of-A}
-use Rattle.catalog.specs.Limits.{moleculeVerdict, motifVerdict, workVerdict}
-use Rattle.catalog.specs.Answers.{refusedBy, resultBy, ifAccepted}
+use Rattle.calls.specs.Limits.{moleculeVerdict, motifVerdict, workVerdict}
+use Rattle.calls.specs.Results.{refusedBy, resultBy, ifAccepted}
 use Rattle.history.specs.Events.{add, remove}
 use Rattle.history.specs.Model.{start, putAt, isHeld, heldIn, inRange, modelVerdict, modelAnswer, modelNext, modelLog}
 use Rattle.history.specs.History.{atMostOnce, admittedFrom, admitted}
 use Rattle.history.specs.Examples.{Story, resultsOf, sameResult, sameResults, storyOk, storiesOk, stories, bonded, ask, settledStory, reusedStory}
 use Rattle.history.proofs.Computed as computed
-use Rattle.history.proofs.Stories.{told}
+use Rattle.history.proofs.Stories.{on-bytes}
 use Rattle.examples.specs.Table.{Row, story, screenText, VerifiedAt, Holds, AllHold, a, screenInput, screenPrints, longMotif, fewHits, numberTwo, addedTwice, removedEmpty, refusals, settledRows, also, table}
 use Rattle.examples.proofs.BufferRows.{uneven-refused, unsound-refused}
 use Rattle.examples.proofs.ScreenRow.{screen-prints}
@@ -31,14 +31,14 @@ x & y = (x, y)
 -- A story that holds on the model holds on the bytes.
 by-model : (t : Story) → storyOk t ≡ true → Holds (story t)
 unfolding Holds
-by-model t ok = (ok, told t ok)
+by-model t ok = (ok, on-bytes t ok)
 
 tales : (storyOk longMotif ≡ true) × (storyOk fewHits ≡ true) × (storyOk numberTwo ≡ true) × (storyOk addedTwice ≡ true) × (storyOk removedEmpty ≡ true)
-unfolding longMotif fewHits numberTwo addedTwice removedEmpty storyOk admitted admittedFrom atMostOnce modelLog resultsOf sameResults sameResult choose every some lowestFrom lowest tab first row rowAt strandVerdict isLetter notLetter mateOutside notMutual crosses crossedAt moleculeVerdict motifVerdict workVerdict refusedBy resultBy ifAccepted start putAt isHeld heldIn inRange modelVerdict modelAnswer modelNext
+unfolding longMotif fewHits numberTwo addedTwice removedEmpty storyOk admitted admittedFrom atMostOnce modelLog resultsOf sameResults sameResult choose every some lowestFrom lowest tab first refuseIf refuseAtLowest strandVerdict isLetter notLetter mateOutside notMutual crosses crossedAt moleculeVerdict motifVerdict workVerdict refusedBy resultBy ifAccepted start putAt isHeld heldIn inRange modelVerdict modelAnswer modelNext
 tales = (refl, refl, refl, refl, refl)
 
 refusals-hold : AllHold refusals
-unfolding refusals AllHold Holds checkVerdict motifVerdict matcher.lengthVerdict matcher.lengthAnswer matcher.showVerdict matcher.showAnswer matcher.answerOf verify.verifyVerdict verify.answerOf pairVerdict strandVerdict first row rowAt choose every some someList lowestFrom lowest isLetter notLetter mateOutside notMutual crosses crossedAt lettersMatch longest largest prefixOk closedTo placesOk
+unfolding refusals AllHold Holds checkVerdict motifVerdict matcher.lengthVerdict matcher.lengthAnswer matcher.showVerdict matcher.showAnswer matcher.matchUnless verify.verifyVerdict verify.verifyUnless pairVerdict strandVerdict first refuseIf refuseAtLowest choose every some someList lowestFrom lowest isLetter notLetter mateOutside notMutual crosses crossedAt lettersMatch longest largest prefixOk closedTo placesOk
 refusals-hold =
     (refl, refl)
     & (refl, refl)
@@ -66,17 +66,17 @@ refusals-hold =
     & tt
 
 settled-hold : AllHold (settledRows examples)
-unfolding settledRows examples exampleOk verified AllHold Holds VerifiedAt matcher.lengthVerdict matcher.lengthAnswer matcher.answerOf verify.verifyVerdict verify.answerOf pairVerdict strandVerdict first row rowAt choose every some someList lowestFrom lowest isLetter notLetter mateOutside notMutual crosses crossedAt lettersMatch longest largest prefixOk closedTo placesOk
+unfolding settledRows examples exampleOk verified AllHold Holds VerifiedAt matcher.lengthVerdict matcher.lengthAnswer matcher.showVerdict matcher.showAnswer matcher.matchUnless verify.verifyVerdict verify.verifyUnless pairVerdict strandVerdict first refuseIf refuseAtLowest choose every some someList lowestFrom lowest isLetter notLetter mateOutside notMutual crosses crossedAt lettersMatch longest largest prefixOk closedTo placesOk
 settled-hold =
-    (refl, refl, tt)
-    & (refl, refl, refl)
-    & (refl, refl, tt)
-    & (refl, refl, tt)
-    & (refl, refl, refl)
-    & (refl, refl, refl)
-    & (refl, refl, tt)
-    & (refl, refl, refl)
-    & (refl, refl, tt)
+    (refl, refl, refl, tt)
+    & (refl, refl, refl, refl)
+    & (refl, refl, refl, tt)
+    & (refl, refl, refl, tt)
+    & (refl, refl, refl, refl)
+    & (refl, refl, refl, refl)
+    & (refl, refl, refl, tt)
+    & (refl, refl, refl, refl)
+    & (refl, refl, refl, tt)
     & tt
 
 -- 01's own stories among those of crate history.

@@ -1,6 +1,6 @@
 -- The printed example of the screen program: its catalog is what add leaves in zeroed blocks, and its query is that of a story.
 -- Assumes nothing.
-use Prim.Native.Nat.{ℕ, _/_}
+use Prim.Native.Nat.{ℕ}
 use native.Mathlib.Omega.{arith}
 use mathlib.Core.Path.{_≡_, refl, sym, ap, ap₂, _∙_}
 use mathlib.Core.Bool.{true}
@@ -11,21 +11,22 @@ use lib.ListN.{length, take, drop, replicate, length-append, length-replicate}
 use lib.Seq.{take-at, drop-at, take-all}
 use Rattle.strand.specs.Vocabulary.{choose, every, some, lowestFrom, lowest, largest, select, someList, total, sameList}
 use Rattle.strand.specs.Strands.{Strand, sameStrand, key, lettersMatch, isLetter, notLetter, mateOutside, notMutual, crosses, crossedAt}
-use Rattle.strand.specs.Refusals.{first, row, rowAt, strandVerdict}
+use Rattle.strand.specs.Refusals.{first, refuseIf, refuseAtLowest, strandVerdict}
 use Rattle.strand.specs.declared.Verdict.the-variants.{Accepted}
 use Rattle.embedding.specs.Longest.{longest, prefixOk, closedTo, placesOk}
 use Rattle.octets.specs.Checksum.{blockSize}
-use Rattle.block.specs.Buffer.{cleaned, putBlock}
+use Rattle.block.specs.Block.{cleaned, blockCount}
+use Rattle.buffer.specs.Buffer.{putBlock}
 use Rattle.block.specs.Content.{emptyBlock, moleculeIn, encodeMolecule}
-use Rattle.catalog.specs.Limits.{moleculeVerdict, motifVerdict, workVerdict}
-use Rattle.catalog.specs.Motifs.{embeds}
-use Rattle.catalog.specs.Buffers.{slotOf, cleanCache}
-use Rattle.catalog.specs.Calls.{QueryEffect, updateUnless, addVerdict, addOutcome, queryOutcome}
-use Rattle.catalog.specs.Answers.{Result, done, found, refusedBy, queryResult, resultBy, ifAccepted}
-use Rattle.catalog.specs.declared.Queried.{Queried}
-use Rattle.catalog.specs.declared.Queried.the-variants.{Hits, Refused}
-use Rattle.catalog.proofs.BlockUse.{empty-length, empty-entry, molecule-length, molecule-sound, molecule-back, molecule-full, sound-clean}
-use Rattle.catalog.proofs.ReadingLaws.{clean-length, clean-block}
+use Rattle.calls.specs.Limits.{moleculeVerdict, motifVerdict, workVerdict}
+use Rattle.calls.specs.Motifs.{embeds}
+use Rattle.calls.specs.Buffers.{slotOf, cleanCache}
+use Rattle.calls.specs.Calls.{QueryEffect, updateUnless, addVerdict, addOutcome, queryOutcome}
+use Rattle.calls.specs.Results.{Result, done, found, refusedBy, queryResult, resultBy, ifAccepted}
+use Rattle.calls.specs.declared.Queried.{Queried}
+use Rattle.calls.specs.declared.Queried.the-variants.{Hits, Refused}
+use Rattle.calls.proofs.BlockUse.{empty-length, empty-entry, molecule-length, molecule-sound, molecule-back, molecule-full, sound-clean}
+use Rattle.calls.proofs.ReadingLaws.{clean-length, clean-block}
 use Rattle.history.specs.Events.{Event, add, query, call}
 use Rattle.history.specs.Model.{start, putAt, isHeld, heldIn, knownIn, inRange, modelVerdict, embedsAt, hitList, searchList, modelAnswer, modelNext, modelLog}
 use Rattle.history.specs.History.{zeroed, bytesResult, bytesNext, bytesLog, atMostOnce, admittedFrom, admitted}
@@ -33,7 +34,7 @@ use Rattle.history.specs.Examples.{Story, resultsOf, sameResult, sameResults, s
 use Rattle.history.proofs.Base.{block-zero}
 use Rattle.history.proofs.Follows.{bytesVerdict, verdict-agrees}
 use Rattle.history.proofs.Same.{follows-start}
-use Rattle.history.proofs.Stories.{told}
+use Rattle.history.proofs.Stories.{on-bytes}
 use Rattle.screening.specs.Text.{digitsIn, digits, spaced, line, lines, hitsText}
 use Rattle.screening.specs.Screen.{mostScreened, isInput, firstBlock, catalogIn, isMotif, screenWork, answerText, effectText, screenQuery, screenOutput}
 use Rattle.screening.proofs.ScreenLaws.{input-3, output-answer}
@@ -59,8 +60,8 @@ input-length = omega (arith, length-append code (code ++ emptyBlock), length-app
 input-ok : isInput input ≡ true
 input-ok = sym (input-3 input (omega (arith, input-length)) (omega (arith, input-length))) ∙ few
   where
-    few : leb (length input / 512) 65 ≡ true
-    few = le-leb (length input / 512) 65 (omega (arith, input-length))
+    few : leb (blockCount input) 65 ≡ true
+    few = le-leb (blockCount input) 65 (omega (arith, input-length))
 
 first-block : firstBlock input ≡ code
 unfolding input
@@ -91,7 +92,7 @@ tale : Story
 tale = record { blocks = 2; slots = 1; events = adding ∷ asking ∷ []; results = done ∷ found 1 (0 ∷ []) 1 ∷ [] }
 
 tale-ok : storyOk tale ≡ true
-unfolding tale adding asking hits storyOk admitted admittedFrom atMostOnce modelLog resultsOf sameResults sameResult embeds longest largest prefixOk closedTo placesOk lettersMatch choose every some lowestFrom lowest select someList total sameList sameStrand key first row rowAt strandVerdict isLetter notLetter mateOutside notMutual crosses crossedAt moleculeVerdict motifVerdict workVerdict slotOf refusedBy resultBy ifAccepted start putAt isHeld heldIn knownIn inRange modelVerdict embedsAt hitList searchList modelAnswer modelNext
+unfolding tale adding asking hits storyOk admitted admittedFrom atMostOnce modelLog resultsOf sameResults sameResult embeds longest largest prefixOk closedTo placesOk lettersMatch choose every some lowestFrom lowest select someList total sameList sameStrand key first refuseIf refuseAtLowest strandVerdict isLetter notLetter mateOutside notMutual crosses crossedAt moleculeVerdict motifVerdict workVerdict slotOf refusedBy resultBy ifAccepted start putAt isHeld heldIn knownIn inRange modelVerdict embedsAt hitList searchList modelAnswer modelNext
 tale-ok = refl
 
 -- ---- what add leaves
@@ -100,7 +101,7 @@ add-accepted : bytesVerdict (zeroed 2 1) (add 0 a) ≡ Accepted
 add-accepted = verdict-agrees embeds 2 1 (zeroed 2 1) start (λ s. 0) (follows-start embeds 2 1) (add 0 a) ∙ by-model
   where
     by-model : modelVerdict embeds 2 1 start (add 0 a) ≡ Accepted
-    by-model = unfold modelVerdict start heldIn isHeld inRange moleculeVerdict strandVerdict first row rowAt choose some lowestFrom lowest isLetter notLetter mateOutside notMutual crosses crossedAt in refl
+    by-model = unfold modelVerdict start heldIn isHeld inRange moleculeVerdict strandVerdict first refuseIf refuseAtLowest choose some lowestFrom lowest isLetter notLetter mateOutside notMutual crosses crossedAt in refl
 
 clean-zeros : cleanCache (replicate blockSize 0) ≡ emptyBlock
 clean-zeros =
@@ -137,7 +138,7 @@ asked-found : queryResult (asked .answer) (asked .hits) ≡ found 1 (0 ∷ []) 1
 unfolding asked
 asked-found =
     ap₂ (λ (u v : List ℕ). queryResult (queryOutcome embeds u v a screenWork hits .answer) (queryOutcome embeds u v a screenWork hits .hits)) (sym left-catalog) (sym left-cache)
-    ∙ (unfold second resultsOf bytesLog bytesResult adding asking tale in (ap second (told tale tale-ok)))
+    ∙ (unfold second resultsOf bytesLog bytesResult adding asking tale in (ap second (on-bytes tale tale-ok)))
 
 same-query : screenQuery embeds input screenWork (replicate mostScreened 0) ≡ asked
 unfolding screenQuery asked hits

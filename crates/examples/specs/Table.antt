@@ -22,13 +22,13 @@ use Rattle.matcher.specs.Answers.{lengthAnswer, showAnswer}
 use Rattle.octets.specs.Numbers.{word32}
 use Rattle.octets.specs.Checksum.{blockSize, checksumAt, rechecked}
 use Rattle.block.specs.Content.{emptyBlock, encodeMolecule}
-use Rattle.block.specs.Buffer.{putBlock}
-use Rattle.catalog.specs.Limits.{motifVerdict}
-use Rattle.catalog.specs.Motifs.{embeds}
-use Rattle.catalog.specs.Answers.{Result, refused, done}
+use Rattle.buffer.specs.Buffer.{putBlock}
+use Rattle.calls.specs.Limits.{motifVerdict}
+use Rattle.calls.specs.Motifs.{embeds}
+use Rattle.calls.specs.Results.{Result, refused, done}
 use Rattle.history.specs.Events.{Call, add, remove, query, Event, call}
 use Rattle.history.specs.History.{Buffers, zeroed, bytesResult}
-use Rattle.history.specs.Examples.{Story, storyOk, Told, gac, bonded, unbonded, ask, settledStory, reusedStory}
+use Rattle.history.specs.Examples.{Story, storyOk, OnBytes, gac, bonded, unbonded, ask, settledStory, reusedStory}
 use Rattle.screening.specs.Screen.{screenOutput}
 
 -- The kinds of example, each with what it should come to.
@@ -67,12 +67,13 @@ Holds (showCall p q places work answer) = showAnswer (p .bases) (p .mates) (q .b
 Holds (verifyCall p q places answer) = verifyAnswer (p .bases) (p .mates) (q .bases) (q .mates) places ≡ answer
 Holds (bufferCall buffers c result) = bytesResult embeds buffers c ≡ result
 -- on the model, and on the bytes
-Holds (story t) = (storyOk t ≡ true) × Told t
+Holds (story t) = (storyOk t ≡ true) × OnBytes t
 Holds (screenText input text) = screenOutput embeds input ≡ text
--- by longest and verified, and by the calls length, with the least work slice, and verify
+-- by longest and verified, and by the calls length and show, with the least slices, and verify
 Holds (settledRow e) =
     (exampleOk e ≡ true)
     × (lengthAnswer (e .pb) (e .pm) (e .qb) (e .qm) (workSize (length (e .pb)) (length (e .qb))) ≡ matched.Prefix (e .best))
+    × (showAnswer (e .pb) (e .pm) (e .qb) (e .qm) (length (e .pb)) (workSize (length (e .pb)) (length (e .qb))) ≡ matched.Prefix (e .best))
     × VerifiedAt e (e .places)
 Holds (checksumRow q n) = word32 (encodeMolecule q) checksumAt ≡ n
 Holds (keyRow p n) = key p ≡ n
@@ -82,7 +83,7 @@ unfoldable pub AllHold : List Row → Type 0
 AllHold [] = Unit
 AllHold (r ∷ rs) = Holds r × AllHold rs
 
--- A refusal by a direct call: side 2, place 0.
+-- Refusal 8 or 9 of a direct call: side 2, place 0.
 abbrev pub directRefusal : ℕ → Refusal
 directRefusal number = record { number = number; side = noSide; place = 0 }
 

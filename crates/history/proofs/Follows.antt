@@ -8,21 +8,20 @@ use lib.ListN.{length}
 use borrow.Author.Tests.{ltb-true, ltb-false}
 use Rattle.strand.specs.Vocabulary.{choose}
 use Rattle.strand.specs.Strands.{Strand, noSide}
-use Rattle.strand.specs.Refusals.{unsoundBlock, first, row, rowAt}
+use Rattle.strand.specs.Refusals.{unsoundBlock, first, refuseIf, refuseAtLowest}
 use Rattle.strand.specs.declared.Verdict.{Verdict}
 use Rattle.strand.specs.declared.Verdict.the-variants.{Accepted}
 use Rattle.strand.proofs.ListLaws.{by-bool, and-true}
 use Rattle.octets.specs.Checksum.{blockSize}
-use Rattle.block.specs.Block.{blockOf, soundEntry}
-use Rattle.block.specs.Buffer.{cleaned}
-use Rattle.catalog.specs.Limits.{mostCatalogBlocks, mostCacheBlocks}
-use Rattle.catalog.specs.Buffers.{blockCount, areWhole, unsoundAt, held, moleculeAt, buffersVerdict}
-use Rattle.catalog.specs.Calls.{addVerdict, removeVerdict, queryVerdict}
-use Rattle.catalog.proofs.ReadingLaws.{count-is, whole-is, no-place}
+use Rattle.block.specs.Block.{blockOf, soundEntry, cleaned, blockCount}
+use Rattle.calls.specs.Limits.{mostCatalogBlocks, mostCacheBlocks}
+use Rattle.calls.specs.Buffers.{areWhole, unsoundAt, held, moleculeAt, buffersVerdict}
+use Rattle.calls.specs.Calls.{addVerdict, removeVerdict, queryVerdict}
+use Rattle.calls.proofs.ReadingLaws.{count-is, whole-is, no-place}
 use Rattle.history.specs.Events.{Call, add, remove, query}
 use Rattle.history.specs.Model.{Holding, holds, Slot, nothing, keeps, State, isHeld, heldIn, inRange, modelVerdict, slotBlock}
 use Rattle.history.specs.History.{Buffers}
-use Rattle.catalog.proofs.BlockUse as leaf
+use Rattle.calls.proofs.BlockUse as leaf
 use Rattle.history.proofs.Sane.{SlotOk, Sane}
 
 -- The block of a slot
@@ -71,11 +70,11 @@ module _ (embeds : Strand → Strand → Bool) (B S : ℕ) (β : Buffers) (σ : 
   count-cache = count-is (β .cache) S (f .cache-length)
 
   -- row 11 never applies
-  no-row-11 : rowAt unsoundBlock noSide (blockCount (β .catalog)) (unsoundAt (β .catalog)) ≡ Accepted
+  no-row-11 : refuseAtLowest unsoundBlock noSide (blockCount (β .catalog)) (unsoundAt (β .catalog)) ≡ Accepted
   no-row-11 = rw count-cat (no-place unsoundBlock noSide B (unsoundAt (β .catalog)) (f .none-unsound))
 
   buffers-pass : inRange B S ≡ true → buffersVerdict (β .catalog) (β .cache) ≡ Accepted
-  unfolding buffersVerdict row choose first
+  unfolding buffersVerdict refuseIf choose first
   buffers-pass range = rw (no-row-11, range-is B S β (f .cat-length) (f .cache-length), range)
 
   pub held-all : (d : ℕ) → held (β .catalog) d ≡ heldIn σ d
@@ -86,13 +85,13 @@ module _ (embeds : Strand → Strand → Bool) (B S : ℕ) (β : Buffers) (σ : 
       (by-bool (ltb d B))
 
   refused-10 : inRange B S ≡ false → (c : Call) → bytesVerdict β c ≡ modelVerdict embeds B S σ c
-  unfolding bytesVerdict addVerdict removeVerdict queryVerdict buffersVerdict modelVerdict first row choose
+  unfolding bytesVerdict addVerdict removeVerdict queryVerdict buffersVerdict modelVerdict first refuseIf choose
   refused-10 range (add d q) = rw (range-is B S β (f .cat-length) (f .cache-length), range)
   refused-10 range (remove d) = rw (range-is B S β (f .cat-length) (f .cache-length), range)
   refused-10 range (query p work hits) = rw (range-is B S β (f .cat-length) (f .cache-length), range)
 
   in-range : inRange B S ≡ true → (c : Call) → bytesVerdict β c ≡ modelVerdict embeds B S σ c
-  unfolding bytesVerdict addVerdict removeVerdict queryVerdict modelVerdict first row choose
+  unfolding bytesVerdict addVerdict removeVerdict queryVerdict modelVerdict first refuseIf choose
   in-range range (add d q) = rw (buffers-pass range, range, count-cat, held-all d)
   in-range range (remove d) = rw (buffers-pass range, range, count-cat, held-all d)
   in-range range (query p work hits) = rw (buffers-pass range, range, count-cat)

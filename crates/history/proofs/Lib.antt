@@ -8,3 +8,4 @@ pub mod Right
 pub mod Theorem
 pub mod Runs
 pub mod Stories
+pub mod Claims

@@ -13,8 +13,8 @@ use Rattle.strand.specs.Strands.{Strand}
 use Rattle.strand.specs.declared.Verdict.{Verdict}
 use Rattle.strand.specs.declared.Verdict.the-variants.{Accepted, Refused}
 use Rattle.strand.proofs.ListLaws.{by-bool}
-use Rattle.catalog.specs.Limits.{motifVerdict}
-use Rattle.catalog.specs.Answers.{found, refusedBy, resultBy, ifAccepted}
+use Rattle.calls.specs.Limits.{motifVerdict}
+use Rattle.calls.specs.Results.{found, refusedBy, resultBy, ifAccepted}
 use Rattle.history.specs.Events.{Call, add, remove, query, Event, call, alter, Line, gave}
 use Rattle.history.specs.Model.{Holding, vacant, holds, State, start, putAt, modelVerdict, embedsAt, hitList, searchList, modelAnswer, modelNext, modelAlter, modelLog}
 use Rattle.history.specs.History.{holdingAfter, holdingSince, Among, RightHits, Decides}

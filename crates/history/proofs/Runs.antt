@@ -3,9 +3,9 @@ use mathlib.Core.Path.{_≡_, refl, _∙_, ap}
 use mathlib.Core.List.{List, [], _∷_}
 use mathlib.Core.Bool.{Bool}
 use Rattle.strand.specs.Strands.{Strand}
-use Rattle.catalog.specs.Motifs.{embeds, EmbedsIn}
-use Rattle.catalog.specs.Calls.{UpdateEffect, addOutcome, removeOutcome, QueryEffect, queryOutcome}
-use Rattle.catalog.specs.Answers.{updateResult, queryResult}
+use Rattle.calls.specs.Motifs.{embeds, EmbedsIn}
+use Rattle.calls.specs.Calls.{UpdateEffect, addOutcome, removeOutcome, QueryEffect, queryOutcome}
+use Rattle.calls.specs.Results.{updateResult, queryResult}
 use Rattle.history.specs.Events.{add, remove, query, Event, call, alter, Line, gave}
 use Rattle.history.specs.History.{Buffers, altered, bytesResult, bytesNext, bytesLog, HistoryTheorem}
 use Rattle.history.specs.Runs.{left, Ran, runEnd, runAdd, runRemove, runQuery, runAlter, RunTheorem}

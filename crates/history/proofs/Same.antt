@@ -11,24 +11,23 @@ use lib.Seq.{take-append-seam}
 use borrow.Author.Tests.{ltb-true, leb-true}
 use Rattle.strand.specs.Vocabulary.{choose}
 use Rattle.strand.specs.Strands.{Strand, noSide}
-use Rattle.strand.specs.Refusals.{notWholeBlocks, refusal, first, row}
+use Rattle.strand.specs.Refusals.{notWholeBlocks, refusal, first, refuseIf}
 use Rattle.strand.specs.declared.Refusal.{Refusal}
 use Rattle.strand.specs.declared.Verdict.{Verdict}
 use Rattle.strand.specs.declared.Verdict.the-variants.{Accepted, Refused}
 use Rattle.strand.proofs.ListLaws.{and-true, every-at}
 use Rattle.octets.specs.Checksum.{blockSize}
-use Rattle.block.specs.Block.{blockOf}
-use Rattle.block.specs.Buffer.{cleaned}
-use Rattle.catalog.specs.Limits.{mostCatalogBlocks, mostCacheBlocks}
-use Rattle.catalog.specs.Buffers.{blockCount, areWhole, unsoundAt, held, buffersVerdict}
-use Rattle.catalog.specs.Calls.{updateUnless, addVerdict, addOutcome, removeVerdict, removeOutcome, queryUnless, queryVerdict, queryEntry, queryOutcome}
-use Rattle.catalog.specs.Answers.{Result, found, refusedBy, updateResult, queryResult, resultBy, ifAccepted}
-use Rattle.catalog.proofs.ReadingLaws.{not-whole}
+use Rattle.block.specs.Block.{blockOf, cleaned, blockCount}
+use Rattle.calls.specs.Limits.{mostCatalogBlocks, mostCacheBlocks}
+use Rattle.calls.specs.Buffers.{areWhole, unsoundAt, held, buffersVerdict}
+use Rattle.calls.specs.Calls.{updateUnless, addVerdict, addOutcome, removeVerdict, removeOutcome, queryUnless, queryVerdict, queryAccepted, queryOutcome}
+use Rattle.calls.specs.Results.{Result, found, refusedBy, updateResult, queryResult, resultBy, ifAccepted}
+use Rattle.calls.proofs.ReadingLaws.{not-whole}
 use Rattle.history.specs.Events.{Call, add, remove, query, Event, call, alter, Line, gave}
 use Rattle.history.specs.Model.{vacant, nothing, State, start, isHeld, heldIn, modelVerdict, hitList, searchList, modelAnswer, modelNext, slotBlock, modelAlter, modelLog, putAt}
 use Rattle.history.specs.History.{Buffers, zeroed, altered, bytesResult, bytesNext, bytesLog, atMostOnce, admittedFrom, NotWhole, AllRefused}
 use Rattle.history.proofs.Base.{block-zero}
-use Rattle.catalog.proofs.BlockUse as leaf
+use Rattle.calls.proofs.BlockUse as leaf
 use Rattle.history.proofs.Sane.{sane-start, range-passed}
 use Rattle.history.proofs.Follows.{slot-clean, Follows, bytesVerdict, count-cat, count-cache, verdict-agrees}
 use Rattle.history.proofs.Steps.{searched-agrees, hits-agree, after-add, after-remove, after-query, after-alter}
@@ -67,7 +66,7 @@ module _ (embeds : Strand → Strand → Bool) where
       -- an accepted call, where no block was altered twice
       module _ (few : (s : ℕ) → s < S → times s ≤ 1) where
         accepted-result : (c : Call) → modelVerdict embeds B S σ c ≡ Accepted → bytesVerdict β c ≡ Accepted → bytesResult embeds β c ≡ modelAnswer embeds B S σ c
-        unfolding bytesVerdict bytesResult modelAnswer addOutcome removeOutcome queryOutcome queryEntry updateUnless queryUnless updateResult queryResult
+        unfolding bytesVerdict bytesResult modelAnswer addOutcome removeOutcome queryOutcome queryAccepted updateUnless queryUnless updateResult queryResult
         accepted-result (add d q) e a = rw a
         accepted-result (remove d) e a = rw a
         accepted-result (query p work hits) e a =
@@ -77,7 +76,7 @@ module _ (embeds : Strand → Strand → Bool) where
 
         accepted-next : (c : Call) → modelVerdict embeds B S σ c ≡ Accepted → bytesVerdict β c ≡ Accepted
             → Follows embeds B S (bytesNext embeds β c) (modelNext embeds B S σ c) (λ s. 0)
-        unfolding bytesVerdict bytesNext addOutcome removeOutcome queryOutcome queryEntry updateUnless queryUnless
+        unfolding bytesVerdict bytesNext addOutcome removeOutcome queryOutcome queryAccepted updateUnless queryUnless
         accepted-next (add d q) e a = rw a (after-add embeds B S β σ times f few d q e)
         accepted-next (remove d) e a = rw a (after-remove embeds B S β σ times f few d e)
         accepted-next (query p work hits) e a =
@@ -149,7 +148,7 @@ module _ (embeds : Strand → Strand → Bool) where
   -- Buffers that are not whole blocks
 
   not-whole-refused : (β : Buffers) → NotWhole β → (c : Call) → bytesVerdict β c ≡ refusal notWholeBlocks noSide 0
-  unfolding bytesVerdict addVerdict removeVerdict queryVerdict buffersVerdict first row choose
+  unfolding bytesVerdict addVerdict removeVerdict queryVerdict buffersVerdict first refuseIf choose
   not-whole-refused β n (add d q) = rw (part β n)
   not-whole-refused β n (remove d) = rw (part β n)
   not-whole-refused β n (query p work hits) = rw (part β n)

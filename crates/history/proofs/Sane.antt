@@ -10,15 +10,15 @@ use lib.Dec.{leb, eqb}
 use borrow.Author.Tests.{leb-false, leb-true, ne-eqb}
 use Rattle.strand.specs.Vocabulary.{nth, choose}
 use Rattle.strand.specs.Strands.{Strand, noSide}
-use Rattle.strand.specs.Refusals.{notWholeBlocks, numberTooLarge, alreadyHeld, row}
+use Rattle.strand.specs.Refusals.{notWholeBlocks, numberTooLarge, alreadyHeld, refuseIf}
 use Rattle.strand.specs.declared.Verdict.{Verdict}
 use Rattle.strand.specs.declared.Verdict.the-variants.{Accepted, Refused}
 use Rattle.strand.proofs.ListLaws.{by-bool, and-true, not-not}
 use Rattle.strand.proofs.VerdictLaws.{first-pass, row-pass}
 use Rattle.octets.specs.Maps.{without}
-use Rattle.catalog.specs.Limits.{mostCatalogBlocks, mostCacheBlocks, moleculeVerdict, motifVerdict}
-use Rattle.catalog.specs.Buffers.{slotOf}
-use Rattle.catalog.specs.Answers.{ifAccepted}
+use Rattle.calls.specs.Limits.{mostCatalogBlocks, mostCacheBlocks, moleculeVerdict, motifVerdict}
+use Rattle.calls.specs.Buffers.{slotOf}
+use Rattle.calls.specs.Results.{ifAccepted}
 use Rattle.history.specs.Events.{Call, add, remove, query}
 use Rattle.history.specs.Model.{Holding, vacant, holds, Slot, nothing, keeps, State, start, putAt, isHeld, heldIn, dropped, inRange, modelVerdict, modelNext, modelAlter, slotBlock}
 
@@ -45,27 +45,27 @@ module _ (embeds : Strand → Strand → Bool) (B S : ℕ) (σ : State) where
   pub add-passed : (d : ℕ) (q : Strand) → modelVerdict embeds B S σ (add d q) ≡ Accepted → (d < B) × (isHeld (σ .molecules d) ≡ false) × (moleculeVerdict q ≡ Accepted)
   unfolding modelVerdict heldIn
   add-passed d q e =
-      let r = first-pass (row notWholeBlocks noSide (not (inRange B S))) _ e .1 in
-      let x = first-pass (row numberTooLarge noSide (leb B d)) _ r in
-      let y = first-pass (row alreadyHeld noSide (isHeld (σ .molecules d))) _ (x .1) in
+      let r = first-pass (refuseIf notWholeBlocks noSide (not (inRange B S))) _ e .1 in
+      let x = first-pass (refuseIf numberTooLarge noSide (leb B d)) _ r in
+      let y = first-pass (refuseIf alreadyHeld noSide (isHeld (σ .molecules d))) _ (x .1) in
       let z = first-pass (moleculeVerdict q) [] (y .1) in
       (leb-false B d (row-pass numberTooLarge noSide _ (x .0)), row-pass alreadyHeld noSide _ (y .0), z .0)
 
   pub remove-passed : (d : ℕ) → modelVerdict embeds B S σ (remove d) ≡ Accepted → d < B
   unfolding modelVerdict
   remove-passed d e =
-      let r = first-pass (row notWholeBlocks noSide (not (inRange B S))) _ e .1 in
-      leb-false B d (row-pass numberTooLarge noSide (leb B d) (first-pass (row numberTooLarge noSide (leb B d)) _ r .0))
+      let r = first-pass (refuseIf notWholeBlocks noSide (not (inRange B S))) _ e .1 in
+      leb-false B d (row-pass numberTooLarge noSide (leb B d) (first-pass (refuseIf numberTooLarge noSide (leb B d)) _ r .0))
 
   pub query-passed : (p : Strand) (work : ℕ) (hits : List ℕ) → modelVerdict embeds B S σ (query p work hits) ≡ Accepted → motifVerdict p ≡ Accepted
   unfolding modelVerdict
-  query-passed p work hits e = first-pass (motifVerdict p) _ (first-pass (row notWholeBlocks noSide (not (inRange B S))) _ e .1) .0
+  query-passed p work hits e = first-pass (motifVerdict p) _ (first-pass (refuseIf notWholeBlocks noSide (not (inRange B S))) _ e .1) .0
 
   pub range-passed : (c : Call) → modelVerdict embeds B S σ c ≡ Accepted → inRange B S ≡ true
   unfolding modelVerdict
-  range-passed (add d q) e = not-not _ (row-pass notWholeBlocks noSide (not (inRange B S)) (first-pass (row notWholeBlocks noSide (not (inRange B S))) _ e .0))
-  range-passed (remove d) e = not-not _ (row-pass notWholeBlocks noSide (not (inRange B S)) (first-pass (row notWholeBlocks noSide (not (inRange B S))) _ e .0))
-  range-passed (query p work hits) e = not-not _ (row-pass notWholeBlocks noSide (not (inRange B S)) (first-pass (row notWholeBlocks noSide (not (inRange B S))) _ e .0))
+  range-passed (add d q) e = not-not _ (row-pass notWholeBlocks noSide (not (inRange B S)) (first-pass (refuseIf notWholeBlocks noSide (not (inRange B S))) _ e .0))
+  range-passed (remove d) e = not-not _ (row-pass notWholeBlocks noSide (not (inRange B S)) (first-pass (refuseIf notWholeBlocks noSide (not (inRange B S))) _ e .0))
+  range-passed (query p work hits) e = not-not _ (row-pass notWholeBlocks noSide (not (inRange B S)) (first-pass (refuseIf notWholeBlocks noSide (not (inRange B S))) _ e .0))
 
 module _ (B S : ℕ) (range : inRange B S ≡ true) where
   four : ((leb 1 B && leb B mostCatalogBlocks) ≡ true) × ((leb 1 S && leb S mostCacheBlocks) ≡ true)

@@ -17,18 +17,18 @@ use Rattle.strand.proofs.ListLaws.{by-bool, and-true}
 use Rattle.strand.proofs.VerdictLaws.{same-strand-eq}
 use Rattle.octets.specs.Maps.{without}
 use Rattle.octets.specs.Checksum.{blockSize}
-use Rattle.block.specs.Block.{blockOf, soundEntry}
-use Rattle.block.specs.Buffer.{cleaned, forgot, eachBlock, putBlock}
+use Rattle.block.specs.Block.{blockOf, soundEntry, cleaned, forgot}
+use Rattle.buffer.specs.Buffer.{eachBlock, putBlock}
 use Rattle.block.specs.Content.{emptyBlock, isEmpty, moleculeIn, encodeMolecule, encodeEntry, keepsMotif, hitIn}
-use Rattle.catalog.specs.Limits.{mostCatalogBlocks, motifVerdict}
-use Rattle.catalog.specs.Buffers.{unsoundAt, held, moleculeAt, slotOf, cleanCache}
-use Rattle.catalog.specs.Calls.{isKnown, toSearch, isHit}
-use Rattle.catalog.proofs.ReadingLaws as read
+use Rattle.calls.specs.Limits.{mostCatalogBlocks, motifVerdict}
+use Rattle.calls.specs.Buffers.{unsoundAt, held, moleculeAt, slotOf, cleanCache}
+use Rattle.calls.specs.Calls.{isKnown, toSearch, isHit}
+use Rattle.calls.proofs.ReadingLaws as read
 use Rattle.history.specs.Events.{add, remove, query}
 use Rattle.history.specs.Model.{Holding, vacant, holds, Slot, nothing, keeps, State, putAt, isHeld, heldIn, knownIn, dropped, inRange, modelVerdict, embedsAt, hitList, searchList, modelNext, slotBlock, modelAlter}
 use Rattle.history.specs.History.{Buffers, altered}
 use Rattle.history.proofs.Base.{select-ext, put-same, put-other, block-set-same, block-set-other}
-use Rattle.catalog.proofs.BlockUse as leaf
+use Rattle.calls.proofs.BlockUse as leaf
 use Rattle.history.proofs.Sane.{SlotOk, Sane, add-passed, remove-passed, query-passed, range-passed, B≤, S≥1, molecules-same, sane-next, sane-alter}
 use Rattle.history.proofs.Follows.{slot-length, slot-sound, slot-clean, Follows, held-all}
 

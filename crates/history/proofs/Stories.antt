@@ -9,11 +9,11 @@ use borrow.Author.Tests.{eqb-true}
 use Rattle.strand.specs.Vocabulary.{sameList}
 use Rattle.strand.proofs.ListLaws.{and-true, same-eq}
 use Rattle.octets.specs.Checksum.{blockSize}
-use Rattle.catalog.specs.Motifs.{embeds}
-use Rattle.catalog.specs.Answers.{Result, refused, done, found}
+use Rattle.calls.specs.Motifs.{embeds}
+use Rattle.calls.specs.Results.{Result, refused, done, found}
 use Rattle.history.specs.Events.{Call, Event, call, alter, Line, gave}
 use Rattle.history.specs.History.{Buffers, zeroed, altered, bytesResult, bytesNext, bytesLog, admitted, HistoryTheorem}
-use Rattle.history.specs.Examples.{Story, resultsOf, sameResult, sameResults, storyOk, stories, storiesOk, Told, AllTold, alteredOnce, alteredTwice, AlterationsLimited}
+use Rattle.history.specs.Examples.{Story, resultsOf, sameResult, sameResults, storyOk, stories, storiesOk, OnBytes, AllOnBytes, alteredOnce, alteredTwice, AlterationsLimited}
 use Rattle.history.proofs.Theorem.{demand-3}
 use Rattle.history.proofs.Computed.{settled, computed}
 
@@ -53,20 +53,20 @@ same-results (q ∷ qs) (r ∷ rs) e =
     ap₂ (λ (z : Result) (zs : List Result). z ∷ zs) (same-result q r (a .0)) (same-results qs rs (a .1))
 
 -- What the model comes to in a story, the bytes come to: by the history theorem.
-pub told : (t : Story) → storyOk t ≡ true → Told t
+pub on-bytes : (t : Story) → storyOk t ≡ true → OnBytes t
 unfolding storyOk HistoryTheorem
-told t ok =
+on-bytes t ok =
     let a = and-true (admitted embeds (t .blocks) (t .slots) (t .events)) _ ok in
     ap resultsOf (demand-3 (t .blocks) (t .slots) (t .events) (a .0) .same) ∙ same-results _ (t .results) (a .1)
 
-all-told : (ts : List Story) → storiesOk ts ≡ true → AllTold ts
-unfolding storiesOk AllTold
-all-told [] e = tt
-all-told (t ∷ ts) e = let a = and-true (storyOk t) (storiesOk ts) e in (told t (a .0), all-told ts (a .1))
+all-on-bytes : (ts : List Story) → storiesOk ts ≡ true → AllOnBytes ts
+unfolding storiesOk AllOnBytes
+all-on-bytes [] e = tt
+all-on-bytes (t ∷ ts) e = let a = and-true (storyOk t) (storiesOk ts) e in (on-bytes t (a .0), all-on-bytes ts (a .1))
 
 -- The stories hold on the bytes.
-pub settled-bytes : AllTold stories
-settled-bytes = all-told stories settled
+pub settled-bytes : AllOnBytes stories
+settled-bytes = all-on-bytes stories settled
 
 -- Two alterations of one byte are the later one.
 two-alterations : (s i v w : ℕ) (es : List Event) (β : Buffers) → bytesLog embeds β (alter s i v ∷ alter s i w ∷ es) ≡ bytesLog embeds β (alter s i w ∷ es)
@@ -85,6 +85,6 @@ limited =
       one = computed .0;
       two = computed .1;
       refusal-between = computed .2;
-      bytes-know = ap resultsOf (after-call _ _ _ (after-call _ _ _ (two-alterations 0 444 0 1 _)) (zeroed 1 1)) ∙ told alteredOnce (computed .0);
+      bytes-know = ap resultsOf (after-call _ _ _ (after-call _ _ _ (two-alterations 0 444 0 1 _)) (zeroed 1 1)) ∙ on-bytes alteredOnce (computed .0);
       model-searches = computed .3;
     }

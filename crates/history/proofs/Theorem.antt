@@ -8,8 +8,8 @@ use Rattle.strand.specs.Strands.{Strand, motifSide, lettersMatch}
 use Rattle.strand.specs.Refusals.{leastLength}
 use Rattle.strand.proofs.VerdictLaws.{accepted-proper}
 use Rattle.embedding.proofs.Claims as embedding
-use Rattle.catalog.specs.Limits.{mostMotifBases, motifVerdict}
-use Rattle.catalog.specs.Motifs.{embeds, EmbedsIn}
+use Rattle.calls.specs.Limits.{mostMotifBases, motifVerdict}
+use Rattle.calls.specs.Motifs.{embeds, EmbedsIn}
 use Rattle.history.specs.Events.{Event}
 use Rattle.history.specs.Model.{start}
 use Rattle.history.specs.History.{Buffers, zeroed, bytesLog, admitted, Decides, HistoryTheorem, NotWhole, AllRefused}

@@ -2,7 +2,7 @@
 use Prim.Native.Nat.{ℕ}
 use mathlib.Core.List.{List}
 use Rattle.strand.specs.Strands.{Strand}
-use Rattle.catalog.specs.Answers.{Result}
+use Rattle.calls.specs.Results.{Result}
 
 -- A call with its arguments.
 pub data Call : Type 0 where
@@ -10,7 +10,7 @@ pub data Call : Type 0 where
   add : ℕ → Strand → Call
   -- number
   remove : ℕ → Call
-  -- motif, length of the work slice, the slice for the hits
+  -- motif, length of the work slice (a query's answer reads nothing else of it), the slice for the hits
   query : Strand → ℕ → List ℕ → Call
 
 -- An entry of the list.

@@ -8,8 +8,8 @@ use lib.Dec.{eqb}
 use Rattle.strand.specs.Vocabulary.{sameList}
 use Rattle.strand.specs.Strands.{Strand, strandOf, motifSide, noSide}
 use Rattle.strand.specs.Refusals.{noBases, numberTooLarge, alreadyHeld, notHeld}
-use Rattle.catalog.specs.Motifs.{embeds}
-use Rattle.catalog.specs.Answers.{Result, refused, done, found}
+use Rattle.calls.specs.Motifs.{embeds}
+use Rattle.calls.specs.Results.{Result, refused, done, found}
 use Rattle.history.specs.Events.{Call, add, remove, query, Event, call, alter, Line}
 use Rattle.history.specs.Model.{start, modelLog}
 use Rattle.history.specs.History.{admitted, zeroed, bytesLog}
@@ -144,13 +144,13 @@ unfoldable pub stories : List Story
 stories = settledStory ∷ reusedStory ∷ alteredStory ∷ []
 
 -- On the bytes, by the definitions of the calls, the story's calls come to its results.
-abbrev pub Told : Story → Type 0
-Told t = resultsOf (bytesLog embeds (zeroed (t .blocks) (t .slots)) (t .events)) ≡ t .results
+abbrev pub OnBytes : Story → Type 0
+OnBytes t = resultsOf (bytesLog embeds (zeroed (t .blocks) (t .slots)) (t .events)) ≡ t .results
 
 -- Every story: on the bytes, and by the model.
-unfoldable pub AllTold : List Story → Type 0
-AllTold [] = Unit
-AllTold (t ∷ ts) = Told t × AllTold ts
+unfoldable pub AllOnBytes : List Story → Type 0
+AllOnBytes [] = Unit
+AllOnBytes (t ∷ ts) = OnBytes t × AllOnBytes ts
 
 unfoldable pub storiesOk : List Story → Bool
 storiesOk [] = true

@@ -11,9 +11,9 @@ use Rattle.strand.specs.Strands.{Strand, noSide}
 use Rattle.strand.specs.Refusals.{notWholeBlocks}
 use Rattle.strand.specs.declared.Verdict.the-variants.{Accepted}
 use Rattle.octets.specs.Checksum.{blockSize}
-use Rattle.catalog.specs.Limits.{moleculeVerdict, motifVerdict}
-use Rattle.catalog.specs.Calls.{addOutcome, removeOutcome, queryOutcome}
-use Rattle.catalog.specs.Answers.{Result, refused, done, found, updateResult, queryResult, ifAccepted}
+use Rattle.calls.specs.Limits.{moleculeVerdict, motifVerdict}
+use Rattle.calls.specs.Calls.{addOutcome, removeOutcome, queryOutcome}
+use Rattle.calls.specs.Results.{Result, refused, done, found, updateResult, queryResult, ifAccepted}
 use Rattle.history.specs.Events.{Call, add, remove, query, Event, call, alter, Line, gave}
 use Rattle.history.specs.Model.{Holding, vacant, holds, State, start, putAt, modelVerdict, modelNext, modelAlter, modelLog}
 

@@ -3,3 +3,4 @@ pub mod Model
 pub mod History
 pub mod Runs
 pub mod Examples
+pub mod Statements

@@ -6,13 +6,13 @@ use lib.Dec.{ltb, leb, eqb}
 use lib.ListN.{length}
 use Rattle.strand.specs.Vocabulary.{nth, choose, select}
 use Rattle.strand.specs.Strands.{Strand, sameStrand, noSide}
-use Rattle.strand.specs.Refusals.{wrongSlice, notWholeBlocks, numberTooLarge, alreadyHeld, notHeld, first, row}
+use Rattle.strand.specs.Refusals.{wrongSlice, notWholeBlocks, numberTooLarge, alreadyHeld, notHeld, first, refuseIf}
 use Rattle.strand.specs.declared.Verdict.{Verdict}
 use Rattle.octets.specs.Maps.{without}
 use Rattle.block.specs.Content.{emptyBlock, encodeEntry}
-use Rattle.catalog.specs.Limits.{mostCatalogBlocks, mostCacheBlocks, moleculeVerdict, motifVerdict, workVerdict}
-use Rattle.catalog.specs.Buffers.{slotOf}
-use Rattle.catalog.specs.Answers.{Result, done, found, ifAccepted, resultBy}
+use Rattle.calls.specs.Limits.{mostCatalogBlocks, mostCacheBlocks, moleculeVerdict, motifVerdict, workVerdict}
+use Rattle.calls.specs.Buffers.{slotOf}
+use Rattle.calls.specs.Results.{Result, done, found, ifAccepted, resultBy}
 use Rattle.history.specs.Events.{Call, add, remove, query, Event, call, alter, Line, gave}
 
 -- "State: the molecules by number, and for each slot nothing or a motif with a set of numbers."
@@ -62,15 +62,15 @@ inRange B S = (leb 1 B && leb B mostCatalogBlocks) && (leb 1 S && leb S mostCach
 module _ (embeds : Strand → Strand → Bool) (B S : ℕ) where
   -- "It refuses by the table below, reading the call's inputs, B, S and the molecules held." Row 11 speaks of blocks, and it has none.
   abbrev pub rangeRow : Verdict
-  rangeRow = row notWholeBlocks noSide (not (inRange B S))
+  rangeRow = refuseIf notWholeBlocks noSide (not (inRange B S))
 
   unfoldable pub modelVerdict : State → Call → Verdict
   modelVerdict σ (add d q) =
-      first (rangeRow ∷ row numberTooLarge noSide (leb B d) ∷ row alreadyHeld noSide (heldIn σ d) ∷ moleculeVerdict q ∷ [])
+      first (rangeRow ∷ refuseIf numberTooLarge noSide (leb B d) ∷ refuseIf alreadyHeld noSide (heldIn σ d) ∷ moleculeVerdict q ∷ [])
   modelVerdict σ (remove d) =
-      first (rangeRow ∷ row numberTooLarge noSide (leb B d) ∷ row notHeld noSide (not (heldIn σ d)) ∷ [])
+      first (rangeRow ∷ refuseIf numberTooLarge noSide (leb B d) ∷ refuseIf notHeld noSide (not (heldIn σ d)) ∷ [])
   modelVerdict σ (query p work hits) =
-      first (rangeRow ∷ motifVerdict p ∷ row wrongSlice noSide (ltb (length hits) B) ∷ workVerdict p work ∷ [])
+      first (rangeRow ∷ motifVerdict p ∷ refuseIf wrongSlice noSide (ltb (length hits) B) ∷ workVerdict p work ∷ [])
 
   -- The motif embeds in what stands under a number.
   unfoldable pub embedsAt : Strand → Holding → Bool

@@ -4,10 +4,10 @@ use mathlib.Core.Path.{_≡_}
 use mathlib.Core.List.{List, [], _∷_}
 use mathlib.Core.Bool.{Bool, true}
 use Rattle.strand.specs.Strands.{Strand}
-use Rattle.catalog.specs.declared.Updated.{Updated}
-use Rattle.catalog.specs.declared.Queried.{Queried}
-use Rattle.catalog.specs.Calls.{updated, addOutcome, removeOutcome, queried, queryOutcome}
-use Rattle.catalog.specs.Answers.{updateResult, queryResult}
+use Rattle.calls.specs.declared.Updated.{Updated}
+use Rattle.calls.specs.declared.Queried.{Queried}
+use Rattle.calls.specs.Calls.{updated, addOutcome, removeOutcome, queried, queryOutcome}
+use Rattle.calls.specs.Results.{updateResult, queryResult}
 use Rattle.history.specs.Events.{add, remove, query, Event, call, alter, Line, gave}
 use Rattle.history.specs.History.{Buffers, zeroed, altered, admitted, RightLog}
 

@@ -13,18 +13,19 @@ use Rattle.strand.specs.Strands.{Proper, moleculeSide}
 use Rattle.strand.specs.Refusals.{refusal, first, pairVerdict}
 use Rattle.strand.proofs.VerdictLaws.{row-yes, row-no, row-pass, first-pass, pair-proper}
 use Rattle.matcher.specs.declared.Matched.the-variants.{Prefix, Refused}
-use Rattle.rows.specs.Rows.{Setting, workSize}
+use Rattle.rows.specs.Rows.{workSize}
+use Rattle.arcs.specs.Arcs.{Setting}
 use Rattle.trace.specs.Trace.{Laid}
-use Rattle.matcher.specs.Answers.{Shown, Searchable, workRow, placesRow, answerOf, lengthVerdict, showVerdict}
+use Rattle.matcher.specs.Answers.{Shown, Searchable, workRow, placesRow, matchUnless, lengthVerdict, showVerdict}
 
 -- The answer by a verdict v.
 module _ (v : Verdict) (L : ℕ) where
-  pub answer-refused : (x : Refusal) → v ≡ verdict.Refused x → Refused x ≡ answerOf v L
-  unfolding answerOf
+  pub answer-refused : (x : Refusal) → v ≡ verdict.Refused x → Refused x ≡ matchUnless v L
+  unfolding matchUnless
   answer-refused x e = rw e
 
-  pub answer-prefix : (k : ℕ) → v ≡ verdict.Accepted → k ≡ L → Prefix k ≡ answerOf v L
-  unfolding answerOf
+  pub answer-prefix : (k : ℕ) → v ≡ verdict.Accepted → k ≡ L → Prefix k ≡ matchUnless v L
+  unfolding matchUnless
   answer-prefix k e h = rw (e, h)
 
 -- Accepted strands can be searched.

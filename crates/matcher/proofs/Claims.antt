@@ -11,12 +11,12 @@ use Rattle.embedding.specs.Longest.{longest}
 use Rattle.embedding.specs.Statements.{IsLongest}
 use Rattle.embedding.proofs.Claims as embedding
 use Rattle.matcher.specs.declared.Matched.the-variants.{Prefix}
-use Rattle.matcher.specs.Answers.{answerOf, lengthVerdict, lengthAnswer, LengthSays, showVerdict, showAnswer, ShowSays, Claims}
+use Rattle.matcher.specs.Answers.{matchUnless, lengthVerdict, lengthAnswer, LengthSays, showVerdict, showAnswer, ShowSays, Claims}
 use Rattle.matcher.proofs.CallLaws.{answer-prefix, pair-searchable, length-rows, length-accepts, show-rows, show-accepts}
 
 -- An answer that is a prefix was accepted, and is the length.
-prefix-of : (v : Verdict) (K L : ℕ) → answerOf v K ≡ Prefix L → (v ≡ verdict.Accepted) × (K ≡ L)
-unfolding answerOf
+prefix-of : (v : Verdict) (K L : ℕ) → matchUnless v K ≡ Prefix L → (v ≡ verdict.Accepted) × (K ≡ L)
+unfolding matchUnless
 prefix-of (verdict.Refused x) K L e = absurd (let y : _≡_ {A = ℕ} 0 1 = cc in omega arith)
 prefix-of verdict.Accepted K L e = (refl, cc)
 
@@ -25,7 +25,7 @@ module _ (p pm q qm : List ℕ) (L : ℕ) (e : pairVerdict p pm q qm ≡ verdict
   is-longest : longest lettersMatch p pm q qm ≡ L → IsLongest lettersMatch p pm q qm L
   is-longest h = rw h at (embedding.claims .longest-is lettersMatch p pm q qm (pair-searchable p pm q qm e .motif .inside))
 
-  answers-longest : IsLongest lettersMatch p pm q qm L → (v : Verdict) → verdict.Accepted ≡ v → answerOf v (longest lettersMatch p pm q qm) ≡ Prefix L
+  answers-longest : IsLongest lettersMatch p pm q qm L → (v : Verdict) → verdict.Accepted ≡ v → matchUnless v (longest lettersMatch p pm q qm) ≡ Prefix L
   answers-longest I v h =
       sym
       (answer-prefix v (longest lettersMatch p pm q qm) L (sym h)

@@ -9,32 +9,33 @@ use Rattle.strand.specs.declared.Verdict.{Verdict}
 use Rattle.strand.specs.declared.Verdict.the-variants as verdict
 use Rattle.strand.specs.Vocabulary.{nth}
 use Rattle.strand.specs.Strands.{lettersMatch, noSide}
-use Rattle.strand.specs.Refusals.{workTooShort, wrongSlice, row, first, pairVerdict}
-use Rattle.embedding.specs.Embedding.{letters, Emb}
+use Rattle.strand.specs.Refusals.{workTooShort, wrongSlice, refuseIf, first, pairVerdict}
+use Rattle.embedding.specs.Embedding.{lettersFit, Emb}
 use Rattle.embedding.specs.Longest.{longest}
 use Rattle.embedding.specs.Statements.{IsLongest}
-use Rattle.rows.specs.Rows.{Setting, workSize}
+use Rattle.rows.specs.Rows.{workSize}
+use Rattle.arcs.specs.Arcs.{Setting}
 use Rattle.matcher.specs.declared.Matched.{Matched}
 use Rattle.matcher.specs.declared.Matched.the-variants.{Prefix, Refused}
 
 -- Row 8: work too short. Row 9: show's slice below m.
 abbrev pub workRow : ℕ → ℕ → ℕ → Verdict
-workRow m n work = row workTooShort noSide (ltb work (workSize m n))
+workRow m n work = refuseIf workTooShort noSide (ltb work (workSize m n))
 
 abbrev pub placesRow : ℕ → ℕ → Verdict
-placesRow m places = row wrongSlice noSide (ltb places m)
+placesRow m places = refuseIf wrongSlice noSide (ltb places m)
 
 -- The length of the prefix, unless the inputs are refused.
-unfoldable pub answerOf : Verdict → ℕ → Matched
-answerOf (verdict.Refused x) L = Refused x
-answerOf verdict.Accepted L = Prefix L
+unfoldable pub matchUnless : Verdict → ℕ → Matched
+matchUnless (verdict.Refused x) L = Refused x
+matchUnless verdict.Accepted L = Prefix L
 
 -- The call length, with a work slice of so many entries: motif, molecule, then 8; else L.
 unfoldable pub lengthVerdict : List ℕ → List ℕ → List ℕ → List ℕ → ℕ → Verdict
 lengthVerdict p pm q qm work = first (pairVerdict p pm q qm ∷ workRow (length p) (length q) work ∷ [])
 
 unfoldable pub lengthAnswer : List ℕ → List ℕ → List ℕ → List ℕ → ℕ → Matched
-lengthAnswer p pm q qm work = answerOf (lengthVerdict p pm q qm work) (longest lettersMatch p pm q qm)
+lengthAnswer p pm q qm work = matchUnless (lengthVerdict p pm q qm work) (longest lettersMatch p pm q qm)
 
 -- 01, Length: an accepted call answers L exactly when the closed prefix of L bases embeds and no longer one does.
 abbrev pub LengthSays : List ℕ → List ℕ → List ℕ → List ℕ → ℕ → ℕ → Type 0
@@ -48,7 +49,7 @@ showVerdict p pm q qm places work =
     first (pairVerdict p pm q qm ∷ placesRow (length p) places ∷ workRow (length p) (length q) work ∷ [])
 
 unfoldable pub showAnswer : List ℕ → List ℕ → List ℕ → List ℕ → ℕ → ℕ → Matched
-showAnswer p pm q qm places work = answerOf (showVerdict p pm q qm places work) (longest lettersMatch p pm q qm)
+showAnswer p pm q qm places work = matchUnless (showVerdict p pm q qm places work) (longest lettersMatch p pm q qm)
 
 -- 01, Show: an accepted call answers L exactly when the closed prefix of L bases embeds and no longer one does.
 abbrev pub ShowSays : List ℕ → List ℕ → List ℕ → List ℕ → ℕ → ℕ → ℕ → Type 0
@@ -60,7 +61,7 @@ ShowSays p pm q qm places work L =
 -- 01, Show: the first L places are an embedding of the prefix of L bases, and later entries keep their values.
 pub record Shown (p pm q qm : List ℕ) (L : ℕ) (old new : List ℕ) : Type 0 where
   pub long : length new ≡ length old
-  pub embeds : Emb (letters p q) (nth pm) (nth qm) 0 L 0 (length q) (nth new)
+  pub embeds : Emb (lettersFit p q) (nth pm) (nth qm) 0 L 0 (length q) (nth new)
   pub kept : (k : ℕ) → L ≤ k → nth new k ≡ nth old k
 
 -- What `walk::prefix_length` asks of the two strands. Accepted strands meet it, and so do the strands of a query.

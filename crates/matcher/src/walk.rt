@@ -1,16 +1,16 @@
 // The walk over the top of the molecule, from left to right: how far the motif is taken.
 use rows::row;
 use rows::tables;
-use rows::tree;
 ghost use mathlib.Core.Path.{_≡_};
 ghost use Prim.Native.Nat.{_+_, _*_, _≤_, _<_};
 ghost use lib.ListN.{length};
 ghost use Rattle.strand.specs.Vocabulary.{nth};
 ghost use Rattle.strand.specs.Strands.{lettersMatch};
 ghost use Rattle.embedding.specs.Row.{Best};
-ghost use Rattle.embedding.specs.Embedding.{letters};
+ghost use Rattle.embedding.specs.Embedding.{lettersFit};
 ghost use Rattle.embedding.specs.Longest.{longest};
-ghost use Rattle.rows.specs.Rows.{Setting, Tables, workSize};
+ghost use Rattle.rows.specs.Rows.{Tables, workSize};
+ghost use Rattle.arcs.specs.Arcs.{Setting};
 ghost use Rattle.matcher.specs.Answers.{Searchable};
 
 // How far the arc l, r takes the motif from cur on. An arc takes no more positions than it has bases: its row is made for that window alone.
@@ -30,10 +30,10 @@ fn arc_end(
     requires { ⌜ (l < r) × ((r < length (now q)) × (nth (now qm) l ≡ r)) ⌝ }
     requires { ⌜ workSize (length (now p)) (length (now q)) ≤ length (now work) ⌝ }
     requires { ⌜ Tables (now p) (now pm) (now tables) ⌝ }
-    ensures { λ k. ⌜ Best (letters (now (p .entry)) (now (q .entry))) (nth (now (pm .entry))) (nth (now (qm .entry))) (length (now (p .entry))) cur k l (r + 1) ⌝ }
+    ensures { λ k. ⌜ Best (lettersFit (now (p .entry)) (now (q .entry))) (nth (now (pm .entry))) (nth (now (qm .entry))) (length (now (p .entry))) cur k l (r + 1) ⌝ }
 {
-    let to = tree::smaller(p.len(), cur + (r + 1 - l));
-    tree::inner_row(p, pm, cur, to, q, qm, l, r, q.len(), work, tables);
+    let to = arcs::smaller(p.len(), cur + (r + 1 - l));
+    arcs::inner_row(p, pm, cur, to, q, qm, l, r, q.len(), work, tables);
     row::arc_entry(p, pm, to, cur, q[l], q[r], work[cur], work[cur + 1]) as usize
 }
 
@@ -51,7 +51,7 @@ fn whole_end(p: &[u8], pm: &[u16], q: &[u8], qm: &[u16], work: &mut [u16], table
         if m <= cur {
             return cur;
         }
-        let r = tree::mate(qm, i);
+        let r = arcs::mate(qm, i);
         if i < r {
             cur = arc_end(p, pm, q, qm, cur, i, r, work, tables);
         } else {
@@ -87,6 +87,7 @@ fn short_end(p: &[u8], pm: &[u16], q: &[u8], qm: &[u16], work: &mut [u16]) -> us
     requires { ⌜ length (now p) ≤ 120 ⌝ }
     ensures { λ k. ⌜ k ≡ longest lettersMatch (now (p .entry)) (now (pm .entry)) (now (q .entry)) (now (qm .entry)) ⌝ }
 {
+    // five rows of 121 entries
     let mut tables = [0u16; 605];
     prepared_end(p, pm, q, qm, work, &mut tables)
 }
@@ -101,6 +102,7 @@ pub fn prefix_length(p: &[u8], pm: &[u16], q: &[u8], qm: &[u16], work: &mut [u16
     if p.len() <= 120 {
         return short_end(p, pm, q, qm, work);
     }
+    // five rows of 4,097 entries
     let mut tables = [0u16; 20485];
     prepared_end(p, pm, q, qm, work, &mut tables)
 }

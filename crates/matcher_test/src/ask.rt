@@ -1,9 +1,12 @@
 // One call: length or show on the strands and with the slices of a line, its answer against the wanted one, and every lent slice.
 use super::brute;
 use super::strands;
-use super::text;
 use embedding::Verified;
 use matcher::Matched;
+use testing::input::digit_at;
+use testing::input::kind;
+use testing::input::number;
+use testing::refusal::code;
 
 // The number that a call answered, how many bases its motif has, and whether all is as it should be.
 pub struct Asked {
@@ -12,11 +15,7 @@ pub struct Asked {
     pub right: bool,
 }
 
-// The number of an answer: its length, or row, side and place of its refusal.
-fn code(row: usize, side: usize, place: usize) -> usize {
-    row % 100 * 10000000 + side % 10 * 1000000 + place % 1000000
-}
-
+// The number of an answer: its length, or that of its refusal.
 fn code_of(a: Matched) -> usize {
     match a {
         Matched::Prefix(n) => n,
@@ -65,7 +64,7 @@ fn kept(line: &[u8], call: usize, got: usize, places: &[u16], work: &[u16]) -> b
         }
         return false;
     }
-    if !untouched(work, text::number(line, 59)) {
+    if !untouched(work, number(line, 59, 6)) {
         return false;
     }
     if call == 0 {
@@ -81,14 +80,10 @@ fn searched(p: &[u8], pm: &[u16], q: &[u8], qm: &[u16]) -> usize {
 
 // The answer that the line wants, in rounds `r` by brute force.
 fn wanted(line: &[u8], p: &[u8], pm: &[u16], q: &[u8], qm: &[u16]) -> usize {
-    if text::byte_at(line, 0) == b'r' {
+    if kind(line) == b'r' {
         return searched(p, pm, q, qm);
     }
-    code(
-        text::digit_at(line, 66),
-        text::digit_at(line, 68),
-        text::number(line, 70),
-    )
+    code(digit_at(line, 66), digit_at(line, 68), number(line, 70, 6))
 }
 
 fn right(
@@ -128,8 +123,8 @@ fn answer(
     places: &mut [u16],
     work: &mut [u16],
 ) -> usize {
-    let e = text::number(line, 52);
-    let f = text::number(line, 59);
+    let e = number(line, 52, 6);
+    let f = number(line, 59, 6);
     if places.len() < e {
         return 999999999;
     }

@@ -1,24 +1,13 @@
 // The longest closed prefix that embeds, by trying every list of rising places.
-use super::strands;
-use super::text;
-
-fn wide(x: u16) -> usize {
-    x as usize
-}
-
-// The entry at i, and past the end a number that is no position.
-fn get(s: &[u16], i: usize) -> usize {
-    if i < s.len() {
-        return wide(s[i]);
-    }
-    70000
-}
+use testing::slices::byte_at;
+use testing::slices::entry_at;
+use testing::slices::set_entry;
 
 // No arc leaves the first k positions.
 fn closed(pm: &[u16], k: usize) -> bool {
     let mut y = 0;
     while y < k {
-        if k <= get(pm, y) {
+        if k <= entry_at(pm, y) {
             return false;
         }
         y += 1;
@@ -31,7 +20,7 @@ fn closed(pm: &[u16], k: usize) -> bool {
 fn arcs_fit(a: usize, b: usize, at: &[u16], i: usize) -> bool {
     let mut x = 0;
     while x < i {
-        if (a == x) != (b == get(at, x)) {
+        if (a == x) != (b == entry_at(at, x)) {
             return false;
         }
         x += 1;
@@ -41,10 +30,10 @@ fn arcs_fit(a: usize, b: usize, at: &[u16], i: usize) -> bool {
 
 // Position i may go to v after the places of those before it: the same base, and arcs that fit.
 fn fits(p: &[u8], pm: &[u16], q: &[u8], qm: &[u16], at: &[u16], i: usize, v: usize) -> bool {
-    if text::byte_at(p, i) != text::byte_at(q, v) {
+    if byte_at(p, i) != byte_at(q, v) {
         return false;
     }
-    arcs_fit(get(pm, i), get(qm, v), at, i)
+    arcs_fit(entry_at(pm, i), entry_at(qm, v), at, i)
 }
 
 fn greater(a: usize, b: usize) -> usize {
@@ -79,6 +68,6 @@ pub fn longest(
     if !fits(p, pm, q, qm, at, i, v) {
         return behind;
     }
-    strands::put(at, i, v);
+    set_entry(at, i, v);
     greater(behind, longest(p, pm, q, qm, at, i + 1, v + 1))
 }

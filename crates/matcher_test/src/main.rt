@@ -13,28 +13,31 @@ mod ask;
 mod brute;
 mod strands;
 mod tally;
-mod text;
 
 use tally::Tally;
+use testing::input::kind;
+use testing::input::number;
+use testing::output::say;
+use testing::slices::part;
 
 fn asked(t: Tally, line: &[u8], i: usize, call: usize) -> Tally {
     tally::judged(t, line, ask::ask(line, i, call))
 }
 
 fn both(t: Tally, line: &[u8], i: usize) -> Tally {
-    let kind = text::byte_at(line, 0);
-    if kind == b'l' {
+    let letter = kind(line);
+    if letter == b'l' {
         return asked(t, line, i, 0);
     }
-    if kind == b's' {
+    if letter == b's' {
         return asked(t, line, i, 1);
     }
     asked(asked(t, line, i, 0), line, i, 1)
 }
 
 fn rounds(line: &[u8]) -> usize {
-    if text::byte_at(line, 0) == b'r' {
-        return text::number(line, 70);
+    if kind(line) == b'r' {
+        return number(line, 70, 6);
     }
     1
 }
@@ -51,16 +54,13 @@ fn case(t: Tally, line: &[u8]) -> Tally {
 }
 
 fn group(t: Tally, line: &[u8]) -> Tally {
-    if line.len() < 48 {
-        return t;
-    }
-    tally::say(&line[2..48]);
+    say(part(line, 2, 46));
     tally::report(t);
     tally::none()
 }
 
 fn step(t: Tally, line: &[u8]) -> Tally {
-    if text::byte_at(line, 0) == b'=' {
+    if kind(line) == b'=' {
         return group(t, line);
     }
     case(t, line)
@@ -70,9 +70,7 @@ fn cases(text: &[u8]) {
     let mut t = tally::none();
     let mut i = 0;
     while i < text.len() / 112 {
-        let from = i * 112;
-        let end = from + 111;
-        t = step(t, &text[from..end]);
+        t = step(t, part(text, i % 65536 * 112, 111));
         i += 1;
     }
 }

@@ -1,6 +1,15 @@
 // The strand of a field: ten columns of bases, a blank and ten of mates (a letter there means 65535), or a rule: a shape, how many bases,
 // how many mates, a seed, how many letters (of ACGUX).
-use super::text;
+use testing::input::digit_at;
+use testing::input::filled;
+use testing::input::number;
+use testing::random::letter;
+use testing::slices::bond;
+use testing::slices::byte_at;
+use testing::slices::first;
+use testing::slices::part;
+use testing::slices::set_byte;
+use testing::slices::set_entry;
 ghost use Prim.Native.Nat.{_<_};
 
 // A number below 2 ^ 32 for a seed and a position: two products with a shift after each.
@@ -10,30 +19,11 @@ fn random(seed: usize, i: usize) -> usize {
     (y ^ (y / 8192)) % 4294967296
 }
 
-fn base(seed: usize, letters: usize, i: usize) -> u8 {
+fn base(seed: usize, letters: usize, i: usize) -> usize {
     if letters == 0 {
-        return b'A';
+        return 65;
     }
-    match random(seed, i) % letters {
-        0 => b'A',
-        1 => b'C',
-        2 => b'G',
-        3 => b'U',
-        _ => b'X',
-    }
-}
-
-// Stores that leave a slice alone where the index lies outside.
-fn put_base(bases: &mut [u8], i: usize, b: u8) {
-    if i < bases.len() {
-        bases[i] = b;
-    }
-}
-
-pub fn put(s: &mut [u16], i: usize, x: usize) {
-    if i < s.len() {
-        s[i] = (x % 65536) as u16;
-    }
+    letter(random(seed, i) % letters)
 }
 
 // How far the arc that begins a stretch goes, 0 for no arc. Shapes: no arcs (0), stem (1), comb (2), balanced (3), random fold (4), random
@@ -82,8 +72,7 @@ fn fold(shape: usize, seed: usize, from: usize, to: usize, mates: &mut [u16]) {
         return;
     }
     let e = from + d;
-    put(mates, from, e);
-    put(mates, e, from);
+    bond(mates, from, e);
     fold(shape, seed, from + 1, e, mates);
     fold(shape, seed, e + 1, to, mates);
 }
@@ -91,7 +80,7 @@ fn fold(shape: usize, seed: usize, from: usize, to: usize, mates: &mut [u16]) {
 fn spell(seed: usize, letters: usize, n: usize, bases: &mut [u8]) {
     let mut i = 0;
     while i < n {
-        put_base(bases, i, base(seed, letters, i));
+        set_byte(bases, i, base(seed, letters, i));
         i += 1;
     }
 }
@@ -101,14 +90,14 @@ fn copy(line: &[u8], at: usize, bases: &mut [u8], mates: &mut [u16])
 {
     let mut k = 0;
     while k < 10 {
-        put_base(bases, k, text::byte_at(line, at + k));
-        put(mates, k, text::digit_at(line, at + 11 + k));
+        set_byte(bases, k, byte_at(line, at + k));
+        set_entry(mates, k, digit_at(line, at + 11 + k));
         k += 1;
     }
 }
 
 fn is_rule(line: &[u8], at: usize) -> bool {
-    let b = text::byte_at(line, at);
+    let b = byte_at(line, at);
     if b < 48 {
         return false;
     }
@@ -120,41 +109,31 @@ fn bases_in(line: &[u8], at: usize) -> usize
     requires { ⌜ at < 64 ⌝ }
 {
     if is_rule(line, at) {
-        return text::number(line, at + 2);
+        return number(line, at + 2, 6);
     }
-    text::filled(line, at)
+    filled(line, at, 10)
 }
 
 fn mates_in(line: &[u8], at: usize) -> usize
     requires { ⌜ at < 64 ⌝ }
 {
     if is_rule(line, at) {
-        return text::number(line, at + 9);
+        return number(line, at + 9, 6);
     }
-    text::filled(line, at + 11)
+    filled(line, at + 11, 10)
 }
 
 // The bases and the mates of the field at `at`, cut from slices that have room for more.
 pub fn bases_of<'a>(line: &[u8], at: usize, bases: &'a [u8]) -> &'a [u8]
     requires { ⌜ at < 64 ⌝ }
 {
-    let from = 0;
-    let n = bases_in(line, at);
-    if bases.len() < n {
-        return bases;
-    }
-    &bases[from..n]
+    part(bases, 0, bases_in(line, at))
 }
 
 pub fn mates_of<'a>(line: &[u8], at: usize, mates: &'a [u16]) -> &'a [u16]
     requires { ⌜ at < 64 ⌝ }
 {
-    let from = 0;
-    let n = mates_in(line, at);
-    if mates.len() < n {
-        return mates;
-    }
-    &mates[from..n]
+    first(mates, mates_in(line, at))
 }
 
 fn by_rule(line: &[u8], at: usize, seed: usize, bases: &mut [u8], mates: &mut [u16])
@@ -162,17 +141,11 @@ fn by_rule(line: &[u8], at: usize, seed: usize, bases: &mut [u8], mates: &mut [u
 {
     spell(
         seed,
-        text::digit_at(line, at + 23),
-        text::number(line, at + 2),
+        digit_at(line, at + 23),
+        number(line, at + 2, 6),
         bases,
     );
-    fold(
-        text::digit_at(line, at),
-        seed,
-        0,
-        text::number(line, at + 9),
-        mates,
-    );
+    fold(digit_at(line, at), seed, 0, number(line, at + 9, 6), mates);
 }
 
 // Writes the strand of the field at `at`, of a rule the strand of its seed plus i.
@@ -183,7 +156,7 @@ pub fn make(line: &[u8], at: usize, i: usize, bases: &mut [u8], mates: &mut [u16
         return by_rule(
             line,
             at,
-            text::number(line, at + 16) % 65536 + i % 65536,
+            number(line, at + 16, 6) % 65536 + i % 65536,
             bases,
             mates,
         );

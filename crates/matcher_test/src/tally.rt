@@ -1,5 +1,7 @@
 // Counts of calls, and their report.
 use super::ask::Asked;
+use testing::output::number;
+use testing::output::say;
 
 // How many calls were made, refused, answered with the whole motif or with no prefix, and wrong.
 pub struct Tally {
@@ -29,15 +31,6 @@ fn counted(t: Tally, a: Asked) -> Tally {
         empty: t.empty % 1000000 + (a.got == 0) as usize % 2,
         wrong: t.wrong % 1000000 + (!a.right) as usize % 2,
     }
-}
-
-pub fn say(text: &[u8]) {
-    io::write_all(1, text);
-}
-
-pub fn number(name: &[u8], n: usize) {
-    say(name);
-    io::print_decimal(1, n as u64);
 }
 
 pub fn report(t: Tally) {

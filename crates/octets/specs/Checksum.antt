@@ -1,4 +1,4 @@
--- The checksum of a block (01: its check). Assumes nothing.
+-- The size of a block, and its checksum (01: its check). Assumes nothing.
 use Prim.Native.Nat.{ℕ, zero, suc, _+_, _*_}
 use mathlib.Core.List.{List, _++_}
 use mathlib.Core.Bool.{Bool, _&&_}

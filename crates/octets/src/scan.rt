@@ -64,7 +64,7 @@ pub fn zero(s: &mut [u8])
     }
 }
 
-// Copy a slice into one of the same length. The crate block, whose inner layer this is, meets what this and the next two ask by the lengths of
+// Copy a slice into one of the same length. The crates above, whose inner layer this is, meet what this and the next two ask by the lengths of
 // the parts that it lends.
 pub fn copy(src: &[u8], dst: &mut [u8])
     requires { ⌜ length (now src) ≡ length (now dst) ⌝ }

@@ -1,6 +1,6 @@
 -- The entries of units and arcs, case by case as the code goes. Assumes nothing.
 use Prim.Native.Nat.{ℕ, suc, _≤_, _<_, max}
-use mathlib.Core.Path.{_≡_, refl}
+use mathlib.Core.Path.{_≡_, refl, sym, _∙_}
 use mathlib.Core.Bool.{Bool, true, false}
 use native.Mathlib.Omega.{arith}
 use lib.Dec.{ltb, leb}
@@ -34,36 +34,67 @@ module _ (has : ℕ → Bool) (pm : ℕ → ℕ) (z k : ℕ) where
     go true e true false = omega arith
     go true e true true = omega (arith, ltb-true k z e)
 
+-- The entry with the left end, case by case as the code goes.
+module _ (left right : Bool) (k z next j : ℕ) where
+  pub by-other : left ≡ false → overBy left right k z next j ≡ 0
+  unfolding overBy choose
+  by-other t = rw t
+
+  module _ (t : left ≡ true) where
+    pub by-free : k ≤ j → overBy left right k z next j ≡ next
+    unfolding overBy choose
+    by-free a = rw (t, le-leb k j a)
+
+    module _ (a : j < k) where
+      pub by-far : z ≤ k → overBy left right k z next j ≡ 0
+      unfolding overBy choose
+      by-far b = rw (t, lt-leb k j a, le-ltb k z b)
+
+      module _ (b : k < z) where
+        pub by-unlike : right ≡ false → overBy left right k z next j ≡ 0
+        unfolding overBy choose
+        by-unlike d = rw (t, lt-leb k j a, lt-ltb k z b, d)
+
+        pub by-short : right ≡ true → next < k → overBy left right k z next j ≡ 0
+        unfolding overBy choose
+        by-short d e = rw (t, lt-leb k j a, lt-ltb k z b, d, lt-leb k next e)
+
+        pub by-arc : right ≡ true → k ≤ next → overBy left right k z next j ≡ suc k
+        unfolding overBy choose
+        by-arc d e = rw (t, lt-leb k j a, lt-ltb k z b, d, le-leb k next e)
+
+-- In a window it is what the arc takes from j.
+pub by-over : (left right : ℕ → Bool) (pm : ℕ → ℕ) (z next j : ℕ) → j < z → overBy (left j) (right (pm j)) (pm j) z next j ≡ overAt left right pm z next j
+unfolding overAt choose
+by-over left right pm z next j a = rw (lt-ltb j z a)
+
 module _ (left right : ℕ → Bool) (pm : ℕ → ℕ) (z next j : ℕ) where
   pub over-end : z ≤ j → overAt left right pm z next j ≡ 0
-  unfolding overAt overBy choose
+  unfolding overAt choose
   over-end a = rw (le-ltb j z a)
 
   module _ (a : j < z) where
+    by : {x : ℕ} → overBy (left j) (right (pm j)) (pm j) z next j ≡ x → overAt left right pm z next j ≡ x
+    by e = sym (by-over left right pm z next j a) ∙ e
+
     pub over-other : left j ≡ false → overAt left right pm z next j ≡ 0
-    unfolding overAt overBy choose
-    over-other t = rw (lt-ltb j z a, t)
+    over-other t = by (by-other _ _ _ _ _ _ t)
 
     module _ (t : left j ≡ true) where
       pub over-free : pm j ≤ j → overAt left right pm z next j ≡ next
-      unfolding overAt overBy choose
-      over-free b = rw (lt-ltb j z a, t, le-leb (pm j) j b)
+      over-free b = by (by-free _ _ _ _ _ _ t b)
 
       pub over-far : j < pm j → z ≤ pm j → overAt left right pm z next j ≡ 0
-      unfolding overAt overBy choose
-      over-far b d = rw (lt-ltb j z a, t, lt-leb (pm j) j b, le-ltb (pm j) z d)
+      over-far b d = by (by-far _ _ _ _ _ _ t b d)
 
       pub over-unlike : j < pm j → pm j < z → right (pm j) ≡ false → overAt left right pm z next j ≡ 0
-      unfolding overAt overBy choose
-      over-unlike b d e = rw (lt-ltb j z a, t, lt-leb (pm j) j b, lt-ltb (pm j) z d, e)
+      over-unlike b d e = by (by-unlike _ _ _ _ _ _ t b d e)
 
       pub over-short : j < pm j → pm j < z → right (pm j) ≡ true → next < pm j → overAt left right pm z next j ≡ 0
-      unfolding overAt overBy choose
-      over-short b d e s = rw (lt-ltb j z a, t, lt-leb (pm j) j b, lt-ltb (pm j) z d, e, lt-leb (pm j) next s)
+      over-short b d e s = by (by-short _ _ _ _ _ _ t b d e s)
 
       pub over-arc : j < pm j → pm j < z → right (pm j) ≡ true → pm j ≤ next → overAt left right pm z next j ≡ suc (pm j)
-      unfolding overAt overBy choose
-      over-arc b d e s = rw (lt-ltb j z a, t, lt-leb (pm j) j b, lt-ltb (pm j) z d, e, le-leb (pm j) next s)
+      over-arc b d e s = by (by-arc _ _ _ _ _ _ t b d e s)
 
 -- The larger of what was found without and with the left end.
 pub with-none : (r u o : ℕ) → r ≡ u → o ≡ 0 → r ≡ max u o

@@ -1,52 +1,19 @@
 -- The passes that close an arc over a long window: what each writes beside the row, and that together they make the row of the arc. Assumes nothing.
 use mathlib.Core.Path.{_≡_, ap, ap₂, _∙_}
-use mathlib.Core.Bool.{Bool, true, false}
+use mathlib.Core.Bool.{Bool}
 use mathlib.Core.List.{List}
-use Prim.Native.Nat.{ℕ, suc, _+_, _-_, _≤_, _<_, min, max}
+use Prim.Native.Nat.{ℕ, _+_, _-_, _≤_, _<_, min, max}
 use native.Mathlib.Numerals.{add-one}
 use native.Mathlib.Omega.{arith}
 use native.Mathlib.Decide.{decLt}
 use lib.Dec.{leb}
 use lib.ListN.{length, set}
-use borrow.Author.Tests.{lt-ltb, le-ltb, le-leb, lt-leb}
+use borrow.Author.Tests.{lt-ltb, le-ltb}
 use Rattle.strand.specs.Vocabulary.{nth, choose}
 use Rattle.embedding.specs.Row.{unitAt, overAt, arcAt, overBy}
 use Rattle.rows.specs.Rows.{Written, Remade}
 use Rattle.rows.proofs.Pass.{pass-set}
-
--- The entry with the left end, case by case as the code goes.
-module _ (left right : Bool) (k z next j : ℕ) where
-  pub by-other : left ≡ false → overBy left right k z next j ≡ 0
-  unfolding overBy choose
-  by-other t = rw t
-
-  module _ (t : left ≡ true) where
-    pub by-free : k ≤ j → overBy left right k z next j ≡ next
-    unfolding overBy choose
-    by-free a = rw (t, le-leb k j a)
-
-    module _ (a : j < k) where
-      pub by-far : z ≤ k → overBy left right k z next j ≡ 0
-      unfolding overBy choose
-      by-far b = rw (t, lt-leb k j a, le-ltb k z b)
-
-      module _ (b : k < z) where
-        pub by-unlike : right ≡ false → overBy left right k z next j ≡ 0
-        unfolding overBy choose
-        by-unlike d = rw (t, lt-leb k j a, lt-ltb k z b, d)
-
-        pub by-short : right ≡ true → next < k → overBy left right k z next j ≡ 0
-        unfolding overBy choose
-        by-short d e = rw (t, lt-leb k j a, lt-ltb k z b, d, lt-leb k next e)
-
-        pub by-arc : right ≡ true → k ≤ next → overBy left right k z next j ≡ suc k
-        unfolding overBy choose
-        by-arc d e = rw (t, lt-leb k j a, lt-ltb k z b, d, le-leb k next e)
-
--- It is what the arc takes with its left end.
-pub by-over : (left right : ℕ → Bool) (pm : ℕ → ℕ) (z next j : ℕ) → j < z → overBy (left j) (right (pm j)) (pm j) z next j ≡ overAt left right pm z next j
-unfolding overAt choose
-by-over left right pm z next j a = rw (lt-ltb j z a)
+use Rattle.rows.proofs.Entries.{by-over}
 
 -- An entry beside the row, in the loop that has come to j.
 module _ (left right : ℕ → Bool) (pm : ℕ → ℕ) (z at : ℕ) (row₀ row : List ℕ) (from j r : ℕ) where

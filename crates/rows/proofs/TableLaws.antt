@@ -122,13 +122,13 @@ steps-end f old new at j m W a b =
     pass-end f old new at (at + j) (at + m) (subst (λ (x : ℕ). Written f old new x (at + j)) i W) (omega arith) (omega arith)
 
 -- The row of the base b was written from `at` on.
-abbrev pub Put : List ℕ → List ℕ → ℕ → ℕ → List ℕ → List ℕ → Type 0
-Put p pm b at old new = Written (λ k. unitAt (matches p b) (nth pm) (length p) (k - at)) old new at (at + length p + 1)
+abbrev pub StepsPut : List ℕ → List ℕ → ℕ → ℕ → List ℕ → List ℕ → Type 0
+StepsPut p pm b at old new = Written (λ k. unitAt (matches p b) (nth pm) (length p) (k - at)) old new at (at + length p + 1)
 
-pub put-at : (p pm : List ℕ) (b at : ℕ) (old new : List ℕ) → at ≡ stepsAt (length p) b → Put p pm b at old new → Put p pm b (stepsAt (length p) b) old new
-put-at p pm b at old new e W = subst (λ (x : ℕ). Put p pm b x old new) e W
+pub put-at : (p pm : List ℕ) (b at : ℕ) (old new : List ℕ) → at ≡ stepsAt (length p) b → StepsPut p pm b at old new → StepsPut p pm b (stepsAt (length p) b) old new
+put-at p pm b at old new e W = subst (λ (x : ℕ). StepsPut p pm b x old new) e W
 
-put-entry : (p pm : List ℕ) (b at : ℕ) (old new : List ℕ) → Put p pm b at old new → (k : ℕ) → k ≤ length p
+put-entry : (p pm : List ℕ) (b at : ℕ) (old new : List ℕ) → StepsPut p pm b at old new → (k : ℕ) → k ≤ length p
     → nth new (at + k) ≡ unitAt (matches p b) (nth pm) (length p) k
 put-entry p pm b at old new W k h =
     let i : at + k - at ≡ k = omega arith in W .done (at + k) (omega arith) (omega arith) ∙ ap (unitAt (matches p b) (nth pm) (length p)) i
@@ -136,8 +136,8 @@ put-entry p pm b at old new W k h =
 -- The five passes make the tables: no pass writes what another wrote.
 module _ (p pm t₀ t₁ tA tC tG tU : List ℕ) where
   pub tables-made : 5 * (length p + 1) ≤ length t₀ → Written (λ j. nth p (nth pm j)) t₀ t₁ 0 (length p)
-      → Put p pm 65 (stepsAt (length p) 65) t₁ tA → Put p pm 67 (stepsAt (length p) 67) tA tC
-      → Put p pm 71 (stepsAt (length p) 71) tC tG → Put p pm 85 (stepsAt (length p) 85) tG tU → Tables p pm tU
+      → StepsPut p pm 65 (stepsAt (length p) 65) t₁ tA → StepsPut p pm 67 (stepsAt (length p) 67) tA tC
+      → StepsPut p pm 71 (stepsAt (length p) 71) tC tG → StepsPut p pm 85 (stepsAt (length p) 85) tG tU → Tables p pm tU
   tables-made room W A C G U = record {
     long = omega (arith, W .long, A .long, C .long, G .long, U .long);
     letter = λ j h. U .under j (omega (arith, steps-U m)) ∙ G .under j (omega (arith, steps-G m)) ∙ C .under j (omega (arith, steps-C m))

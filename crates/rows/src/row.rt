@@ -5,7 +5,7 @@ use crate::tables;
 ghost use mathlib.Core.Path.{_≡_};
 ghost use Prim.Native.Nat.{ℕ, _+_, _-_, _*_, _≤_, _<_, min, max};
 ghost use lib.ListN.{length};
-ghost use lib.Dec.{leb, eqb};
+ghost use lib.Dec.{eqb};
 ghost use Rattle.strand.specs.Vocabulary.{nth, choose};
 ghost use mathlib.Core.Bool.{true};
 ghost use Rattle.strand.specs.Strands.{isLetter, lettersMatch, moleculeSide};

@@ -6,7 +6,7 @@ ghost use lib.Dec.{leb};
 ghost use Rattle.strand.specs.Vocabulary.{nth, choose};
 ghost use Rattle.strand.specs.Strands.{Nested, lettersMatch};
 ghost use Rattle.embedding.specs.Row.{unitAt};
-ghost use Rattle.rows.specs.Rows.{Window, Written, Tables, stepsAt, matches};
+ghost use Rattle.rows.specs.Rows.{Written, Tables, stepsAt, matches};
 
 // Where the row of an unbonded base b starts in the tables of a motif of m bases.
 pub fn steps_at(m: usize, b: u8) -> usize

@@ -8,15 +8,15 @@ use lib.Dec.{ltb}
 use lib.ListN.{length, replicate}
 use Rattle.strand.specs.Vocabulary.{choose, lowest, select}
 use Rattle.strand.specs.Strands.{Strand}
-use Rattle.strand.specs.Refusals.{refusal, row, rowAt, first, strandVerdict}
+use Rattle.strand.specs.Refusals.{refusal, refuseIf, refuseAtLowest, first, strandVerdict}
 use Rattle.strand.specs.declared.Verdict.{Verdict}
 use Rattle.strand.specs.declared.Verdict.the-variants.{Accepted, Refused}
 use Rattle.strand.proofs.ListLaws.{lowest-upto, select-short}
-use Rattle.block.specs.Block.{blockOf}
+use Rattle.block.specs.Block.{blockOf, blockCount}
 use Rattle.block.specs.Content.{emptyBlock, moleculeIn}
-use Rattle.catalog.specs.Limits.{motifVerdict, workVerdict}
-use Rattle.catalog.specs.Buffers.{blockCount, unsoundAt, buffersVerdict, slotOf, cleanCache}
-use Rattle.catalog.specs.Calls.{QueryEffect, queryUnless, queryVerdict, queryEntry, queryOutcome, isHit, toSearch}
+use Rattle.calls.specs.Limits.{motifVerdict, workVerdict}
+use Rattle.calls.specs.Buffers.{unsoundAt, buffersVerdict, slotOf, cleanCache}
+use Rattle.calls.specs.Calls.{QueryEffect, queryUnless, queryVerdict, queryAccepted, queryOutcome, isHit, toSearch}
 use Rattle.screening.specs.Text.{line, spaced, badLengthText, badMotifText, mostOutput}
 use Rattle.screening.specs.Screen.{mostScreened, isInput, isMotif, firstBlock, catalogIn, screenWork, answerText, effectText, screenQuery, screenOutput, OutputSays}
 use Rattle.screening.proofs.TextLaws.{most-hits, most-refused}
@@ -29,13 +29,13 @@ Small : ℕ → Verdict → Type 0
 Small m Accepted = 0 ≤ m
 Small m (Refused r) = (r .number < 256) × (r .side < 256) × (r .place ≤ m)
 
-small-row : (m k s : ℕ) (b : Bool) → k < 256 → s < 256 → Small m (row k s b)
-unfolding Small row choose
+small-row : (m k s : ℕ) (b : Bool) → k < 256 → s < 256 → Small m (refuseIf k s b)
+unfolding Small refuseIf choose
 small-row m k s true hk hs = (hk, hs, omega arith)
 small-row m k s false hk hs = omega arith
 
-small-at : (m k s n : ℕ) (p : ℕ → Bool) → k < 256 → s < 256 → n ≤ m → Small m (rowAt k s n p)
-unfolding Small rowAt choose
+small-at : (m k s n : ℕ) (p : ℕ → Bool) → k < 256 → s < 256 → n ≤ m → Small m (refuseAtLowest k s n p)
+unfolding Small refuseAtLowest choose
 small-at m k s n p hk hs hn = go (ltb (lowest n p) n)
   where
     go : (b : Bool) → Small m (choose b (refusal k s (lowest n p)) Accepted)
@@ -87,7 +87,7 @@ unless-short Accepted cache hits e a f = f
 unless-short (Refused r) cache hits e a f = most-refused (r .number) (r .side) (r .place) (a .0) (a .1) (omega (arith, a .2))
 
 module _ (embeds : Strand → Strand → Bool) (catalog : List ℕ) (p : Strand) (few : blockCount catalog ≤ mostScreened) where
-  entry-short : (cache entry : List ℕ) (slot : ℕ) (hits : List ℕ) → length (effectText (queryEntry embeds catalog cache entry slot p hits)) ≤ mostOutput
+  entry-short : (cache entry : List ℕ) (slot : ℕ) (hits : List ℕ) → length (effectText (queryAccepted embeds catalog cache entry slot p hits)) ≤ mostOutput
   entry-short cache entry slot hits =
       let list : List ℕ = select (blockCount catalog) (isHit embeds catalog entry p) in
       let sought : List ℕ = select (blockCount catalog) (toSearch catalog entry p) in
@@ -105,7 +105,7 @@ module _ (embeds : Strand → Strand → Bool) (catalog : List ℕ) (p : Strand)
   effect-short cache work hits hb hm =
       let slot : ℕ = slotOf (blockCount cache) p in
       let entry : List ℕ = blockOf slot (cleanCache cache) in
-      unless-short (queryVerdict catalog cache p work (length hits)) cache hits (queryEntry embeds catalog (cleanCache cache) entry slot p hits)
+      unless-short (queryVerdict catalog cache p work (length hits)) cache hits (queryAccepted embeds catalog (cleanCache cache) entry slot p hits)
       (small-query 160 catalog cache p work (length hits) (omega arith) hb hm) (entry-short (cleanCache cache) entry slot hits)
 
 -- ---- the output

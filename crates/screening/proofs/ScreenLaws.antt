@@ -2,7 +2,7 @@
 use mathlib.Core.Path.{_≡_, refl, sym, ap, ap₂, subst, _∙_}
 use mathlib.Core.Bool.{Bool, true, false, not, _&&_}
 use mathlib.Core.List.{List, [], _∷_, _++_}
-use Prim.Native.Nat.{ℕ, _+_, _*_, _-_, _/_, _%_, _<_, _≤_}
+use Prim.Native.Nat.{ℕ, _+_, _*_, _-_, _%_, _<_, _≤_}
 use native.Mathlib.Omega.{arith}
 use borrow.Author.Tests.{le-ltb, eqb-true, leb-true, lt-leb, le-leb, eq-eqb, ne-eqb}
 use lib.Dec.{ltb, leb, eqb}
@@ -10,23 +10,23 @@ use lib.ListN.{length, take, drop, replicate, length-append, length-drop, length
 use lib.Seq.{take-at, take-all}
 use Rattle.strand.specs.Vocabulary.{choose, select, all}
 use Rattle.strand.specs.Strands.{Strand, strandOf, motifSide, moleculeSide, noSide, Proper}
-use Rattle.strand.specs.Refusals.{leastLength, wrongSlice, first, row}
+use Rattle.strand.specs.Refusals.{leastLength, wrongSlice, first, refuseIf}
 use Rattle.strand.proofs.ListLaws.{and-true, true-not, select-short}
 use Rattle.strand.proofs.VerdictLaws.{accepted-proper}
 use Rattle.octets.specs.Checksum.{blockSize}
 use Rattle.octets.specs.Numbers.{isZero}
 use Rattle.block.proofs.ContentLaws.{molecule-proper}
 use Rattle.strand.specs.declared.Refusal.{Refusal}
-use Rattle.block.specs.Block.{blockOf, soundMolecule}
+use Rattle.block.specs.Block.{blockOf, soundMolecule, blockCount}
 use Rattle.block.specs.Content.{emptyBlock, isEmpty, moleculeIn}
-use Rattle.catalog.specs.Limits.{motifVerdict, workVerdict, mostMotifBases}
-use Rattle.catalog.specs.Buffers.{blockCount, buffersVerdict, slotOf, cleanCache}
-use Rattle.catalog.specs.Calls.{QueryEffect, queried, queryUnless, queryVerdict, queryEntry, queryOutcome, isHit, toSearch}
+use Rattle.calls.specs.Limits.{motifVerdict, workVerdict, mostMotifBases}
+use Rattle.calls.specs.Buffers.{buffersVerdict, slotOf, cleanCache}
+use Rattle.calls.specs.Calls.{QueryEffect, queried, queryUnless, queryVerdict, queryAccepted, queryOutcome, QueryWorkKept, isHit, toSearch}
 use Rattle.strand.specs.declared.Verdict.{Verdict}
 use Rattle.strand.specs.declared.Verdict.the-variants.{Accepted, Refused}
-use Rattle.catalog.specs.declared.Queried.{Queried}
-use Rattle.catalog.specs.declared.Queried.the-variants.{Hits, Refused as NotQueried}
-use Rattle.screening.specs.Text.{line, spaced, hitsText, refusedText, badLengthText, badMotifText, mostOutput, Put}
+use Rattle.calls.specs.declared.Queried.{Queried}
+use Rattle.calls.specs.declared.Queried.the-variants.{Hits, Refused as NotQueried}
+use Rattle.screening.specs.Text.{line, spaced, hitsText, refusedText, badLengthText, badMotifText, mostOutput, TextPut}
 use Rattle.screening.specs.Screen.{mostScreened, isInput, isMotif, firstBlock, catalogIn, screenWork, answerText, AnswerFits, effectText, screenQuery, screenOutput, hasRoom, screened, isAsked, cacheLeft, hitsLeft, screenOutcome, WorkLeft}
 use Rattle.screening.specs.declared.Screened.the-variants.{Written, NoRoom}
 use Rattle.screening.proofs.TextLaws.{most-hits, put-first}
@@ -37,14 +37,14 @@ unfolding motifVerdict
 motif-short p e = accepted-proper motifSide leastLength mostMotifBases (p .bases) (p .mates) e .small
 
 rows-same : (p : Strand) (work room n : ℕ) → n ≤ mostScreened → screenWork ≤ work → mostScreened ≤ room → length (p .bases) ≤ 120
-    → first (row wrongSlice noSide (ltb room n) ∷ workVerdict p work ∷ []) ≡ Accepted
-unfolding first row workVerdict choose
+    → first (refuseIf wrongSlice noSide (ltb room n) ∷ workVerdict p work ∷ []) ≡ Accepted
+unfolding first refuseIf workVerdict choose
 rows-same p work room n a b h m =
     rw (le-ltb room n (omega arith), le-ltb work (64 * (length (p .bases) + 1) + 8 * 160) (omega arith))
 
 chain : (p : Strand) (work room n : ℕ) → n ≤ mostScreened → screenWork ≤ work → mostScreened ≤ room → (b m : Verdict) → motifVerdict p ≡ m
-    → first (b ∷ m ∷ row wrongSlice noSide (ltb room n) ∷ workVerdict p work ∷ [])
-    ≡ first (b ∷ m ∷ row wrongSlice noSide (ltb mostScreened n) ∷ workVerdict p screenWork ∷ [])
+    → first (b ∷ m ∷ refuseIf wrongSlice noSide (ltb room n) ∷ workVerdict p work ∷ [])
+    ≡ first (b ∷ m ∷ refuseIf wrongSlice noSide (ltb mostScreened n) ∷ workVerdict p screenWork ∷ [])
 unfolding first
 chain p work room n a h r (Refused x) m e = refl
 chain p work room n a h r Accepted (Refused x) e = refl
@@ -58,10 +58,10 @@ module _ (embeds : Strand → Strand → Bool) (catalog cache : List ℕ) (p : S
   verdict-same = chain p work (length hits) (blockCount catalog) few long wide (buffersVerdict catalog cache) (motifVerdict p) refl
 
 module _ (embeds : Strand → Strand → Bool) (catalog cache entry : List ℕ) (slot : ℕ) (p : Strand) (hits : List ℕ) where
-  pub entry-text : effectText (queryEntry embeds catalog cache entry slot p hits)
+  pub entry-text : effectText (queryAccepted embeds catalog cache entry slot p hits)
       ≡ hitsText (length (select (blockCount catalog) (isHit embeds catalog entry p))) (length (select (blockCount catalog) (toSearch catalog entry p)))
       (select (blockCount catalog) (isHit embeds catalog entry p))
-  unfolding queryEntry answerText
+  unfolding queryAccepted answerText
   entry-text =
       ap (hitsText (length (select (blockCount catalog) (isHit embeds catalog entry p))) (length (select (blockCount catalog) (toSearch catalog entry p))))
       (take-at (select (blockCount catalog) (isHit embeds catalog entry p))
@@ -69,8 +69,8 @@ module _ (embeds : Strand → Strand → Bool) (catalog cache entry : List ℕ) 
       (length (select (blockCount catalog) (isHit embeds catalog entry p))) refl)
 
   pub entry-fits : blockCount catalog ≤ mostScreened
-      → AnswerFits (queryEntry embeds catalog cache entry slot p hits .answer) (queryEntry embeds catalog cache entry slot p hits .hits) mostOutput
-  unfolding queryEntry AnswerFits
+      → AnswerFits (queryAccepted embeds catalog cache entry slot p hits .answer) (queryAccepted embeds catalog cache entry slot p hits .hits) mostOutput
+  unfolding queryAccepted AnswerFits
   entry-fits few =
       let list : List ℕ = select (blockCount catalog) (isHit embeds catalog entry p) in
       let sought : List ℕ = select (blockCount catalog) (toSearch catalog entry p) in
@@ -100,14 +100,14 @@ module _ (embeds : Strand → Strand → Bool) (catalog cache : List ℕ) (p : S
   effect-same =
       let slot : ℕ = slotOf (blockCount cache) p in
       let entry : List ℕ = blockOf slot (cleanCache cache) in
-      ap (λ (v : Verdict). effectText (queryUnless v cache hits (queryEntry embeds catalog (cleanCache cache) entry slot p hits)))
+      ap (λ (v : Verdict). effectText (queryUnless v cache hits (queryAccepted embeds catalog (cleanCache cache) entry slot p hits)))
       (verdict-same embeds catalog cache p work hits few long wide)
       ∙ unless-text (queryVerdict catalog cache p screenWork mostScreened) cache hits (replicate mostScreened 0)
-      (queryEntry embeds catalog (cleanCache cache) entry slot p hits)
-      (queryEntry embeds catalog (cleanCache cache) entry slot p (replicate mostScreened 0))
+      (queryAccepted embeds catalog (cleanCache cache) entry slot p hits)
+      (queryAccepted embeds catalog (cleanCache cache) entry slot p (replicate mostScreened 0))
       (entry-text embeds catalog (cleanCache cache) entry slot p hits ∙ sym (entry-text embeds catalog (cleanCache cache) entry slot p (replicate mostScreened 0)))
       ∙ ap (λ (k : ℕ). effectText (queryUnless (queryVerdict catalog cache p screenWork k) cache (replicate mostScreened 0)
-      (queryEntry embeds catalog (cleanCache cache) entry slot p (replicate mostScreened 0))))
+      (queryAccepted embeds catalog (cleanCache cache) entry slot p (replicate mostScreened 0))))
       (sym (length-replicate {A = ℕ} mostScreened 0))
 
   pub effect-fits : AnswerFits (queryOutcome embeds catalog cache p work hits .answer) (queryOutcome embeds catalog cache p work hits .hits) mostOutput
@@ -115,21 +115,21 @@ module _ (embeds : Strand → Strand → Bool) (catalog cache : List ℕ) (p : S
   effect-fits =
       let slot : ℕ = slotOf (blockCount cache) p in
       let entry : List ℕ = blockOf slot (cleanCache cache) in
-      unless-fits (queryVerdict catalog cache p work (length hits)) cache hits (queryEntry embeds catalog (cleanCache cache) entry slot p hits)
+      unless-fits (queryVerdict catalog cache p work (length hits)) cache hits (queryAccepted embeds catalog (cleanCache cache) entry slot p hits)
       (entry-fits embeds catalog (cleanCache cache) entry slot p hits few)
 
 -- ---- which text an input gets
 
-few-blocks : (input : List ℕ) → length input / blockSize ≤ 1 + mostScreened → 2 ≤ length input / blockSize
+few-blocks : (input : List ℕ) → blockCount input ≤ 1 + mostScreened → 2 ≤ blockCount input
     → (2 * blockSize ≤ length input) × (blockCount (catalogIn input) ≤ mostScreened)
 few-blocks input h l = (omega arith, omega (arith, length-drop blockSize input))
 
 pub input-few : (input : List ℕ) → isInput input ≡ true → (2 * blockSize ≤ length input) × (blockCount (catalogIn input) ≤ mostScreened)
 unfolding isInput
 input-few input e =
-    let a = and-true (eqb (length input % blockSize) 0 && leb 2 (length input / blockSize)) (leb (length input / blockSize) (1 + mostScreened)) e in
-    let b = and-true (eqb (length input % blockSize) 0) (leb 2 (length input / blockSize)) (a .0) in
-    few-blocks input (leb-true (length input / blockSize) (1 + mostScreened) (a .1)) (leb-true 2 (length input / blockSize) (b .1))
+    let a = and-true (eqb (length input % blockSize) 0 && leb 2 (blockCount input)) (leb (blockCount input) (1 + mostScreened)) e in
+    let b = and-true (eqb (length input % blockSize) 0) (leb 2 (blockCount input)) (a .0) in
+    few-blocks input (leb-true (blockCount input) (1 + mostScreened) (a .1)) (leb-true 2 (blockCount input) (b .1))
 
 module _ (embeds : Strand → Strand → Bool) (input : List ℕ) where
   pub output-bad-length : isInput input ≡ false → screenOutput embeds input ≡ badLengthText
@@ -176,13 +176,13 @@ module _ (input : List ℕ) where
   unfolding isInput
   input-1 h = rw (ne-eqb (length input % 512) 0 h)
 
-  pub input-2 : length input % 512 ≡ 0 → length input / 512 < 2 → false ≡ isInput input
+  pub input-2 : length input % 512 ≡ 0 → blockCount input < 2 → false ≡ isInput input
   unfolding isInput
-  input-2 h k = rw (eq-eqb (length input % 512) 0 h, lt-leb 2 (length input / 512) k)
+  input-2 h k = rw (eq-eqb (length input % 512) 0 h, lt-leb 2 (blockCount input) k)
 
-  pub input-3 : length input % 512 ≡ 0 → 2 ≤ length input / 512 → leb (length input / 512) 65 ≡ isInput input
+  pub input-3 : length input % 512 ≡ 0 → 2 ≤ blockCount input → leb (blockCount input) 65 ≡ isInput input
   unfolding isInput
-  input-3 h k = rw (eq-eqb (length input % 512) 0 h, le-leb 2 (length input / 512) k)
+  input-3 h k = rw (eq-eqb (length input % 512) 0 h, le-leb 2 (blockCount input) k)
 
 pub motif-1 : (s : List ℕ) (r : Bool) → r ≡ soundMolecule s → r ≡ false → false ≡ isMotif s
 unfolding isMotif
@@ -218,22 +218,30 @@ module _ (embeds : Strand → Strand → Bool) (input out cache : List ℕ) (wor
   outcome-none e = rw e
 
   pub outcome-written : {new kept left : List ℕ} {n : ℕ} → hasRoom (length out) (length cache) work (length hits) ≡ true
-      → Put (screenOutput embeds input) out new 0 n
+      → TextPut (screenOutput embeds input) out new 0 n
       → kept ≡ cacheLeft embeds input cache work hits → left ≡ hitsLeft embeds input work hits
       → screened (Written n) new kept left ≡ screenOutcome embeds input out cache work hits
   unfolding screenOutcome choose
   outcome-written e p k l = rw (e, put-first p .0, put-first p .1, k, l)
 
-  -- The cache and the hits, for each kind of output.
-  pub left-unasked : isAsked input ≡ false → (cache ≡ cacheLeft embeds input cache work hits) × (hits ≡ hitsLeft embeds input work hits)
-  unfolding cacheLeft hitsLeft choose
-  left-unasked e = (rw e, rw e)
+  -- The cache, the hits and the work slice, for each kind of output.
+  pub left-unasked : (w : List ℕ) → isAsked input ≡ false
+      → (cache ≡ cacheLeft embeds input cache work hits) × (hits ≡ hitsLeft embeds input work hits)
+      × WorkLeft (isAsked input) (screenQuery embeds input work hits .answer) w w
+  unfolding cacheLeft hitsLeft choose WorkLeft
+  left-unasked w e = (rw e, rw e, rw e refl)
 
-  pub left-asked : {answer : Queried} {kept left : List ℕ} → isAsked input ≡ true
+  pub left-asked : {answer : Queried} {kept left : List ℕ} (before after : List ℕ) → isAsked input ≡ true
       → queried answer kept left ≡ queryOutcome embeds (catalogIn input) emptyBlock (moleculeIn (firstBlock input)) work hits
+      → QueryWorkKept answer before after
       → (kept ≡ cacheLeft embeds input cache work hits) × (left ≡ hitsLeft embeds input work hits)
-  unfolding cacheLeft hitsLeft screenQuery choose
-  left-asked e h = (rw e (ap (λ (q : QueryEffect). q .cache) h), rw e (ap (λ (q : QueryEffect). q .hits) h))
+      × WorkLeft (isAsked input) (screenQuery embeds input work hits .answer) before after
+  unfolding cacheLeft hitsLeft screenQuery choose WorkLeft
+  left-asked before after e h w = (
+    rw e (ap (λ (q : QueryEffect). q .cache) h),
+    rw e (ap (λ (q : QueryEffect). q .hits) h),
+    rw e (subst (λ (q : QueryEffect). QueryWorkKept (q .answer) before after) h w),
+  )
 
 pub asked-1 : (input : List ℕ) → isInput input ≡ false → isAsked input ≡ false
 unfolding isAsked
@@ -243,13 +251,14 @@ pub asked-2 : (input : List ℕ) (b : Bool) → isInput input ≡ true → isMot
 unfolding isAsked
 asked-2 input b e m = rw (e, m)
 
-pub work-none : (w : List ℕ) → WorkLeft NoRoom w w
+-- The work slice of `screen`, with and without room.
+pub work-none : (room asked : Bool) (answer : Queried) (w : List ℕ) → room ≡ false → WorkLeft (room && asked) answer w w
 unfolding WorkLeft
-work-none w = refl
+work-none room asked answer w e = rw e refl
 
-pub work-written : (n : ℕ) (before after : List ℕ) → length after ≡ length before → WorkLeft (Written n) before after
-unfolding WorkLeft
-work-written n before after e = e
+pub work-room : (room asked : Bool) (answer : Queried) (before after : List ℕ) → room ≡ true
+    → WorkLeft asked answer before after → WorkLeft (room && asked) answer before after
+work-room room asked answer before after e w = rw e w
 
 -- ---- the query of an input
 
@@ -287,12 +296,12 @@ fits-more (Hits count searched) hits room l f = (f .0, omega (arith, f .1))
 fits-more (NotQueried r) hits room l f = l
 
 pub put-refused : (r : Refusal) (answer : Queried) (hits : List ℕ) {x y : List ℕ} {n : ℕ} → answer ≡ NotQueried r
-    → Put (refusedText (r .number) (r .side) (r .place)) x y 0 n → Put (answerText answer hits) x y 0 n
+    → TextPut (refusedText (r .number) (r .side) (r .place)) x y 0 n → TextPut (answerText answer hits) x y 0 n
 unfolding answerText
 put-refused r answer hits e p = rw e p
 
 pub put-hits : (count searched : ℕ) (answer : Queried) (hits : List ℕ) {x y : List ℕ} {n : ℕ} → answer ≡ Hits count searched
-    → Put (hitsText count searched (take count hits)) x y 0 n → Put (answerText answer hits) x y 0 n
+    → TextPut (hitsText count searched (take count hits)) x y 0 n → TextPut (answerText answer hits) x y 0 n
 unfolding answerText
 put-hits count searched answer hits e p = rw e p
 
@@ -308,11 +317,11 @@ bad-motif-bytes = refl
 
 module _ (embeds : Strand → Strand → Bool) (input : List ℕ) where
   pub put-bad-length : {x y : List ℕ} {n : ℕ} → isInput input ≡ false
-      → Put (98 ∷ 97 ∷ 100 ∷ 32 ∷ 108 ∷ 101 ∷ 110 ∷ 103 ∷ 116 ∷ 104 ∷ 10 ∷ []) x y 0 n → Put (screenOutput embeds input) x y 0 n
+      → TextPut (98 ∷ 97 ∷ 100 ∷ 32 ∷ 108 ∷ 101 ∷ 110 ∷ 103 ∷ 116 ∷ 104 ∷ 10 ∷ []) x y 0 n → TextPut (screenOutput embeds input) x y 0 n
   put-bad-length e p = rw (output-bad-length embeds input e ∙ sym bad-length-bytes) p
 
   pub put-bad-motif : {x y : List ℕ} {n : ℕ} → isInput input ≡ true → isMotif (firstBlock input) ≡ false
-      → Put (98 ∷ 97 ∷ 100 ∷ 32 ∷ 109 ∷ 111 ∷ 116 ∷ 105 ∷ 102 ∷ 10 ∷ []) x y 0 n → Put (screenOutput embeds input) x y 0 n
+      → TextPut (98 ∷ 97 ∷ 100 ∷ 32 ∷ 109 ∷ 111 ∷ 116 ∷ 105 ∷ 102 ∷ 10 ∷ []) x y 0 n → TextPut (screenOutput embeds input) x y 0 n
   put-bad-motif e m p = rw (output-bad-motif embeds input e m ∙ sym bad-motif-bytes) p
 
   module _ (work : ℕ) (hits : List ℕ) (answer : Queried) (cache left : List ℕ)
@@ -331,5 +340,5 @@ module _ (embeds : Strand → Strand → Bool) (input : List ℕ) where
         ∙ sym (effect-same embeds (catalogIn input) emptyBlock (moleculeIn (firstBlock input)) work hits (input-few input ok .1) long wide)
         ∙ sym (ap effectText h)
 
-    pub put-answered : {x y : List ℕ} {n : ℕ} → isMotif (firstBlock input) ≡ true → Put (answerText answer left) x y 0 n → Put (screenOutput embeds input) x y 0 n
+    pub put-answered : {x y : List ℕ} {n : ℕ} → isMotif (firstBlock input) ≡ true → TextPut (answerText answer left) x y 0 n → TextPut (screenOutput embeds input) x y 0 n
     put-answered m p = rw (answer-text m) p

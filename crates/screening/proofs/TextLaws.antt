@@ -11,20 +11,20 @@ use borrow.Author.Tests.{lt-ltb, le-ltb}
 use lib.ListN.{length, take, drop, set, length-append, take-append-drop}
 use lib.Seq.{set-split, take-at, drop-at, drop-drop, take-suc, take-add, length-take-le, take-length, paste, paste-suc}
 use Rattle.strand.specs.Vocabulary.{nth, choose, select}
-use Rattle.screening.specs.Text.{newline, digit, digitsIn, digits, valueFrom, DigitsSay, spaced, line, lines, hitsText, refusedText, mostOutput, Put}
+use Rattle.screening.specs.Text.{newline, digit, digitsIn, digits, valueFrom, DigitsSay, spaced, line, lines, hitsText, refusedText, mostOutput, TextPut}
 
 -- ---- one text after another
 
-pub put-none : (x : List ℕ) (at : ℕ) → Put [] x x at at
+pub put-none : (x : List ℕ) (at : ℕ) → TextPut [] x x at at
 put-none x at = record {
   past = omega arith;
   written = sym (ap (λ (k : ℕ). take at x ++ drop k x) (let z : at + 0 ≡ at = omega arith in z) ∙ take-append-drop at x);
 }
 
-pub put-one : (b : ℕ) (x : List ℕ) (at : ℕ) → at < length x → Put (b ∷ []) x (set x at b) at (at + 1)
+pub put-one : (b : ℕ) (x : List ℕ) (at : ℕ) → at < length x → TextPut (b ∷ []) x (set x at b) at (at + 1)
 put-one b x at h = record { past = refl; written = rw add-one (set-split x at b h) }
 
-module _ {s t x y z : List ℕ} {a b c : ℕ} (h : a + length s ≤ length x) (p : Put s x y a b) (q : Put t y z b c) where
+module _ {s t x y z : List ℕ} {a b c : ℕ} (h : a + length s ≤ length x) (p : TextPut s x y a b) (q : TextPut t y z b c) where
   front-length : length (take a x ++ s) ≡ b
   front-length = length-append (take a x) s ∙ omega (arith, length-take-le a x (omega arith), p .past)
 
@@ -47,7 +47,7 @@ module _ {s t x y z : List ℕ} {a b c : ℕ} (h : a + length s ≤ length x) (p
       sizes : a + length s + length t ≡ a + length (s ++ t)
       sizes = omega (arith, length-append s t)
 
-  pub put-then : Put (s ++ t) x z a c
+  pub put-then : TextPut (s ++ t) x z a c
   put-then = record {
     past = omega (arith, length-append s t, p .past, q .past);
     written =
@@ -59,7 +59,7 @@ module _ {s t x y z : List ℕ} {a b c : ℕ} (h : a + length s ≤ length x) (p
   }
 
 -- From the start: the text, then what stood past it.
-pub put-first : {s x y : List ℕ} {c : ℕ} → Put s x y 0 c → (c ≡ length s) × (y ≡ s ++ drop (length s) x)
+pub put-first : {s x y : List ℕ} {c : ℕ} → TextPut s x y 0 c → (c ≡ length s) × (y ≡ s ++ drop (length s) x)
 put-first {s} {x} p = (omega (arith, p .past), p .written ∙ ap (λ (k : ℕ). s ++ drop k x) (let z : 0 + length s ≡ length s = omega arith in z))
 
 -- ---- a copy of a word: its first i bytes are written
@@ -71,7 +71,7 @@ module _ (d s : List ℕ) (at i : ℕ) {x : List ℕ} (e : x ≡ paste d at s i)
       ∙ paste-suc d at s i 0 (omega arith) l
       ∙ ap (λ (k : ℕ). paste d at s k) (sym (add-one i))
 
-  pub copy-end : i ≤ length s → length s ≤ i → Put s d x at (at + i)
+  pub copy-end : i ≤ length s → length s ≤ i → TextPut s d x at (at + i)
   copy-end a b = record {
     past = omega arith;
     written = e ∙ copied;
@@ -144,10 +144,10 @@ pub digits-value : DigitsSay
 digits-value n = value-within (suc n) n (omega arith)
 
 module _ (n : ℕ) {x y : List ℕ} {a b : ℕ} where
-  pub number-small : n < 10 → Put (digit n ∷ []) x y a b → Put (digits n) x y a b
+  pub number-small : n < 10 → TextPut (digit n ∷ []) x y a b → TextPut (digits n) x y a b
   number-small h p = rw (digits-small n h) p
 
-  pub number-more : {z : List ℕ} {c : ℕ} → 10 ≤ n → a + length (digits n) ≤ length x → Put (digits (n / 10)) x y a b → Put (digit (n % 10) ∷ []) y z b c → Put (digits n) x z a c
+  pub number-more : {z : List ℕ} {c : ℕ} → 10 ≤ n → a + length (digits n) ≤ length x → TextPut (digits (n / 10)) x y a b → TextPut (digit (n % 10) ∷ []) y z b c → TextPut (digits n) x z a c
   number-more h r p q = rw (digits-more n h) (put-then (omega (arith, digits-length n h)) p q)
 
 -- ---- lines
@@ -181,11 +181,11 @@ lines-within ns i n h =
     omega (arith, ap length x, length-append (lines (take i ns)) (lines (take (n - i) (drop i ns))))
 
 module _ (ns : List ℕ) where
-  pub lines-none : (x : List ℕ) (at : ℕ) → Put (lines (take 0 ns)) x x at at
+  pub lines-none : (x : List ℕ) (at : ℕ) → TextPut (lines (take 0 ns)) x x at at
   unfolding lines
   lines-none x at = put-none x at
 
-  module _ {x y : List ℕ} {i n at past : ℕ} (l : i < n) (k : n ≤ length ns) (r : at + length (lines (take n ns)) ≤ length x) (p : Put (lines (take i ns)) x y at past) where
+  module _ {x y : List ℕ} {i n at past : ℕ} (l : i < n) (k : n ≤ length ns) (r : at + length (lines (take n ns)) ≤ length x) (p : TextPut (lines (take i ns)) x y at past) where
     pub lines-room : past + length (line (digits (nth ns i))) ≤ length x
     lines-room =
         omega (
@@ -196,16 +196,16 @@ module _ (ns : List ℕ) where
           lines-within ns (i + 1) n (omega arith),
         )
 
-    pub lines-next : {z : List ℕ} {next : ℕ} → Put (line (digits (nth ns i))) y z past next → Put (lines (take (i + 1) ns)) x z at next
+    pub lines-next : {z : List ℕ} {next : ℕ} → TextPut (line (digits (nth ns i))) y z past next → TextPut (lines (take (i + 1) ns)) x z at next
     lines-next q = rw (lines-more ns i (omega arith)) (put-then (omega (arith, lines-within ns i n (omega arith))) p q)
 
-  pub lines-end : {x y : List ℕ} {at past : ℕ} (i n : ℕ) → i ≤ n → n ≤ i → Put (lines (take i ns)) x y at past → Put (lines (take n ns)) x y at past
+  pub lines-end : {x y : List ℕ} {at past : ℕ} (i n : ℕ) → i ≤ n → n ≤ i → TextPut (lines (take i ns)) x y at past → TextPut (lines (take n ns)) x y at past
   lines-end i n a b p = let e : n ≡ i = omega arith in rw e p
 
 -- ---- the outputs, by their parts
 
-module _ {s t u x y z v : List ℕ} {a b c d : ℕ} (r : a + (length s + length t + length u) ≤ length x) (p : Put s x y a b) (q : Put t y z b c) (o : Put u z v c d) where
-  pub put-three : Put ((s ++ t) ++ u) x v a d
+module _ {s t u x y z v : List ℕ} {a b c d : ℕ} (r : a + (length s + length t + length u) ≤ length x) (p : TextPut s x y a b) (q : TextPut t y z b c) (o : TextPut u z v c d) where
+  pub put-three : TextPut ((s ++ t) ++ u) x v a d
   put-three = put-then (omega (arith, length-append s t)) (put-then (omega arith) p q) o
 
 module _ (count searched : ℕ) (numbers : List ℕ) where
@@ -220,9 +220,9 @@ module _ (count searched : ℕ) (numbers : List ℕ) where
   hits-length = ap length (sym hits-parts) ∙ simp length-append (omega arith)
 
   pub hits-put : {x y z u v : List ℕ} {a b c d : ℕ} → length (hitsText count searched numbers) ≤ length x
-      → Put ((104 ∷ 105 ∷ 116 ∷ 115 ∷ 32 ∷ []) ++ digits count) x y 0 a
-      → Put ((32 ∷ 115 ∷ 101 ∷ 97 ∷ 114 ∷ 99 ∷ 104 ∷ 101 ∷ 100 ∷ 32 ∷ []) ++ digits searched) y z a b
-      → Put (10 ∷ []) z u b c → Put (lines numbers) u v c d → Put (hitsText count searched numbers) x v 0 d
+      → TextPut ((104 ∷ 105 ∷ 116 ∷ 115 ∷ 32 ∷ []) ++ digits count) x y 0 a
+      → TextPut ((32 ∷ 115 ∷ 101 ∷ 97 ∷ 114 ∷ 99 ∷ 104 ∷ 101 ∷ 100 ∷ 32 ∷ []) ++ digits searched) y z a b
+      → TextPut (10 ∷ []) z u b c → TextPut (lines numbers) u v c d → TextPut (hitsText count searched numbers) x v 0 d
   hits-put r p q o l =
       rw (sym hits-parts)
       (put-then (simp length-append (omega (arith, hits-length))) (put-three (omega (arith, hits-length)) p q o) l)
@@ -241,9 +241,9 @@ module _ (number side place : ℕ) where
   refused-length = ap length (sym refused-parts) ∙ simp length-append (omega arith)
 
   pub refused-put : {x y z u v : List ℕ} {a b c d : ℕ} → length (refusedText number side place) ≤ length x
-      → Put ((114 ∷ 101 ∷ 102 ∷ 117 ∷ 115 ∷ 101 ∷ 100 ∷ 32 ∷ []) ++ digits number) x y 0 a
-      → Put ((32 ∷ []) ++ digits side) y z a b → Put ((32 ∷ []) ++ digits place) z u b c → Put (10 ∷ []) u v c d
-      → Put (refusedText number side place) x v 0 d
+      → TextPut ((114 ∷ 101 ∷ 102 ∷ 117 ∷ 115 ∷ 101 ∷ 100 ∷ 32 ∷ []) ++ digits number) x y 0 a
+      → TextPut ((32 ∷ []) ++ digits side) y z a b → TextPut ((32 ∷ []) ++ digits place) z u b c → TextPut (10 ∷ []) u v c d
+      → TextPut (refusedText number side place) x v 0 d
   refused-put r p q o l =
       rw (sym refused-parts)
       (put-then (simp length-append (omega (arith, refused-length))) (put-three (omega (arith, refused-length)) p q o) l)

@@ -1,20 +1,20 @@
 -- What the screen program prints for the bytes of its input. Assumes nothing.
-use Prim.Native.Nat.{ℕ, _+_, _/_, _%_, _≤_}
+use Prim.Native.Nat.{ℕ, _+_, _%_, _≤_}
 use mathlib.Core.Path.{_≡_}
 use mathlib.Core.List.{List, _++_}
-use mathlib.Core.Bool.{Bool, not, _&&_}
+use mathlib.Core.Bool.{Bool, true, false, not, _&&_}
 use lib.Dec.{eqb, leb}
 use lib.ListN.{length, take, drop, replicate}
 use Rattle.strand.specs.Vocabulary.{choose}
 use Rattle.strand.specs.Strands.{Strand}
 use Rattle.octets.specs.Checksum.{blockSize}
 use Rattle.block.specs.Content.{emptyBlock, isEmpty, moleculeIn}
-use Rattle.block.specs.Block.{soundMolecule}
+use Rattle.block.specs.Block.{soundMolecule, blockCount}
 use Rattle.rows.specs.Rows.{workSize}
-use Rattle.catalog.specs.Limits.{mostMoleculeBases, mostMotifBases}
-use Rattle.catalog.specs.Calls.{QueryEffect, queryOutcome}
-use Rattle.catalog.specs.declared.Queried.{Queried}
-use Rattle.catalog.specs.declared.Queried.the-variants.{Hits, Refused}
+use Rattle.calls.specs.Limits.{mostMoleculeBases, mostMotifBases}
+use Rattle.calls.specs.Calls.{QueryEffect, queryOutcome, QueryWorkKept}
+use Rattle.calls.specs.declared.Queried.{Queried}
+use Rattle.calls.specs.declared.Queried.the-variants.{Hits, Refused}
 use Rattle.screening.specs.declared.Screened.{Screened}
 use Rattle.screening.specs.declared.Screened.the-variants.{Written, NoRoom}
 use Rattle.screening.specs.Text.{hitsText, refusedText, badLengthText, badMotifText, mostOutput}
@@ -25,7 +25,7 @@ mostScreened = 64
 
 unfoldable pub isInput : List ℕ → Bool
 isInput input =
-    eqb (length input % blockSize) 0 && leb 2 (length input / blockSize) && leb (length input / blockSize) (1 + mostScreened)
+    eqb (length input % blockSize) 0 && leb 2 (blockCount input) && leb (blockCount input) (1 + mostScreened)
 
 -- The motif's block, and the catalog behind it: number 0 is the block after the motif's.
 abbrev pub firstBlock : List ℕ → List ℕ
@@ -47,7 +47,7 @@ unfoldable pub answerText : Queried → List ℕ → List ℕ
 answerText (Hits count searched) hits = hitsText count searched (take count hits)
 answerText (Refused r) hits = refusedText (r .number) (r .side) (r .place)
 
--- The answer's text fits into that many bytes, and any refusal's too: what `put_answer` asks.
+-- Room for an answer's text: that of an answered query fits; for a refusal there are mostOutput bytes, enough for any.
 unfoldable pub AnswerFits : Queried → List ℕ → ℕ → Type 0
 AnswerFits (Hits count searched) hits room = (count ≤ length hits) × (length (hitsText count searched (take count hits)) ≤ room)
 AnswerFits (Refused r) hits room = mostOutput ≤ room
@@ -106,7 +106,7 @@ module _ (embeds : Strand → Strand → Bool) where
 abbrev pub OutputSays : (Strand → Strand → Bool) → List ℕ → Type 0
 OutputSays embeds input = length (screenOutput embeds input) ≤ mostOutput
 
--- The work slice keeps its length; where nothing was written it keeps every entry.
-unfoldable pub WorkLeft : Screened → List ℕ → List ℕ → Type 0
-WorkLeft (Written n) before after = length after ≡ length before
-WorkLeft NoRoom before after = after ≡ before
+-- The work slice afterwards: as before where no query was asked, else as the query leaves it.
+unfoldable pub WorkLeft : Bool → Queried → List ℕ → List ℕ → Type 0
+WorkLeft true answer before after = QueryWorkKept answer before after
+WorkLeft false answer before after = after ≡ before

@@ -89,6 +89,6 @@ abbrev pub mostOutput : ℕ
 mostOutput = 202
 
 -- What a writer does: the text stands at `at`, the next place is past it, and all else is as before.
-pub record Put (text old new : List ℕ) (at next : ℕ) : Type 0 where
+pub record TextPut (text old new : List ℕ) (at next : ℕ) : Type 0 where
   pub past : next ≡ at + length text
   pub written : new ≡ take at old ++ (text ++ drop (at + length text) old)

@@ -3,14 +3,14 @@ mod text;
 
 use catalog::Queried;
 ghost use mathlib.Core.Path.{_≡_};
-ghost use mathlib.Core.Bool.{true};
+ghost use mathlib.Core.Bool.{true, _&&_};
 ghost use Prim.Native.Nat.{_≤_};
 ghost use lib.ListN.{length};
 ghost use Rattle.block.specs.Content.{emptyBlock, moleculeIn};
-ghost use Rattle.catalog.specs.Calls.{queried, queryOutcome};
-ghost use Rattle.screening.specs.Text.{refusedText, mostOutput, Put};
-ghost use Rattle.screening.specs.Screen.{isInput, isMotif, firstBlock, catalogIn, answerText, AnswerFits, screenOutput, hasRoom, screened, cacheLeft, hitsLeft, screenOutcome, WorkLeft};
-ghost use Rattle.catalog.specs.Motifs.{embeds};
+ghost use Rattle.calls.specs.Calls.{queried, queryOutcome, QueryWorkKept};
+ghost use Rattle.screening.specs.Text.{refusedText, mostOutput, TextPut};
+ghost use Rattle.screening.specs.Screen.{isInput, isMotif, firstBlock, catalogIn, answerText, AnswerFits, isAsked, screenQuery, screenOutput, hasRoom, screened, cacheLeft, hitsLeft, screenOutcome, WorkLeft};
+ghost use Rattle.calls.specs.Motifs.{embeds};
 
 // What screen answers: how many bytes of output it wrote, or that a borrowed buffer is too short or the cache not one block.
 pub enum Screened {
@@ -70,9 +70,10 @@ fn ask(
     requires { ⌜ isInput (now input) ≡ true ⌝ }
     requires { ⌜ isMotif (firstBlock (now input)) ≡ true ⌝ }
     requires { ⌜ (160 ≤ length (now bases)) × (160 ≤ length (now mates)) ⌝ }
-    ensures { λ r. ⌜ queried r (now (cache .exit)) (now (hits .exit)) ≡ queryOutcome embeds (catalogIn (now (input .entry))) (now (cache .entry)) (moleculeIn (firstBlock (now (input .entry)))) (length (now (work .entry))) (now (hits .entry)) ⌝ }
+    ensures { λ r. ⌜ (queried r (now (cache .exit)) (now (hits .exit)) ≡ queryOutcome embeds (catalogIn (now (input .entry))) (now (cache .entry)) (moleculeIn (firstBlock (now (input .entry)))) (length (now (work .entry))) (now (hits .entry)))
+        × QueryWorkKept r (now (work .entry)) (now (work .exit)) ⌝ }
 {
-    let n = block::codec::decode_molecule(&input[..512], bases, mates);
+    let n = codec::molecule::decode_molecule(&input[..512], bases, mates);
     catalog::query(&input[512..], cache, &bases[..n], &mates[..n], work, hits)
 }
 
@@ -81,7 +82,8 @@ fn ask_afresh(input: &[u8], cache: &mut [u8], work: &mut [u16], hits: &mut [u16]
     requires { ⌜ isInput (now input) ≡ true ⌝ }
     requires { ⌜ isMotif (firstBlock (now input)) ≡ true ⌝ }
     requires { ⌜ length (now cache) ≡ 512 ⌝ }
-    ensures { λ r. ⌜ queried r (now (cache .exit)) (now (hits .exit)) ≡ queryOutcome embeds (catalogIn (now (input .entry))) emptyBlock (moleculeIn (firstBlock (now (input .entry)))) (length (now (work .entry))) (now (hits .entry)) ⌝ }
+    ensures { λ r. ⌜ (queried r (now (cache .exit)) (now (hits .exit)) ≡ queryOutcome embeds (catalogIn (now (input .entry))) emptyBlock (moleculeIn (firstBlock (now (input .entry)))) (length (now (work .entry))) (now (hits .entry)))
+        × QueryWorkKept r (now (work .entry)) (now (work .exit)) ⌝ }
 {
     let mut bases = [0u8; 160];
     let mut mates = [0u16; 160];
@@ -92,7 +94,7 @@ fn ask_afresh(input: &[u8], cache: &mut [u8], work: &mut [u16], hits: &mut [u16]
 // The text of any refusal.
 fn put_row(out: &mut [u8], number: u8, side: u8, place: usize) -> usize
     requires { ⌜ mostOutput ≤ length (now out) ⌝ }
-    ensures { λ r. ⌜ Put (refusedText number side place) (now (out .entry)) (now (out .exit)) 0 r ⌝ }
+    ensures { λ r. ⌜ TextPut (refusedText number side place) (now (out .entry)) (now (out .exit)) 0 r ⌝ }
 {
     text::put_refused(out, number, side, place)
 }
@@ -101,7 +103,7 @@ fn put_row(out: &mut [u8], number: u8, side: u8, place: usize) -> usize
 fn put_answer(out: &mut [u8], answer: Queried, hits: &[u16]) -> usize
     requires { ⌜ AnswerFits answer (now hits) mostOutput ⌝ }
     requires { ⌜ mostOutput ≤ length (now out) ⌝ }
-    ensures { λ r. ⌜ Put (answerText answer (now (hits .entry))) (now (out .entry)) (now (out .exit)) 0 r ⌝ }
+    ensures { λ r. ⌜ TextPut (answerText answer (now (hits .entry))) (now (out .entry)) (now (out .exit)) 0 r ⌝ }
 {
     match answer {
         Queried::Refused(x) => put_row(out, x.number, x.side, x.place),
@@ -118,8 +120,9 @@ fn write_output(
     hits: &mut [u16],
 ) -> usize
     requires { ⌜ hasRoom (length (now out)) (length (now cache)) (length (now work)) (length (now hits)) ≡ true ⌝ }
-    ensures { λ r. ⌜ Put (screenOutput embeds (now (input .entry))) (now (out .entry)) (now (out .exit)) 0 r ⌝ }
-    ensures { λ r. ⌜ (now (cache .exit) ≡ cacheLeft embeds (now (input .entry)) (now (cache .entry)) (length (now (work .entry))) (now (hits .entry))) × (now (hits .exit) ≡ hitsLeft embeds (now (input .entry)) (length (now (work .entry))) (now (hits .entry))) ⌝ }
+    ensures { λ r. ⌜ TextPut (screenOutput embeds (now (input .entry))) (now (out .entry)) (now (out .exit)) 0 r ⌝ }
+    ensures { λ r. ⌜ (now (cache .exit) ≡ cacheLeft embeds (now (input .entry)) (now (cache .entry)) (length (now (work .entry))) (now (hits .entry))) × (now (hits .exit) ≡ hitsLeft embeds (now (input .entry)) (length (now (work .entry))) (now (hits .entry)))
+        × WorkLeft (isAsked (now (input .entry))) (screenQuery embeds (now (input .entry)) (length (now (work .entry))) (now (hits .entry)) .answer) (now (work .entry)) (now (work .exit)) ⌝ }
 {
     if !is_input(input) {
         return text::put_word(out, 0, b"bad length\n");
@@ -142,7 +145,8 @@ pub fn screen(
     hits: &mut [u16],
 ) -> Screened
     ensures { λ r. ⌜ screened r (now (out .exit)) (now (cache .exit)) (now (hits .exit)) ≡ screenOutcome embeds (now (input .entry)) (now (out .entry)) (now (cache .entry)) (length (now (work .entry))) (now (hits .entry)) ⌝ }
-    ensures { λ r. ⌜ WorkLeft r (now (work .entry)) (now (work .exit)) ⌝ }
+    ensures { λ r. ⌜ WorkLeft (hasRoom (length (now (out .entry))) (length (now (cache .entry))) (length (now (work .entry))) (length (now (hits .entry))) && isAsked (now (input .entry)))
+        (screenQuery embeds (now (input .entry)) (length (now (work .entry))) (now (hits .entry)) .answer) (now (work .entry)) (now (work .exit)) ⌝ }
 {
     if !has_room(out.len(), cache.len(), work.len(), hits.len()) {
         return Screened::NoRoom;

@@ -3,12 +3,12 @@
 ghost use mathlib.Core.List.{[], _∷_, _++_};
 ghost use Prim.Native.Nat.{_+_, _≤_, _<_};
 ghost use lib.ListN.{length, take};
-ghost use Rattle.screening.specs.Text.{digits, line, lines, hitsText, refusedText, Put};
+ghost use Rattle.screening.specs.Text.{digits, line, lines, hitsText, refusedText, TextPut};
 
 // One byte.
 pub(crate) fn put_byte(out: &mut [u8], at: usize, b: u8) -> usize
     requires { ⌜ at < length (now out) ⌝ }
-    ensures { λ r. ⌜ Put (b ∷ []) (now (out .entry)) (now (out .exit)) at r ⌝ }
+    ensures { λ r. ⌜ TextPut (b ∷ []) (now (out .entry)) (now (out .exit)) at r ⌝ }
 {
     out[at] = b;
     at + 1
@@ -17,7 +17,7 @@ pub(crate) fn put_byte(out: &mut [u8], at: usize, b: u8) -> usize
 // The bytes of a word.
 pub(crate) fn put_word(out: &mut [u8], at: usize, word: &[u8]) -> usize
     requires { ⌜ at + length (now word) ≤ length (now out) ⌝ }
-    ensures { λ r. ⌜ Put (now (word .entry)) (now (out .entry)) (now (out .exit)) at r ⌝ }
+    ensures { λ r. ⌜ TextPut (now (word .entry)) (now (out .entry)) (now (out .exit)) at r ⌝ }
 {
     let mut i = 0;
     while i < word.len() {
@@ -30,7 +30,7 @@ pub(crate) fn put_word(out: &mut [u8], at: usize, word: &[u8]) -> usize
 // A number in decimal: its front digits first, which are those of a tenth of it.
 pub(crate) fn put_number(out: &mut [u8], at: usize, n: usize) -> usize
     requires { ⌜ at + length (digits n) ≤ length (now out) ⌝ }
-    ensures { λ r. ⌜ Put (digits n) (now (out .entry)) (now (out .exit)) at r ⌝ }
+    ensures { λ r. ⌜ TextPut (digits n) (now (out .entry)) (now (out .exit)) at r ⌝ }
 {
     if n < 10 {
         return put_byte(out, at, 48 + n as u8);
@@ -42,7 +42,7 @@ pub(crate) fn put_number(out: &mut [u8], at: usize, n: usize) -> usize
 // A word and a number right after it.
 pub(crate) fn put_field(out: &mut [u8], at: usize, word: &[u8], n: usize) -> usize
     requires { ⌜ at + (length (now word) + length (digits n)) ≤ length (now out) ⌝ }
-    ensures { λ r. ⌜ Put (now (word .entry) ++ digits n) (now (out .entry)) (now (out .exit)) at r ⌝ }
+    ensures { λ r. ⌜ TextPut (now (word .entry) ++ digits n) (now (out .entry)) (now (out .exit)) at r ⌝ }
 {
     let past = put_word(out, at, word);
     put_number(out, past, n)
@@ -51,7 +51,7 @@ pub(crate) fn put_field(out: &mut [u8], at: usize, word: &[u8], n: usize) -> usi
 // A number on its own line.
 pub(crate) fn put_line(out: &mut [u8], at: usize, n: usize) -> usize
     requires { ⌜ at + length (line (digits n)) ≤ length (now out) ⌝ }
-    ensures { λ r. ⌜ Put (line (digits n)) (now (out .entry)) (now (out .exit)) at r ⌝ }
+    ensures { λ r. ⌜ TextPut (line (digits n)) (now (out .entry)) (now (out .exit)) at r ⌝ }
 {
     let past = put_number(out, at, n);
     put_byte(out, past, 10)
@@ -61,7 +61,7 @@ pub(crate) fn put_line(out: &mut [u8], at: usize, n: usize) -> usize
 pub(crate) fn put_lines(out: &mut [u8], at: usize, numbers: &[u16], count: usize) -> usize
     requires { ⌜ count ≤ length (now numbers) ⌝ }
     requires { ⌜ at + length (lines (take count (now numbers))) ≤ length (now out) ⌝ }
-    ensures { λ r. ⌜ Put (lines (take count (now (numbers .entry)))) (now (out .entry)) (now (out .exit)) at r ⌝ }
+    ensures { λ r. ⌜ TextPut (lines (take count (now (numbers .entry)))) (now (out .entry)) (now (out .exit)) at r ⌝ }
 {
     let mut past = at;
     let mut i = 0;
@@ -76,7 +76,7 @@ pub(crate) fn put_lines(out: &mut [u8], at: usize, numbers: &[u16], count: usize
 pub(crate) fn put_hits(out: &mut [u8], count: usize, searched: usize, numbers: &[u16]) -> usize
     requires { ⌜ count ≤ length (now numbers) ⌝ }
     requires { ⌜ length (hitsText count searched (take count (now numbers))) ≤ length (now out) ⌝ }
-    ensures { λ r. ⌜ Put (hitsText count searched (take count (now (numbers .entry)))) (now (out .entry)) (now (out .exit)) 0 r ⌝ }
+    ensures { λ r. ⌜ TextPut (hitsText count searched (take count (now (numbers .entry)))) (now (out .entry)) (now (out .exit)) 0 r ⌝ }
 {
     let a = put_field(out, 0, b"hits ", count);
     let b = put_field(out, a, b" searched ", searched);
@@ -87,7 +87,7 @@ pub(crate) fn put_hits(out: &mut [u8], count: usize, searched: usize, numbers: &
 // The text of a refusal.
 pub(crate) fn put_refused(out: &mut [u8], number: u8, side: u8, place: usize) -> usize
     requires { ⌜ length (refusedText number side place) ≤ length (now out) ⌝ }
-    ensures { λ r. ⌜ Put (refusedText number side place) (now (out .entry)) (now (out .exit)) 0 r ⌝ }
+    ensures { λ r. ⌜ TextPut (refusedText number side place) (now (out .entry)) (now (out .exit)) 0 r ⌝ }
 {
     let a = put_field(out, 0, b"refused ", number as usize);
     let b = put_field(out, a, b" ", side as usize);

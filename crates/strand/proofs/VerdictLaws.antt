@@ -13,7 +13,7 @@ use Rattle.strand.specs.declared.Verdict.{Verdict}
 use Rattle.strand.specs.declared.Verdict.the-variants.{Accepted, Refused}
 use Rattle.strand.specs.Vocabulary.{nth, choose, all, some, lowest, sameList}
 use Rattle.strand.specs.Strands.{Strand, sameStrand, motifSide, moleculeSide, isLetter, notLetter, mateOutside, notMutual, crossedAt, isNested, Inside, Paired, Nested, Proper}
-use Rattle.strand.specs.Refusals.{refusal, row, rowAt, first, strandVerdict, pairVerdict, leastLength, greatestLength}
+use Rattle.strand.specs.Refusals.{refusal, refuseIf, refuseAtLowest, first, strandVerdict, pairVerdict, leastLength, greatestLength}
 use Rattle.strand.proofs.ListLaws.{and-true, not-not, true-not, every-at, every-true, some-no, some-none, lowest-all, lowest-before, some-lowest, same-eq}
 use Rattle.strand.proofs.NestingLaws.{uncrossed-apart, apart-uncrossed}
 
@@ -33,29 +33,29 @@ first-pass Accepted vs e = (refl, e)
 first-pass (Refused x) vs e = absurd (unrefused x e)
 
 module _ (number side : ℕ) where
-  pub row-yes : (b : Bool) → b ≡ true → row number side b ≡ refusal number side 0
-  unfolding row choose
+  pub row-yes : (b : Bool) → b ≡ true → refuseIf number side b ≡ refusal number side 0
+  unfolding refuseIf choose
   row-yes b e = rw e
 
-  pub row-no : (b : Bool) → b ≡ false → row number side b ≡ Accepted
-  unfolding row choose
+  pub row-no : (b : Bool) → b ≡ false → refuseIf number side b ≡ Accepted
+  unfolding refuseIf choose
   row-no b e = rw e
 
-  pub row-pass : (b : Bool) → row number side b ≡ Accepted → b ≡ false
-  unfolding row choose
+  pub row-pass : (b : Bool) → refuseIf number side b ≡ Accepted → b ≡ false
+  unfolding refuseIf choose
   row-pass true e = absurd (unrefused _ e)
   row-pass false e = refl
 
-  pub row-at-yes : (n : ℕ) (p : ℕ → Bool) (i : ℕ) → i ≡ lowest n p → i < n → rowAt number side n p ≡ refusal number side i
-  unfolding rowAt choose
+  pub row-at-yes : (n : ℕ) (p : ℕ → Bool) (i : ℕ) → i ≡ lowest n p → i < n → refuseAtLowest number side n p ≡ refusal number side i
+  unfolding refuseAtLowest choose
   row-at-yes n p i e l = rw (← e, lt-ltb i n l)
 
-  pub row-at-no : (n : ℕ) (p : ℕ → Bool) (i : ℕ) → i ≡ lowest n p → n ≤ i → rowAt number side n p ≡ Accepted
-  unfolding rowAt choose
+  pub row-at-no : (n : ℕ) (p : ℕ → Bool) (i : ℕ) → i ≡ lowest n p → n ≤ i → refuseAtLowest number side n p ≡ Accepted
+  unfolding refuseAtLowest choose
   row-at-no n p i e l = rw (← e, le-ltb i n l)
 
-  pub row-at-pass : (n : ℕ) (p : ℕ → Bool) → rowAt number side n p ≡ Accepted → (i : ℕ) → i < n → p i ≡ false
-  unfolding rowAt choose
+  pub row-at-pass : (n : ℕ) (p : ℕ → Bool) → refuseAtLowest number side n p ≡ Accepted → (i : ℕ) → i < n → p i ≡ false
+  unfolding refuseAtLowest choose
   row-at-pass n p e i l = go (ltb (lowest n p) n) refl
     where
       go : (b : Bool) → ltb (lowest n p) n ≡ b → p i ≡ false
@@ -70,7 +70,7 @@ module _ (side least greatest : ℕ) (bs ms : List ℕ) where
   check-1 h = rw (row-yes 1 side _ (ap not (ne-eqb (length ms) (length bs) h)))
 
   module _ (h1 : length ms ≡ length bs) where
-    pass-1 : row 1 side (not (eqb (length ms) (length bs))) ≡ Accepted
+    pass-1 : refuseIf 1 side (not (eqb (length ms) (length bs))) ≡ Accepted
     pass-1 = row-no 1 side _ (ap not (eq-eqb _ _ h1))
 
     pub check-2 : length bs < least → refusal 2 side 0 ≡ strandVerdict side least greatest bs ms
@@ -78,7 +78,7 @@ module _ (side least greatest : ℕ) (bs ms : List ℕ) where
     check-2 h = rw (pass-1, row-yes 2 side _ (lt-ltb (length bs) least h))
 
     module _ (h2 : least ≤ length bs) where
-      pass-2 : row 2 side (ltb (length bs) least) ≡ Accepted
+      pass-2 : refuseIf 2 side (ltb (length bs) least) ≡ Accepted
       pass-2 = row-no 2 side _ (le-ltb _ _ h2)
 
       pub check-3 : greatest < length bs → refusal 3 side 0 ≡ strandVerdict side least greatest bs ms
@@ -86,7 +86,7 @@ module _ (side least greatest : ℕ) (bs ms : List ℕ) where
       check-3 h = rw (pass-1, pass-2, row-yes 3 side _ (lt-ltb greatest (length bs) h))
 
       module _ (h3 : length bs ≤ greatest) (i4 : ℕ) (is4 : i4 ≡ lowest (length bs) (notLetter side bs)) where
-        pass-3 : row 3 side (ltb greatest (length bs)) ≡ Accepted
+        pass-3 : refuseIf 3 side (ltb greatest (length bs)) ≡ Accepted
         pass-3 = row-no 3 side _ (le-ltb _ _ h3)
 
         pub check-4 : i4 < length bs → refusal 4 side i4 ≡ strandVerdict side least greatest bs ms
@@ -94,7 +94,7 @@ module _ (side least greatest : ℕ) (bs ms : List ℕ) where
         check-4 h = rw (pass-1, pass-2, pass-3, row-at-yes 4 side _ (notLetter side bs) i4 is4 h)
 
         module _ (h4 : length bs ≤ i4) (i5 : ℕ) (is5 : i5 ≡ lowest (length ms) (mateOutside ms)) where
-          pass-4 : rowAt 4 side (length bs) (notLetter side bs) ≡ Accepted
+          pass-4 : refuseAtLowest 4 side (length bs) (notLetter side bs) ≡ Accepted
           pass-4 = row-at-no 4 side _ _ i4 is4 h4
 
           pub check-5 : i5 < length ms → refusal 5 side i5 ≡ strandVerdict side least greatest bs ms
@@ -102,7 +102,7 @@ module _ (side least greatest : ℕ) (bs ms : List ℕ) where
           check-5 h = rw (pass-1, pass-2, pass-3, pass-4, row-at-yes 5 side _ (mateOutside ms) i5 is5 h)
 
           module _ (h5 : length ms ≤ i5) (i6 : ℕ) (is6 : i6 ≡ lowest (length ms) (notMutual ms)) where
-            pass-5 : rowAt 5 side (length ms) (mateOutside ms) ≡ Accepted
+            pass-5 : refuseAtLowest 5 side (length ms) (mateOutside ms) ≡ Accepted
             pass-5 = row-at-no 5 side _ _ i5 is5 h5
 
             pub check-6 : i6 < length ms → refusal 6 side i6 ≡ strandVerdict side least greatest bs ms
@@ -110,7 +110,7 @@ module _ (side least greatest : ℕ) (bs ms : List ℕ) where
             check-6 h = rw (pass-1, pass-2, pass-3, pass-4, pass-5, row-at-yes 6 side _ (notMutual ms) i6 is6 h)
 
             module _ (h6 : length ms ≤ i6) where
-              pass-6 : rowAt 6 side (length ms) (notMutual ms) ≡ Accepted
+              pass-6 : refuseAtLowest 6 side (length ms) (notMutual ms) ≡ Accepted
               pass-6 = row-at-no 6 side _ _ i6 is6 h6
 
               pub check-7 : (i7 : ℕ) → i7 ≡ lowest (length ms) (crossedAt ms) → some (length ms) (crossedAt ms) ≡ true
@@ -127,7 +127,7 @@ module _ (side least greatest : ℕ) (bs ms : List ℕ) where
                   none : lowest (length ms) (crossedAt ms) ≡ length ms
                   none = lowest-all (crossedAt ms) (length ms) (λ i l. some-none (crossedAt ms) (length ms) i h l)
 
-                  pass-7 : rowAt 7 side (length ms) (crossedAt ms) ≡ Accepted
+                  pass-7 : refuseAtLowest 7 side (length ms) (crossedAt ms) ≡ Accepted
                   pass-7 = row-at-no 7 side _ (crossedAt ms) (length ms) (sym none) (omega arith)
 
 -- ---- the mates: tests and propositions

@@ -57,12 +57,12 @@ abbrev pub refusal : ℕ → ℕ → ℕ → Verdict
 refusal number side place = Refused (record { number = number; side = side; place = place })
 
 -- A row of the table that names no place: it refuses where its condition holds.
-unfoldable pub row : ℕ → ℕ → Bool → Verdict
-row number side applies = choose applies (refusal number side 0) Accepted
+unfoldable pub refuseIf : ℕ → ℕ → Bool → Verdict
+refuseIf number side applies = choose applies (refusal number side 0) Accepted
 
 -- A row that names the lowest place below n where its condition holds.
-unfoldable pub rowAt : ℕ → ℕ → ℕ → (ℕ → Bool) → Verdict
-rowAt number side n applies = choose (ltb (lowest n applies) n) (refusal number side (lowest n applies)) Accepted
+unfoldable pub refuseAtLowest : ℕ → ℕ → ℕ → (ℕ → Bool) → Verdict
+refuseAtLowest number side n applies = choose (ltb (lowest n applies) n) (refusal number side (lowest n applies)) Accepted
 
 -- The first refusal of a list of rows.
 unfoldable pub first : List Verdict → Verdict
@@ -74,13 +74,13 @@ first (Refused r ∷ vs) = Refused r
 unfoldable pub strandVerdict : ℕ → ℕ → ℕ → List ℕ → List ℕ → Verdict
 strandVerdict side least greatest bases mates =
     first
-    (row unequalLengths side (not (eqb (length mates) (length bases)))
-    ∷ row noBases side (ltb (length bases) least)
-    ∷ row tooLong side (ltb greatest (length bases))
-    ∷ rowAt badLetter side (length bases) (notLetter side bases)
-    ∷ rowAt badMate side (length mates) (mateOutside mates)
-    ∷ rowAt matesNotMutual side (length mates) (notMutual mates)
-    ∷ rowAt arcsCross side (length mates) (crossedAt mates)
+    (refuseIf unequalLengths side (not (eqb (length mates) (length bases)))
+    ∷ refuseIf noBases side (ltb (length bases) least)
+    ∷ refuseIf tooLong side (ltb greatest (length bases))
+    ∷ refuseAtLowest badLetter side (length bases) (notLetter side bases)
+    ∷ refuseAtLowest badMate side (length mates) (mateOutside mates)
+    ∷ refuseAtLowest matesNotMutual side (length mates) (notMutual mates)
+    ∷ refuseAtLowest arcsCross side (length mates) (crossedAt mates)
     ∷ [])
 
 -- 01, lengths: 1 base at the least, everywhere; 4,096 at the most in the direct calls.

@@ -1,4 +1,4 @@
--- Strands: what molecules and motifs are made of, and when one is nested. Assumes nothing.
+-- Strands: what molecules and motifs are made of, when one is nested and when proper; the letter rule, the sides, and the key of a motif. Assumes nothing.
 use Prim.Native.Nat.{ℕ, _+_, _≤_, _<_}
 use mathlib.Core.Path.{_≡_}
 use mathlib.Core.Bool.{Bool, true, not, _&&_, _||_}

@@ -1,4 +1,4 @@
-// Letters.
+// Letters: which bytes are one, and the lowest base that is none.
 ghost use mathlib.Core.Path.{_≡_};
 ghost use lib.ListN.{length};
 ghost use Rattle.strand.specs.Vocabulary.{lowest};

@@ -1,5 +1,5 @@
 // The cases of the input, a line of 48 bytes each: a command, its arguments in fixed columns, and a name from column 26.
-// Small strands: `s` has bases from column 2 and mates, a digit each, from column 13 (a letter means 65535); it is checked as a molecule and as
+// Small strands: `s` has bases from column 2 and mates, a digit each, from column 13 (`X` means 65535); it is checked as a molecule and as
 // a motif. `l` is checked with the least and the greatest length of columns 24 and 25. `p` is a motif, checked with the strand A, 0 as the
 // molecule; `q` is a molecule, checked with the motif A, 0; `w` is checked as both.
 // Long strands stay from line to line: `f a b` gives b bases mates of form a, `b a v` and `m a v` set a base and a mate, `c a b` checks the
@@ -7,64 +7,16 @@
 use super::make;
 use super::tell;
 use libc::STDIN_FILENO;
-ghost use Prim.Native.Nat.{_≤_};
-
-// The byte at i, and a blank past the end.
-fn byte_at(text: &[u8], i: usize) -> u8 {
-    if i < text.len() {
-        return text[i];
-    }
-    32
-}
-
-// How many of the ten bytes from i come before the first blank.
-fn filled(text: &[u8], i: usize) -> usize
-    ensures { λ r. ⌜ r ≤ 10 ⌝ }
-{
-    let mut k = 0;
-    while k < 10 {
-        if byte_at(text, i % 64 + k) == 32 {
-            return k;
-        }
-        k += 1;
-    }
-    10
-}
-
-// A digit's value, and 65535 for a letter.
-fn digit(b: u8) -> u16 {
-    if b < 48 {
-        return 0;
-    }
-    if 57 < b {
-        return 65535;
-    }
-    (b - 48) as u16
-}
-
-fn digit_at(text: &[u8], i: usize) -> usize {
-    make::wide(digit(byte_at(text, i)))
-}
-
-// The number of five digits from i.
-fn number(text: &[u8], i: usize) -> usize {
-    let mut n: usize = 0;
-    let mut k = 0;
-    while k < 5 {
-        n = n % 100000 * 10 + digit_at(text, i % 64 + k) % 10;
-        k += 1;
-    }
-    n
-}
-
-// The mates from column 13.
-fn read_mates(line: &[u8], mates: &mut [u16]) {
-    let mut k = 0;
-    while k < 10 {
-        make::set(mates, k, digit_at(line, 13 + k));
-        k += 1;
-    }
-}
+use testing::input;
+use testing::input::digit_at;
+use testing::input::digits;
+use testing::input::filled;
+use testing::input::number;
+use testing::output::say;
+use testing::slices::first;
+use testing::slices::part;
+use testing::slices::set_byte;
+use testing::slices::set_entry;
 
 // The answers for a small strand.
 fn judge(kind: u8, bases: &[u8], mates: &[u16], least: usize, greatest: usize) {
@@ -85,39 +37,16 @@ fn judge(kind: u8, bases: &[u8], mates: &[u16], least: usize, greatest: usize) {
     }
 }
 
-fn cut(kind: u8, line: &[u8], mates: &[u16]) {
-    if line.len() < 47 {
-        return;
-    }
-    if mates.len() < 10 {
-        return;
-    }
-    let n = 2 + filled(line, 2);
-    let m = filled(line, 13);
+fn small(kind: u8, line: &[u8]) {
+    let mut mates = [0u16; 10];
+    digits(line, 13, &mut mates);
     judge(
         kind,
-        &line[2..n],
-        &mates[..m],
+        part(line, 2, filled(line, 2, 10)),
+        first(&mates, filled(line, 13, 10)),
         digit_at(line, 24),
         digit_at(line, 25),
     );
-}
-
-fn small(kind: u8, line: &[u8]) {
-    let mut mates = [0u16; 10];
-    read_mates(line, &mut mates);
-    cut(kind, line, &mates);
-}
-
-// The first n bases and the first m mates.
-fn first(bases: &[u8], n: usize, mates: &[u16], m: usize) {
-    if bases.len() < n {
-        return;
-    }
-    if mates.len() < m {
-        return;
-    }
-    tell::both(&bases[..n], &mates[..m]);
 }
 
 fn long(kind: u8, a: usize, b: usize, bases: &mut [u8], mates: &mut [u16]) {
@@ -125,13 +54,13 @@ fn long(kind: u8, a: usize, b: usize, bases: &mut [u8], mates: &mut [u16]) {
         return make::lay(a, b, mates);
     }
     if kind == b'b' {
-        return make::set_base(bases, a, (b % 256) as u8);
+        return set_byte(bases, a, b);
     }
     if kind == b'm' {
-        return make::set(mates, a, b);
+        return set_entry(mates, a, b);
     }
     if kind == b'c' {
-        return first(bases, a, mates, b);
+        return tell::both(part(bases, 0, a), first(mates, b));
     }
     if kind == b'x' {
         return tell::pair(bases, mates, b"A", &[0]);
@@ -149,21 +78,23 @@ fn is_small(kind: u8) -> bool {
 }
 
 fn case(line: &[u8], bases: &mut [u8], mates: &mut [u16]) {
-    let kind = byte_at(line, 0);
+    let kind = input::kind(line);
     if is_small(kind) {
         return small(kind, line);
     }
-    long(kind, number(line, 2), number(line, 8), bases, mates);
+    long(kind, number(line, 2, 5), number(line, 8, 5), bases, mates);
+}
+
+fn told(line: &[u8], bases: &mut [u8], mates: &mut [u16]) {
+    say(line);
+    case(line, bases, mates);
+    say(b"\n");
 }
 
 fn cases(text: &[u8], bases: &mut [u8], mates: &mut [u16]) {
     let mut i = 0;
     while i < text.len() / 48 {
-        let from = i * 48;
-        let end = from + 47;
-        tell::say(&text[from..end]);
-        case(&text[from..end], bases, mates);
-        tell::say(b"\n");
+        told(part(text, i % 65536 * 48, 47), bases, mates);
         i += 1;
     }
 }

@@ -1,50 +1,23 @@
 // Mates by rule, and random strands.
-
-pub fn next(x: u64) -> u64 {
-    x % 2147483647 * 48271 % 2147483647
-}
+use testing::random::letter;
+use testing::random::next;
+use testing::slices::bond;
+use testing::slices::entry_at;
+use testing::slices::set_byte;
+use testing::slices::set_entry;
 
 // A number from 0 to n.
-pub fn up_to(n: usize, x: u64) -> usize {
+pub fn up_to(n: usize, x: usize) -> usize {
     if n < 65536 {
-        return (x % 65536) as usize % (n + 1);
+        return x % 65536 % (n + 1);
     }
     0
 }
 
-pub fn wide(x: u16) -> usize {
-    x as usize
-}
-
-// The entry at i, and past the end a number that is no position.
-pub fn entry(s: &[u16], i: usize) -> usize {
-    if i < s.len() {
-        return wide(s[i]);
-    }
-    70000
-}
-
-pub fn set_base(bases: &mut [u8], i: usize, b: u8) {
-    if i < bases.len() {
-        bases[i] = b;
-    }
-}
-
-pub fn set(s: &mut [u16], i: usize, v: usize) {
-    if i < s.len() {
-        s[i] = (v % 65536) as u16;
-    }
-}
-
-pub fn bond(mates: &mut [u16], i: usize, j: usize) {
-    set(mates, i, j);
-    set(mates, j, i);
-}
-
 // Bonds x with y, and their mates with each other.
 pub fn exchange(mates: &mut [u16], x: usize, y: usize) {
-    let a = entry(mates, x);
-    let b = entry(mates, y);
+    let a = entry_at(mates, x);
+    let b = entry_at(mates, y);
     bond(mates, x, y);
     bond(mates, a, b);
 }
@@ -70,33 +43,24 @@ fn by_rule(form: usize, n: usize, i: usize) -> usize {
 pub fn lay(form: usize, n: usize, mates: &mut [u16]) {
     let mut i = 0;
     while i < n {
-        set(mates, i, by_rule(form, n, i));
+        set_entry(mates, i, by_rule(form, n, i));
         i += 1;
     }
 }
 
 // A letter; in even kinds sometimes any byte.
-fn base(kind: usize, x: u64) -> u8 {
+fn base(kind: usize, x: usize) -> usize {
     if kind % 2 == 0 {
         if x / 64 % 32 == 0 {
-            return (x / 2048 % 256) as u8;
+            return x / 2048 % 256;
         }
     }
-    if x / 16 % 4 == 0 {
-        return 65;
-    }
-    if x / 16 % 4 == 1 {
-        return 67;
-    }
-    if x / 16 % 4 == 2 {
-        return 71;
-    }
-    85
+    letter(x / 16 % 4)
 }
 
 // Gives i no bond or one with the last open position, or opens it, and gives how many are open.
-fn fold(mates: &mut [u16], stack: &mut [u16], depth: usize, i: usize, d: u64) -> usize {
-    set(mates, i, i);
+fn fold(mates: &mut [u16], stack: &mut [u16], depth: usize, i: usize, d: usize) -> usize {
+    set_entry(mates, i, i);
     if d == 0 {
         return depth;
     }
@@ -104,20 +68,20 @@ fn fold(mates: &mut [u16], stack: &mut [u16], depth: usize, i: usize, d: u64) ->
         if depth == 0 {
             return 0;
         }
-        bond(mates, entry(stack, depth - 1), i);
+        bond(mates, entry_at(stack, depth - 1), i);
         return depth - 1;
     }
     if stack.len() <= depth {
         return depth;
     }
-    set(stack, depth, i);
+    set_entry(stack, depth, i);
     depth + 1
 }
 
 // Gives position i its base and its mate: in kinds 0 and 1 any from 0 to n, else one of a nested strand.
 fn step(
     kind: usize,
-    x: u64,
+    x: usize,
     depth: usize,
     n: usize,
     i: usize,
@@ -125,16 +89,16 @@ fn step(
     mates: &mut [u16],
     stack: &mut [u16],
 ) -> usize {
-    set_base(bases, i, base(kind, x));
+    set_byte(bases, i, base(kind, x));
     if kind < 2 {
-        set(mates, i, up_to(n, x));
+        set_entry(mates, i, up_to(n, x));
         return 0;
     }
     fold(mates, stack, depth, i, x / 1024 % 3)
 }
 
 // In kind 1 the seed's digits in base 6 are the mates.
-fn advance(kind: usize, x: u64) -> u64 {
+fn advance(kind: usize, x: usize) -> usize {
     if kind == 1 {
         return x / 6;
     }
@@ -144,7 +108,7 @@ fn advance(kind: usize, x: u64) -> u64 {
 // A strand of n bases.
 pub fn fill(
     kind: usize,
-    seed: u64,
+    seed: usize,
     n: usize,
     bases: &mut [u8],
     mates: &mut [u16],

@@ -1,6 +1,6 @@
 // The table's rows 1 to 7, written out word by word.
-use super::make::entry;
-use super::tell::code;
+use testing::refusal::code;
+use testing::slices::entry_at;
 
 fn letter(b: u8) -> bool {
     match b {
@@ -21,10 +21,10 @@ fn cross(a: usize, b: usize, i: usize, j: usize) -> bool {
 
 // Some arc (a, b) crosses the arc (i, j).
 fn crossed(mates: &[u16], i: usize) -> bool {
-    let j = entry(mates, i);
+    let j = entry_at(mates, i);
     let mut a = 0;
     while a < mates.len() {
-        if cross(a, entry(mates, a), i, j) {
+        if cross(a, entry_at(mates, a), i, j) {
             return true;
         }
         a += 1;
@@ -41,10 +41,10 @@ fn applies(row: usize, bases: &[u8], mates: &[u16], i: usize) -> bool {
         return !letter(bases[i]);
     }
     if row == 5 {
-        return bases.len() <= entry(mates, i);
+        return bases.len() <= entry_at(mates, i);
     }
     if row == 6 {
-        return entry(mates, entry(mates, i)) != i;
+        return entry_at(mates, entry_at(mates, i)) != i;
     }
     crossed(mates, i)
 }

@@ -2,6 +2,12 @@
 use super::make;
 use super::naive;
 use super::tell;
+use testing::output::number;
+use testing::output::say;
+use testing::random::next;
+use testing::slices::first;
+use testing::slices::part;
+use testing::slices::set_entry;
 
 fn bump(counts: &mut [usize], k: usize) {
     if k < counts.len() {
@@ -14,7 +20,7 @@ fn bump(counts: &mut [usize], k: usize) {
 // Counts an answer by the row that it should have (0 to 7), as wrong where it differs (8), and among all (9).
 fn count(counts: &mut [usize], got: usize, want: usize) {
     bump(counts, 9);
-    bump(counts, want / 10000000);
+    bump(counts, want / 100000);
     if got != want {
         bump(counts, 8);
     }
@@ -40,24 +46,13 @@ fn judge(bases: &[u8], mates: &[u16], least: usize, counts: &mut [usize]) {
     judge_motif(bases, mates, least, counts);
 }
 
-// The first n bases and the first m mates.
-fn cut(bases: &[u8], n: usize, mates: &[u16], m: usize, least: usize, counts: &mut [usize]) {
-    if bases.len() < n {
-        return;
-    }
-    if mates.len() < m {
-        return;
-    }
-    judge(&bases[..n], &mates[..m], least, counts);
-}
-
 // Kind 3: one mate altered. Kind 5: two arcs exchanged.
-fn alter(kind: usize, n: usize, x: u64, mates: &mut [u16]) {
+fn alter(kind: usize, n: usize, x: usize, mates: &mut [u16]) {
     if n == 0 {
         return;
     }
     if kind == 3 {
-        return make::set(mates, make::up_to(n - 1, x), make::up_to(n, x / 128));
+        return set_entry(mates, make::up_to(n - 1, x), make::up_to(n, x / 128));
     }
     if kind == 5 {
         make::exchange(mates, make::up_to(n - 1, x), make::up_to(n - 1, x / 128));
@@ -65,7 +60,7 @@ fn alter(kind: usize, n: usize, x: u64, mates: &mut [u16]) {
 }
 
 // How many bases, and how many mates: of each sixteenth strand any number up to that of the bases.
-fn length(kind: usize, x: u64) -> usize {
+fn length(kind: usize, x: usize) -> usize {
     if kind == 0 {
         return make::up_to(4, x);
     }
@@ -75,7 +70,7 @@ fn length(kind: usize, x: u64) -> usize {
     make::up_to(40, x)
 }
 
-fn mates_of(kind: usize, n: usize, x: u64) -> usize {
+fn mates_of(kind: usize, n: usize, x: usize) -> usize {
     if kind == 1 {
         return n;
     }
@@ -85,17 +80,17 @@ fn mates_of(kind: usize, n: usize, x: u64) -> usize {
     n
 }
 
-fn seed(kind: usize, i: u64, x: u64) -> u64 {
+fn seed(kind: usize, i: usize, x: usize) -> usize {
     if kind == 1 {
         return i;
     }
-    make::next(x % 65536 + 1)
+    next(x % 65536 + 1)
 }
 
 fn made(
     kind: usize,
-    i: u64,
-    x: u64,
+    i: usize,
+    x: usize,
     n: usize,
     bases: &mut [u8],
     mates: &mut [u16],
@@ -105,12 +100,10 @@ fn made(
     alter(kind, n, x / 3, mates);
 }
 
-fn compared(kind: usize, x: u64, n: usize, bases: &[u8], mates: &[u16], counts: &mut [usize]) {
-    cut(
-        bases,
-        n,
-        mates,
-        mates_of(kind, n, x / 5),
+fn compared(kind: usize, x: usize, n: usize, bases: &[u8], mates: &[u16], counts: &mut [usize]) {
+    judge(
+        part(bases, 0, n),
+        first(mates, mates_of(kind, n, x / 5)),
         make::up_to(3, x / 7),
         counts,
     );
@@ -119,13 +112,13 @@ fn compared(kind: usize, x: u64, n: usize, bases: &[u8], mates: &[u16], counts: 
 // Strand i of the kind.
 fn round(
     kind: usize,
-    i: u64,
+    i: usize,
     bases: &mut [u8],
     mates: &mut [u16],
     stack: &mut [u16],
     counts: &mut [usize],
 ) {
-    let x = make::next(i % 65536 + 99);
+    let x = next(i % 65536 + 99);
     let n = length(kind, x);
     made(kind, i, x, n, bases, mates, stack);
     compared(kind, x, n, bases, mates, counts);
@@ -133,7 +126,7 @@ fn round(
 
 fn rounds(
     kind: usize,
-    times: u64,
+    times: usize,
     bases: &mut [u8],
     mates: &mut [u16],
     stack: &mut [u16],
@@ -148,7 +141,7 @@ fn rounds(
 
 fn tell_count(counts: &[usize], k: usize) {
     if k < counts.len() {
-        tell::number(counts[k]);
+        number(b" ", counts[k]);
     }
 }
 
@@ -165,18 +158,18 @@ fn report_rows(counts: &[usize]) {
 }
 
 fn report(name: &[u8], counts: &[usize]) {
-    tell::say(name);
-    tell::say(b": compared");
+    say(name);
+    say(b": compared");
     tell_count(counts, 9);
-    tell::say(b", disagreements");
+    say(b", disagreements");
     tell_count(counts, 8);
-    tell::say(b", accepted and by row");
+    say(b", accepted and by row");
     report_rows(counts);
-    tell::say(b"\n");
+    say(b"\n");
 }
 
 // So many strands of a kind.
-fn family(name: &[u8], kind: usize, times: u64) {
+fn family(name: &[u8], kind: usize, times: usize) {
     let mut bases = [0u8; 64];
     let mut mates = [0u16; 64];
     let mut stack = [0u16; 64];

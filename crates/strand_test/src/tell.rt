@@ -1,28 +1,14 @@
 // Answers as numbers and as text. The number of an answer is 0, or has row, side and place in it.
 use strand::Verdict;
-
-pub fn code(row: usize, side: usize, place: usize) -> usize {
-    row % 100 * 10000000 + side % 10 * 1000000 + place % 1000000
-}
-
-fn wide(x: u8) -> usize {
-    x as usize
-}
+use testing::output::number;
+use testing::output::say;
+use testing::refusal::code;
 
 pub fn code_of(v: Verdict) -> usize {
     match v {
         Verdict::Accepted => 0,
-        Verdict::Refused(r) => code(wide(r.number), wide(r.side), r.place),
+        Verdict::Refused(r) => code(r.number as usize, r.side as usize, r.place),
     }
-}
-
-pub fn say(text: &[u8]) {
-    io::write_all(1, text);
-}
-
-pub fn number(n: usize) {
-    say(b" ");
-    io::print_decimal(1, n as u64);
 }
 
 pub fn answer(a: usize) {
@@ -30,10 +16,9 @@ pub fn answer(a: usize) {
         say(b" accepted");
         return;
     }
-    say(b" refused");
-    number(a / 10000000);
-    number(a / 1000000 % 10);
-    number(a % 1000000);
+    number(b" refused ", a / 100000);
+    number(b" ", a / 10000 % 10);
+    number(b" ", a % 10000);
 }
 
 // A strand as a molecule and as a motif.

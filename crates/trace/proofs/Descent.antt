@@ -9,17 +9,18 @@ use native.Mathlib.Omega.{arith}
 use lib.ListN.{length, List·getD-eq-default}
 use Rattle.strand.specs.Vocabulary.{nth}
 use Rattle.strand.specs.Strands.{Nested}
-use Rattle.embedding.specs.Embedding.{Emb, letters}
+use Rattle.embedding.specs.Embedding.{Emb, lettersFit}
 use Rattle.embedding.specs.Row.{Closed, Split, Reach, Best, IsRow}
 use Rattle.embedding.proofs.Splitting.{agree, join}
 use Rattle.embedding.proofs.Recurrence.{combine}
 use Rattle.embedding.proofs.Arc.{arc-closed}
 use Rattle.embedding.proofs.Rows.{arc-best}
-use Rattle.rows.specs.Rows.{Setting, Written, Sealed, Heavy, Room, matches}
+use Rattle.rows.specs.Rows.{Written, matches}
+use Rattle.arcs.specs.Arcs.{Setting, Sealed, Heavy, Room}
 use Rattle.rows.proofs.Parts.{part, back, part-length, part-at, back-under, back-over}
-use Rattle.rows.proofs.Arcs.{heavy-left, room-any}
+use Rattle.arcs.proofs.Arcs.{heavy-left, room-any}
 use Rattle.trace.specs.declared.turn.Turn.{Turn}
-use Rattle.trace.specs.Trace.{Turns, Turned, Ended, Laid, LaidBut, Kept, Ready}
+use Rattle.trace.specs.Trace.{Turns, Turned, Ended, Laid, LaidBut, Kept, SecondRow}
 use Rattle.trace.proofs.Top.{window-low, window-high, window-best}
 use Rattle.trace.proofs.Turning.{shift, no-base, turned, laid-none, laid-wide}
 
@@ -38,7 +39,7 @@ module _ {p pm q qm : List ℕ} where
       }
 
   -- All is left out.
-  pub but-all : {j k s e : ℕ} (v : List ℕ) → Reach (letters p q) (nth pm) (nth qm) k j k s e → LaidBut p pm q qm j k s e j k s e v v
+  pub but-all : {j k s e : ℕ} (v : List ℕ) → Reach (lettersFit p q) (nth pm) (nth qm) k j k s e → LaidBut p pm q qm j k s e j k s e v v
   but-all v R =
       record {
         long = refl;
@@ -54,7 +55,7 @@ module _ {p pm q qm : List ℕ} where
   pub but-full : {j k s e a b l r : ℕ} {v w : List ℕ} → r ≤ l → LaidBut p pm q qm j k s e a b l r v w → Laid p pm q qm j k s e v w
   but-full {j} {k} {s} {e} {a} {b} {l} {r} {v} {w} h X =
       record { long = X .long; before = X .before; after = X .after; embeds = X .embeds (nth w) (λ x f g. refl) (λ x f g. refl) part } where
-        part : Emb (letters p q) (nth pm) (nth qm) a b l r (nth w)
+        part : Emb (lettersFit p q) (nth pm) (nth qm) a b l r (nth w)
         part = elim (decLt a b) [
           | yes t ↦ absurd (omega (arith, X .inner .embeds .1 .low a (omega arith) t, X .inner .embeds .1 .high a (omega arith) t))
           | no t ↦ shift a b l r refl (omega (arith, X .inner .from)) refl refl (no-base a l r (nth w))
@@ -133,16 +134,16 @@ module _ {p pm q qm : List ℕ} where
 
   -- The turn at an arc, from its inner row for all of the part.
   pub turned-part : {j to s r : ℕ} {row : ℕ → ℕ} (t : Turn) → Setting p pm q qm j to → j < to → s < r → r < length q → nth qm s ≡ r
-      → IsRow (letters p q) (nth pm) (nth qm) j to (s + 1) r row
+      → IsRow (lettersFit p q) (nth pm) (nth qm) j to (s + 1) r row
       → Turns (matches p (nth q s)) (matches p (nth q r)) (nth pm) to j (row j) (row (j + 1)) t → Turned p pm q qm to j s r t
   turned-part {j} {to} {s} {r} {row} t S jt sr rn arc A T =
-      let A′ : IsRow (letters p q) (nth pm) (nth qm) j to (suc s) r row = rw (← (add-one s)) A in
+      let A′ : IsRow (lettersFit p q) (nth pm) (nth qm) j to (suc s) r row = rw (← (add-one s)) A in
       turned to s r S jt (omega arith) sr rn arc A
       (rw (add-one r, add-one j) (arc-best (S .motif) (S .window .ends) (S .molecule) sr rn arc A′ j (omega arith) (omega arith))) t T
 
   -- The same, from its inner row for a window that is as long as the arc.
   pub turned-at : {j to : ℕ} {row : ℕ → ℕ} (z s r : ℕ) (t : Turn) → Setting p pm q qm j to → j < to → z ≡ min to (j + (r + 1 - s)) → s < r → r < length q → nth qm s ≡ r
-      → IsRow (letters p q) (nth pm) (nth qm) j z (s + 1) r row
+      → IsRow (lettersFit p q) (nth pm) (nth qm) j z (s + 1) r row
       → Turns (matches p (nth q s)) (matches p (nth q r)) (nth pm) z j (row j) (row (j + 1)) t → Turned p pm q qm to j s r t
   turned-at z s r t S jt e sr rn arc A T =
       turned z s r S (window-low z s r S jt e sr rn arc) (window-high z s r S jt e sr rn arc) sr rn arc A (window-best z s r S jt e sr rn arc A) t T
@@ -177,7 +178,7 @@ module _ {p pm q qm : List ℕ} where
   kept-back {j} {t} {stop} {work} ys j′ t′ a b le K = kept-under j′ t′ a b (λ k h. back-under (length p + 1) work le ys k h) K
 
   -- The row past the first, as the first row of the part.
-  pub kept-part : {j t s r : ℕ} {old new : List ℕ} → t ≤ length p → nth qm s ≡ r → length p + 1 ≤ length new → Ready p pm q qm j t s r old new
+  pub kept-part : {j t s r : ℕ} {old new : List ℕ} → t ≤ length p → nth qm s ≡ r → length p + 1 ≤ length new → SecondRow p pm q qm j t s r old new
       → Kept p pm q qm j t s (part (length p + 1) new)
   kept-part {j} {t} {s} {r} {old} {new} h e le R =
       record {
@@ -191,8 +192,8 @@ module _ {p pm q qm : List ℕ} where
 
   -- What the walk over the tree leaves in the part past the first row.
   pub ready : {j t s r : ℕ} {old mid : List ℕ} {f : ℕ → ℕ} (ys : List ℕ) → length p + 1 ≤ length mid
-      → Written f old mid (length p + 1 + j) (length p + 1 + t + 1) → IsRow (letters p q) (nth pm) (nth qm) j t (s + 1) r (nth ys)
-      → Ready p pm q qm j t s r old (back (length p + 1) mid ys)
+      → Written f old mid (length p + 1 + j) (length p + 1 + t + 1) → IsRow (lettersFit p q) (nth pm) (nth qm) j t (s + 1) r (nth ys)
+      → SecondRow p pm q qm j t s r old (back (length p + 1) mid ys)
   ready {j} {t} {s} {r} {old} {mid} ys le W A =
       record {
         under = λ k h. back-under (length p + 1) mid le ys k h ∙ W .under k (omega arith);
@@ -250,11 +251,11 @@ module _ {p pm q qm : List ℕ} where
   but-empty j t s e l r v h g = let i : t ≡ j = omega arith in rw i (but-none l r (omega arith) (laid-none j s e v))
 
   -- All of it was placed.
-  pub but-taken : {t j k s e : ℕ} {v w : List ℕ} (l r : ℕ) → Best (letters p q) (nth pm) (nth qm) t j k s e → Reach (letters p q) (nth pm) (nth qm) t j t s e
+  pub but-taken : {t j k s e : ℕ} {v w : List ℕ} (l r : ℕ) → Best (lettersFit p q) (nth pm) (nth qm) t j k s e → Reach (lettersFit p q) (nth pm) (nth qm) t j t s e
       → Laid p pm q qm j k s e v w → LaidBut p pm q qm j t s e j j l r v w
   but-taken l r B R X = rw (← (all-taken B R)) (but-none l r (B .reach .from) X)
 
-  pub but-filled : {t j k s i e : ℕ} {v w : List ℕ} (l r : ℕ) → t ≤ k → i ≤ e → Best (letters p q) (nth pm) (nth qm) t j k s i → Laid p pm q qm j k s i v w
+  pub but-filled : {t j k s i e : ℕ} {v w : List ℕ} (l r : ℕ) → t ≤ k → i ≤ e → Best (lettersFit p q) (nth pm) (nth qm) t j k s i → Laid p pm q qm j k s i v w
       → LaidBut p pm q qm j t s e j j l r v w
   but-filled {t} {j} {k} {s} {i} {e} l r h ie B X =
       let z : t ≡ k = omega (arith, B .reach .upto) in
@@ -262,7 +263,7 @@ module _ {p pm q qm : List ℕ} where
 
   -- The rest of it was placed behind.
   pub but-rest : {t j n k s i e a b l r : ℕ} {u v w : List ℕ} → s ≤ i → i ≤ e → Split (nth qm) s i e
-      → Best (letters p q) (nth pm) (nth qm) t j n s i → Best (letters p q) (nth pm) (nth qm) t n k i e → Reach (letters p q) (nth pm) (nth qm) t j t s e
+      → Best (lettersFit p q) (nth pm) (nth qm) t j n s i → Best (lettersFit p q) (nth pm) (nth qm) t n k i e → Reach (lettersFit p q) (nth pm) (nth qm) t j t s e
       → LaidBut p pm q qm j n s i a b l r u v → Laid p pm q qm n k i e v w → LaidBut p pm q qm j t s e a b l r u w
   but-rest {t} {j} {n} {k} {s} {i} {e} si ie S B B′ R X Y =
       rw (← (all-taken (combine si ie S B B′) R)) (but-before n i (B′ .reach .from) si ie (B .reach .closed) S X Y)

@@ -7,8 +7,8 @@ use native.Mathlib.Omega.{arith}
 use lib.ListN.{length, List·getD-eq-default}
 use Rattle.strand.specs.Vocabulary.{nth}
 use Rattle.strand.specs.Strands.{Nested}
-use Rattle.rows.specs.Rows.{Sealed, Heavy}
-use Rattle.rows.proofs.Arcs.{inner-sealed, heavy-end, heavy-left, light-left, heavy-same}
+use Rattle.arcs.specs.Arcs.{Sealed, Heavy}
+use Rattle.arcs.proofs.Arcs.{inner-sealed, heavy-end, heavy-left, light-left, heavy-same}
 use Rattle.trace.specs.Trace.{Below, here, down, OnPath, Lower, Between, Levels, ArcLevels}
 
 -- One arc further down.

@@ -8,13 +8,14 @@ use native.Mathlib.Omega.{arith}
 use lib.ListN.{length}
 use Rattle.strand.specs.Vocabulary.{nth}
 use Rattle.strand.specs.Strands.{Nested}
-use Rattle.embedding.specs.Embedding.{letters}
+use Rattle.embedding.specs.Embedding.{lettersFit}
 use Rattle.embedding.specs.Row.{Best, IsRow, unitAt, arcAt}
 use Rattle.embedding.proofs.Recurrence.{later, empty, combine}
 use Rattle.embedding.proofs.Window.{widen}
 use Rattle.embedding.proofs.Rows.{unit-best, arc-best}
-use Rattle.rows.specs.Rows.{Setting, Sealed, matches}
-use Rattle.rows.proofs.Arcs.{seal-on}
+use Rattle.rows.specs.Rows.{matches}
+use Rattle.arcs.specs.Arcs.{Setting, Sealed}
+use Rattle.arcs.proofs.Arcs.{seal-on}
 
 -- A window within a window.
 pub narrow : {p pm q qm : List ℕ} {from to : ℕ} (a z : ℕ) → Setting p pm q qm from to → a ≤ z → z ≤ length p → Setting p pm q qm a z
@@ -62,11 +63,11 @@ module _ {p pm q qm : List ℕ} {j to : ℕ} (z l r : ℕ) (S : Setting p pm q q
   pub window-of : Setting p pm q qm j z
   window-of = narrow j z S (omega (arith, window-low)) (omega (arith, window-high, S .window .ends))
 
-  module _ {row : ℕ → ℕ} (A : IsRow (letters p q) (nth pm) (nth qm) j z (l + 1) r row) where
-    inner : IsRow (letters p q) (nth pm) (nth qm) j z (suc l) r row
+  module _ {row : ℕ → ℕ} (A : IsRow (lettersFit p q) (nth pm) (nth qm) j z (l + 1) r row) where
+    inner : IsRow (lettersFit p q) (nth pm) (nth qm) j z (suc l) r row
     inner = rw (← (add-one l)) A
 
-    pub window-best : Best (letters p q) (nth pm) (nth qm) to j (arcAt (matches p (nth q l)) (matches p (nth q r)) (nth pm) z (row j) (row (j + 1)) j) l (r + 1)
+    pub window-best : Best (lettersFit p q) (nth pm) (nth qm) to j (arcAt (matches p (nth q l)) (matches p (nth q r)) (nth pm) z (row j) (row (j + 1)) j) l (r + 1)
     window-best =
         rw (add-one r, add-one j)
         (widen window-high (λ h. omega arith)
@@ -77,7 +78,7 @@ pub record Walked (p pm q qm : List ℕ) (to from lo hi j i : ℕ) : Type 0 wher
   pub low : lo ≤ i
   pub high : i ≤ hi
   pub seal : Sealed qm lo i
-  pub best : Best (letters p q) (nth pm) (nth qm) to from j lo i
+  pub best : Best (lettersFit p q) (nth pm) (nth qm) to from j lo i
 
 module _ {p pm q qm : List ℕ} {to from lo hi : ℕ} where
   pub walked-none : from ≤ to → lo ≤ hi → Walked p pm q qm to from lo hi from lo
@@ -90,7 +91,7 @@ module _ {p pm q qm : List ℕ} {to from lo hi : ℕ} where
     pub walked-in : r < hi
     walked-in = omega (arith, O .high i (T .low) ih)
 
-    pub walked-step : (k : ℕ) → Best (letters p q) (nth pm) (nth qm) to j k i (r + 1) → Walked p pm q qm to from lo hi k (r + 1)
+    pub walked-step : (k : ℕ) → Best (lettersFit p q) (nth pm) (nth qm) to j k i (r + 1) → Walked p pm q qm to from lo hi k (r + 1)
     walked-step k B =
         let Z : Sealed qm lo (r + 1) = rw (add-one r, e) (seal-on N i O hn (T .low) ih (T .seal) .0) in
         let up = walked-up in
@@ -102,7 +103,7 @@ module _ {p pm q qm : List ℕ} {to from lo hi : ℕ} where
         }
 
     -- An unbonded base.
-    pub walked-unit : r ≤ i → j ≤ to → Best (letters p q) (nth pm) (nth qm) to j (unitAt (matches p (nth q i)) (nth pm) to j) i (r + 1)
+    pub walked-unit : r ≤ i → j ≤ to → Best (lettersFit p q) (nth pm) (nth qm) to j (unitAt (matches p (nth q i)) (nth pm) to j) i (r + 1)
     walked-unit h jt =
         let z : r + 1 ≡ suc i = omega (arith, walked-up) in
         rw z (unit-best j i jt)

@@ -14,17 +14,17 @@ use lib.Seq.{getD-set-same, getD-set-other}
 use borrow.Author.Tests.{ltb-true, leb-true}
 use Rattle.strand.specs.Vocabulary.{nth, choose}
 use Rattle.strand.specs.Strands.{lettersMatch}
-use Rattle.embedding.specs.Embedding.{Emb, letters}
+use Rattle.embedding.specs.Embedding.{Emb, lettersFit}
 use Rattle.embedding.specs.Row.{Closed, Split, Best, IsRow, unitAt, overAt, arcAt, overBy}
 use Rattle.embedding.proofs.Splitting.{restrict, agree, join}
 use Rattle.embedding.proofs.Arc.{inner-closed, upon-arc}
 use Rattle.embedding.proofs.Window.{cut-to}
 use Rattle.embedding.proofs.Rows.{before-right, row-from}
 use Rattle.trace.specs.declared.turn.Turn.{Turn}
-use Rattle.rows.specs.Rows.{Setting, Tables, matches}
-use Rattle.trace.specs.Trace.{Turns, upon, left-end, inside, Turned, Put, Laid}
-use Rattle.rows.proofs.Entries.{over-other, over-free, over-far, over-unlike, over-short, over-arc}
-use Rattle.rows.proofs.Passes.{by-over}
+use Rattle.rows.specs.Rows.{Tables, matches}
+use Rattle.arcs.specs.Arcs.{Setting}
+use Rattle.trace.specs.Trace.{Turns, upon, left-end, inside, Turned, PlacePut, Laid}
+use Rattle.rows.proofs.Entries.{over-other, over-free, over-far, over-unlike, over-short, over-arc, by-over}
 
 -- A unit row takes a position or not.
 pub record Takes (has : ℕ → Bool) (pm : ℕ → ℕ) (z k : ℕ) : Type 0 where
@@ -104,8 +104,8 @@ module _ {fit : ℕ → ℕ → Bool} {f g : ℕ → ℕ} where
 
 -- The turn at an arc, from its inner row for a window that the arc does not fill or that is all of the part.
 module _ {p pm q qm : List ℕ} {j to : ℕ} (z l r : ℕ) (S : Setting p pm q qm j to) (jz : j < z) (zt : z ≤ to)
-    (lr : l < r) (rn : r < length q) (arc : nth qm l ≡ r) {row : ℕ → ℕ} (A : IsRow (letters p q) (nth pm) (nth qm) j z (l + 1) r row)
-    (best : Best (letters p q) (nth pm) (nth qm) to j (arcAt (matches p (nth q l)) (matches p (nth q r)) (nth pm) z (row j) (row (j + 1)) j) l (r + 1)) where
+    (lr : l < r) (rn : r < length q) (arc : nth qm l ≡ r) {row : ℕ → ℕ} (A : IsRow (lettersFit p q) (nth pm) (nth qm) j z (l + 1) r row)
+    (best : Best (lettersFit p q) (nth pm) (nth qm) to j (arcAt (matches p (nth q l)) (matches p (nth q r)) (nth pm) z (row j) (row (j + 1)) j) l (r + 1)) where
   here : (j ≤ row j) × (row j ≤ z)
   here = row-from A j (omega arith) (omega (arith, jz))
 
@@ -114,7 +114,7 @@ module _ {p pm q qm : List ℕ} {j to : ℕ} (z l r : ℕ) (S : Setting p pm q q
 
   split-right : Split (nth qm) (l + 1) r (r + 1)
   split-right u a b d =
-      let A′ : IsRow (letters p q) (nth pm) (nth qm) j z (suc l) r row = rw (← (add-one l)) A in
+      let A′ : IsRow (lettersFit p q) (nth pm) (nth qm) j z (suc l) r row = rw (← (add-one l)) A in
       omega (arith, before-right {z = z} (S .motif) (omega (arith, zt, S .window .ends)) (S .molecule) lr rn arc A′ u (omega arith) b d)
 
   turned-inside : overAt (matches p (nth q l)) (matches p (nth q r)) (nth pm) z (row (j + 1)) j ≤ unitAt (matches p (nth q r)) (nth pm) z (row j)
@@ -135,7 +135,7 @@ module _ {p pm q qm : List ℕ} {j to : ℕ} (z l r : ℕ) (S : Setting p pm q q
           lay = λ h E el er. ⊎-elim (λ x. restrict j u l (r + 1) (omega arith) (omega (arith, i)) (omega arith) (omega arith) E)
               (λ x.
               let v : u ≡ row j + 1 = omega (arith, i, x .value) in
-              let O = one-base {fit = letters p q} {f = nth pm} {g = nth qm} (row j) r h (er (omega (arith, v))) (x .fits) in
+              let O = one-base {fit = lettersFit p q} {f = nth pm} {g = nth qm} (row j) r h (er (omega (arith, v))) (x .fits) in
               restrict j u l (r + 1) (omega arith) (omega (arith, v)) (omega arith) (omega arith)
               (join (row j) r (omega arith) (omega arith) (A .best j (omega arith) (omega (arith, jz)) .reach .closed) split-right E O)) d;
         }
@@ -197,7 +197,7 @@ module _ {p pm q qm : List ℕ} {j to : ℕ} (z l r : ℕ) (S : Setting p pm q q
   turned t (inside o) = turned-inside o
 
 -- What is written.
-pub put-set : (j k s : ℕ) (v : List ℕ) → j < k → j < length v → Put j k s v (set v j s)
+pub put-set : (j k s : ℕ) (v : List ℕ) → j < k → j < length v → PlacePut j k s v (set v j s)
 put-set j k s v jk h =
     record {
       long = length-set v j s;
@@ -229,7 +229,7 @@ module _ {p pm q qm : List ℕ} where
       }
 
   -- An unbonded base.
-  pub laid-unit : (to j k s r : ℕ) {v w : List ℕ} → s ≡ r → k ≡ unitAt (matches p (nth q s)) (nth pm) to j → Put j k s v w → Laid p pm q qm j k s (r + 1) v w
+  pub laid-unit : (to j k s r : ℕ) {v w : List ℕ} → s ≡ r → k ≡ unitAt (matches p (nth q s)) (nth pm) to j → PlacePut j k s v w → Laid p pm q qm j k s (r + 1) v w
   laid-unit to j k s r {v} {w} sr e P = ⊎-elim same takes (unit-case (matches p (nth q s)) (nth pm) to j) where
     before : (x : ℕ) → x < j → nth w x ≡ nth v x
     before x h = P .kept x (λ a b. omega arith)

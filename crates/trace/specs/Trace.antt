@@ -6,9 +6,10 @@ use mathlib.Core.Bool.{Bool, true}
 use mathlib.Core.List.{List}
 use lib.ListN.{length}
 use Rattle.strand.specs.Vocabulary.{nth}
-use Rattle.embedding.specs.Embedding.{Emb, letters}
+use Rattle.embedding.specs.Embedding.{Emb, lettersFit}
 use Rattle.embedding.specs.Row.{Closed, Reach, Best, IsRow, unitAt, overAt}
-use Rattle.rows.specs.Rows.{Setting, Tables, Sealed, Heavy, Boxed}
+use Rattle.rows.specs.Rows.{Tables}
+use Rattle.arcs.specs.Arcs.{Setting, Sealed, Heavy, Boxed}
 use Rattle.trace.specs.declared.turn.Turn.{Turn}
 
 -- The turns: upon the arc; with its left end; without its left end, and with its right end where that is taken.
@@ -29,13 +30,13 @@ pub record Turned (p pm q qm : List ℕ) (to j s r : ℕ) (t : Turn) : Type 0 wh
   pub goes : t .stop ≤ t .next
   pub one-right : t .next ≤ t .stop + 1
   pub ends : t .next ≤ to
-  pub best : Best (letters p q) (nth pm) (nth qm) to j (t .next) s (r + 1)
-  pub inner : Reach (letters p q) (nth pm) (nth qm) (t .stop) (t .start) (t .stop) (s + 1) r
-  pub lay : (h : ℕ → ℕ) → Emb (letters p q) (nth pm) (nth qm) (t .start) (t .stop) (s + 1) r h → (j < t .start → h j ≡ s) → (t .stop < t .next → h (t .stop) ≡ r)
-      → Emb (letters p q) (nth pm) (nth qm) j (t .next) s (r + 1) h
+  pub best : Best (lettersFit p q) (nth pm) (nth qm) to j (t .next) s (r + 1)
+  pub inner : Reach (lettersFit p q) (nth pm) (nth qm) (t .stop) (t .start) (t .stop) (s + 1) r
+  pub lay : (h : ℕ → ℕ) → Emb (lettersFit p q) (nth pm) (nth qm) (t .start) (t .stop) (s + 1) r h → (j < t .start → h j ≡ s) → (t .stop < t .next → h (t .stop) ≡ r)
+      → Emb (lettersFit p q) (nth pm) (nth qm) j (t .next) s (r + 1) h
 
 -- s was written at j, if k is past j, and nothing else.
-pub record Put (j k s : ℕ) (old new : List ℕ) : Type 0 where
+pub record PlacePut (j k s : ℕ) (old new : List ℕ) : Type 0 where
   pub long : length new ≡ length old
   pub here : j < k → nth new j ≡ s
   pub kept : (x : ℕ) → (x ≡ j → j < k → ⊥) → nth new x ≡ nth old x
@@ -43,15 +44,15 @@ pub record Put (j k s : ℕ) (old new : List ℕ) : Type 0 where
 -- The places of the ends of the arc (s, r) were written, where the turn t from j on takes them.
 pub record Ended (j s r : ℕ) (t : Turn) (old new : List ℕ) : Type 0 where
   pub mid : List ℕ
-  pub left : Put j (t .start) s old mid
-  pub right : Put (t .stop) (t .next) r mid new
+  pub left : PlacePut j (t .start) s old mid
+  pub right : PlacePut (t .stop) (t .next) r mid new
 
 -- Only the entries from j to before k were written, with places of P[j..k) in Q[s..e).
 pub record Laid (p pm q qm : List ℕ) (j k s e : ℕ) (old new : List ℕ) : Type 0 where
   pub long : length new ≡ length old
   pub before : (x : ℕ) → x < j → nth new x ≡ nth old x
   pub after : (x : ℕ) → k ≤ x → nth new x ≡ nth old x
-  pub embeds : Emb (letters p q) (nth pm) (nth qm) j k s e (nth new)
+  pub embeds : Emb (lettersFit p q) (nth pm) (nth qm) j k s e (nth new)
 
 -- The first row of the work slice is the row inside the box, the arc of Q from `stop`, for a window around P[j..t). There is no box where stop is the
 -- length of Q.
@@ -64,9 +65,9 @@ pub record Kept (p pm q qm : List ℕ) (j t stop : ℕ) (work : List ℕ) : Type
   pub boxed : Boxed p pm q qm from to stop work
 
 -- Past the first row of the work slice, which is as before, is the row inside the arc (s, r) for the window P[j..t).
-pub record Ready (p pm q qm : List ℕ) (j t s r : ℕ) (old new : List ℕ) : Type 0 where
+pub record SecondRow (p pm q qm : List ℕ) (j t s r : ℕ) (old new : List ℕ) : Type 0 where
   pub under : (k : ℕ) → k < length p + 1 → nth new k ≡ nth old k
-  pub row : IsRow (letters p q) (nth pm) (nth qm) j t (s + 1) r (λ k. nth new (length p + 1 + k))
+  pub row : IsRow (lettersFit p q) (nth pm) (nth qm) j t (s + 1) r (λ k. nth new (length p + 1 + k))
 
 -- The arc from `stop` is that from s, or a longest arc in a longest arc .. inside it.
 pub data Below (qm : List ℕ) (stop : ℕ) : ℕ → Type 0 where
@@ -122,9 +123,9 @@ pub record LaidBut (p pm q qm : List ℕ) (j k s e a b l r : ℕ) (old new : Lis
   pub after : (x : ℕ) → k ≤ x → nth new x ≡ nth old x
   pub low : j ≤ a
   pub high : b ≤ k
-  pub inner : Reach (letters p q) (nth pm) (nth qm) b a b l r
+  pub inner : Reach (lettersFit p q) (nth pm) (nth qm) b a b l r
   pub embeds : (h : ℕ → ℕ) → ((x : ℕ) → j ≤ x → x < a → h x ≡ nth new x) → ((x : ℕ) → b ≤ x → x < k → h x ≡ nth new x)
-      → Emb (letters p q) (nth pm) (nth qm) a b l r h → Emb (letters p q) (nth pm) (nth qm) j k s e h
+      → Emb (lettersFit p q) (nth pm) (nth qm) a b l r h → Emb (lettersFit p q) (nth pm) (nth qm) j k s e h
 
 -- What the walk asks at the arc (s, r) that is the box or holds it, for the closed part P[j..to).
 pub record AtArc (p pm q qm : List ℕ) (j to s r stop places : ℕ) (work tables : List ℕ) : Type 0 where
@@ -141,7 +142,7 @@ pub record AtArc (p pm q qm : List ℕ) (j to s r stop places : ℕ) (work table
 pub record FromArc (p pm q qm : List ℕ) (j t s hi stop places : ℕ) (work tables : List ℕ) : Type 0 where
   pub setting : Setting p pm q qm j t
   pub order : (j < t) × ((s < hi) × (hi ≤ length q))
-  pub reach : Reach (letters p q) (nth pm) (nth qm) t j t s hi
+  pub reach : Reach (lettersFit p q) (nth pm) (nth qm) t j t s hi
   pub arc : Sealed qm s hi × (s < nth qm s)
   pub box : (stop ≤ length q) × (stop < length q → Below qm stop s)
   pub kept : Kept p pm q qm j t stop work

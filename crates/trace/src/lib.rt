@@ -5,16 +5,16 @@ mod turn;
 
 use path::Part;
 use rows::tables;
-use rows::tree;
 use turn::Turn;
 ghost use mathlib.Core.Path.{_≡_};
 ghost use Prim.Native.Nat.{_+_, _-_, _*_, _≤_, _<_};
 ghost use lib.ListN.{length};
 ghost use Rattle.strand.specs.Vocabulary.{nth};
-ghost use Rattle.embedding.specs.Row.{Best, Reach, Closed};
-ghost use Rattle.embedding.specs.Embedding.{letters};
-ghost use Rattle.rows.specs.Rows.{Setting, Tables, Sealed, workSize};
-ghost use Rattle.trace.specs.Trace.{Laid, Kept, Below, OnPath, Levels, ArcLevels, LaidBut, FromArc, AtArc};
+ghost use Rattle.embedding.specs.Row.{Best, Reach};
+ghost use Rattle.embedding.specs.Embedding.{lettersFit};
+ghost use Rattle.rows.specs.Rows.{Tables, workSize};
+ghost use Rattle.arcs.specs.Arcs.{Setting, Sealed};
+ghost use Rattle.trace.specs.Trace.{Laid, Kept, OnPath, Levels, ArcLevels, LaidBut, FromArc, AtArc};
 
 // Writes the places of from.. as far as the motif up to `to` is taken by lo..hi, and gives how far that is.
 fn place(
@@ -36,7 +36,7 @@ fn place(
     requires { ⌜ to ≤ length (now places) ⌝ }
     requires { ⌜ ArcLevels (length (now p) + 1) (now qm) lo hi (length (now work)) ⌝ }
     requires { ⌜ Tables (now p) (now pm) (now tables) ⌝ }
-    ensures { λ k. ⌜ Best (letters (now (p .entry)) (now (q .entry))) (nth (now (pm .entry))) (nth (now (qm .entry))) to from k lo hi ⌝ }
+    ensures { λ k. ⌜ Best (lettersFit (now (p .entry)) (now (q .entry))) (nth (now (pm .entry))) (nth (now (qm .entry))) to from k lo hi ⌝ }
     ensures { λ k. ⌜ Laid (now (p .entry)) (now (pm .entry)) (now (q .entry)) (now (qm .entry)) from k lo hi (now (places .entry)) (now (places .exit)) ⌝ }
 {
     let mut j = from;
@@ -45,7 +45,7 @@ fn place(
         if to <= j {
             return j;
         }
-        let r = tree::mate(qm, s);
+        let r = arcs::mate(qm, s);
         if s < r {
             j = place_arc(p, pm, q, qm, j, to, s, r, places, work, tables);
         } else {
@@ -75,7 +75,7 @@ fn place_arc(
     requires { ⌜ (s < r) × ((r < length (now q)) × (nth (now qm) s ≡ r)) ⌝ }
     requires { ⌜ Levels (length (now p) + 1) (r - (s + 1)) (r - (s + 1)) (length (now work)) ⌝ }
     requires { ⌜ Tables (now p) (now pm) (now tables) ⌝ }
-    ensures { λ k. ⌜ Best (letters (now (p .entry)) (now (q .entry))) (nth (now (pm .entry))) (nth (now (qm .entry))) to j k s (r + 1) ⌝ }
+    ensures { λ k. ⌜ Best (lettersFit (now (p .entry)) (now (q .entry))) (nth (now (pm .entry))) (nth (now (qm .entry))) to j k s (r + 1) ⌝ }
     ensures { λ k. ⌜ Laid (now (p .entry)) (now (pm .entry)) (now (q .entry)) (now (qm .entry)) j k s (r + 1) (now (places .entry)) (now (places .exit)) ⌝ }
 {
     let t = turn::turn_at(p, pm, q, qm, j, to, s, r, places, work, tables);
@@ -113,7 +113,7 @@ fn enter(
     tables: &[u16],
 ) -> Turn
     requires { ⌜ AtArc (now p) (now pm) (now q) (now qm) j to s r stop (length (now places)) (now work) (now tables) ⌝ }
-    ensures { λ t. ⌜ Best (letters (now (p .entry)) (now (q .entry))) (nth (now (pm .entry))) (nth (now (qm .entry))) to j (t .next) s (r + 1) ⌝ }
+    ensures { λ t. ⌜ Best (lettersFit (now (p .entry)) (now (q .entry))) (nth (now (pm .entry))) (nth (now (qm .entry))) to j (t .next) s (r + 1) ⌝ }
     ensures { λ t. ⌜ LaidBut (now (p .entry)) (now (pm .entry)) (now (q .entry)) (now (qm .entry)) j (t .next) s (r + 1) (t .start) (t .stop) (stop + 1) (nth (now (qm .entry)) stop) (now (places .entry)) (now (places .exit)) ⌝ }
 {
     let t = turn::turn_kept(p, pm, q, qm, j, to, s, r, stop, places, work, tables);
@@ -159,7 +159,7 @@ fn past(
     requires { ⌜ FromArc (now p) (now pm) (now q) (now qm) j t s hi stop (length (now places)) (now work) (now tables) ⌝ }
     ensures { λ b. ⌜ LaidBut (now (p .entry)) (now (pm .entry)) (now (q .entry)) (now (qm .entry)) j t s hi (b .start) (b .stop) (stop + 1) (nth (now (qm .entry)) stop) (now (places .entry)) (now (places .exit)) ⌝ }
 {
-    let r = tree::mate(qm, s);
+    let r = arcs::mate(qm, s);
     if r <= stop {
         place(p, pm, q, qm, j, t, s, hi, places, work, tables);
         return Part { start: j, stop: j };
@@ -195,7 +195,7 @@ fn along(
     if mid <= s {
         return past(p, pm, q, qm, j, t, s, hi, stop, places, work, tables);
     }
-    let r = tree::mate(qm, mid);
+    let r = arcs::mate(qm, mid);
     path::keep(p, pm, q, qm, j, t, mid, r, stop, work, tables);
     let part = &mut work[w..];
     let b = along(p, pm, q, qm, j, t, s, hi, mid, places, part, tables);
@@ -232,7 +232,7 @@ fn descend(
 ) -> Part
     requires { ⌜ Setting (now p) (now pm) (now q) (now qm) j t ⌝ }
     requires { ⌜ (lo ≤ hi) × (hi ≤ length (now q)) ⌝ }
-    requires { ⌜ Reach (letters (now p) (now q)) (nth (now pm)) (nth (now qm)) t j t lo hi ⌝ }
+    requires { ⌜ Reach (lettersFit (now p) (now q)) (nth (now pm)) (nth (now qm)) t j t lo hi ⌝ }
     requires { ⌜ Sealed (now qm) lo hi ⌝ }
     requires { ⌜ (stop ≤ length (now q)) × (stop < length (now q) → OnPath (now qm) lo hi stop) ⌝ }
     requires { ⌜ Kept (now p) (now pm) (now q) (now qm) j t stop (now work) ⌝ }
@@ -246,7 +246,7 @@ fn descend(
         return none;
     }
     let w = p.len() + 1;
-    let s = tree::heaviest(qm, lo, hi);
+    let s = arcs::heaviest(qm, lo, hi);
     let part = &mut work[w..];
     let k = place(p, pm, q, qm, j, t, lo, s, places, part, tables);
     if t <= k {
@@ -269,7 +269,7 @@ fn prepared_place(
     requires { ⌜ length (now p) ≤ length (now places) ⌝ }
     requires { ⌜ workSize (length (now p)) (length (now q)) ≤ length (now work) ⌝ }
     requires { ⌜ 5 * (length (now p) + 1) ≤ length (now tables) ⌝ }
-    ensures { λ k. ⌜ Best (letters (now (p .entry)) (now (q .entry))) (nth (now (pm .entry))) (nth (now (qm .entry))) (length (now (p .entry))) 0 k 0 (length (now (q .entry))) ⌝ }
+    ensures { λ k. ⌜ Best (lettersFit (now (p .entry)) (now (q .entry))) (nth (now (pm .entry))) (nth (now (qm .entry))) (length (now (p .entry))) 0 k 0 (length (now (q .entry))) ⌝ }
     ensures { λ k. ⌜ Laid (now (p .entry)) (now (pm .entry)) (now (q .entry)) (now (qm .entry)) 0 k 0 (length (now (q .entry))) (now (places .entry)) (now (places .exit)) ⌝ }
 {
     tables::fill(tables, p, pm);
@@ -289,9 +289,10 @@ fn short_place(
     requires { ⌜ length (now p) ≤ length (now places) ⌝ }
     requires { ⌜ workSize (length (now p)) (length (now q)) ≤ length (now work) ⌝ }
     requires { ⌜ length (now p) ≤ 120 ⌝ }
-    ensures { λ k. ⌜ Best (letters (now (p .entry)) (now (q .entry))) (nth (now (pm .entry))) (nth (now (qm .entry))) (length (now (p .entry))) 0 k 0 (length (now (q .entry))) ⌝ }
+    ensures { λ k. ⌜ Best (lettersFit (now (p .entry)) (now (q .entry))) (nth (now (pm .entry))) (nth (now (qm .entry))) (length (now (p .entry))) 0 k 0 (length (now (q .entry))) ⌝ }
     ensures { λ k. ⌜ Laid (now (p .entry)) (now (pm .entry)) (now (q .entry)) (now (qm .entry)) 0 k 0 (length (now (q .entry))) (now (places .entry)) (now (places .exit)) ⌝ }
 {
+    // five rows of 121 entries
     let mut tables = [0u16; 605];
     prepared_place(p, pm, q, qm, places, work, &mut tables)
 }
@@ -308,12 +309,13 @@ pub fn place_all(
     requires { ⌜ Setting (now p) (now pm) (now q) (now qm) 0 (length (now p)) ⌝ }
     requires { ⌜ length (now p) ≤ length (now places) ⌝ }
     requires { ⌜ workSize (length (now p)) (length (now q)) ≤ length (now work) ⌝ }
-    ensures { λ k. ⌜ Best (letters (now (p .entry)) (now (q .entry))) (nth (now (pm .entry))) (nth (now (qm .entry))) (length (now (p .entry))) 0 k 0 (length (now (q .entry))) ⌝ }
+    ensures { λ k. ⌜ Best (lettersFit (now (p .entry)) (now (q .entry))) (nth (now (pm .entry))) (nth (now (qm .entry))) (length (now (p .entry))) 0 k 0 (length (now (q .entry))) ⌝ }
     ensures { λ k. ⌜ Laid (now (p .entry)) (now (pm .entry)) (now (q .entry)) (now (qm .entry)) 0 k 0 (length (now (q .entry))) (now (places .entry)) (now (places .exit)) ⌝ }
 {
     if p.len() <= 120 {
         return short_place(p, pm, q, qm, places, work);
     }
+    // five rows of 4,097 entries
     let mut tables = [0u16; 20485];
     prepared_place(p, pm, q, qm, places, work, &mut tables)
 }

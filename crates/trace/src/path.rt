@@ -1,14 +1,14 @@
 // The path of longest arcs: a middle arc of it, and the row inside that arc, which is kept.
 use rows::row;
-use rows::tree;
 ghost use mathlib.Core.Path.{_≡_};
 ghost use Prim.Native.Nat.{_+_, _-_, _*_, _≤_, _<_};
 ghost use lib.ListN.{length};
 ghost use Rattle.strand.specs.Vocabulary.{nth};
 ghost use Rattle.strand.specs.Strands.{Nested};
 ghost use Rattle.embedding.specs.Row.{Closed};
-ghost use Rattle.rows.specs.Rows.{Setting, Tables};
-ghost use Rattle.trace.specs.Trace.{Kept, Ready, Lower, Between};
+ghost use Rattle.rows.specs.Rows.{Tables};
+ghost use Rattle.arcs.specs.Arcs.{Setting};
+ghost use Rattle.trace.specs.Trace.{Kept, SecondRow, Lower, Between};
 
 // A part start..stop of the motif.
 pub struct Part {
@@ -36,8 +36,8 @@ fn lower(qm: &[u16], s: usize, stop: usize) -> usize
     requires { ⌜ (s < length (now qm)) × (s < nth (now qm) s) ⌝ }
     ensures { λ c. ⌜ Lower (now (qm .entry)) s stop c ⌝ }
 {
-    let r = tree::mate(qm, s);
-    let c = tree::heaviest(qm, s + 1, r);
+    let r = arcs::mate(qm, s);
+    let c = arcs::heaviest(qm, s + 1, r);
     if r <= c {
         return s;
     }
@@ -47,7 +47,7 @@ fn lower(qm: &[u16], s: usize, stop: usize) -> usize
     c
 }
 
-// An arc of the path from s to the box that halves the bases of s..hi outside of the box, or s where there is none. Where there is no box, and the arc
+// The innermost arc of the path from s to the box that halves the bases of s..hi outside of the box, or s where there is none. Where there is no box, and the arc
 // from s is much shorter than the part to be placed, s too: rows for its own window cost less.
 pub fn middle(qm: &[u16], s: usize, hi: usize, stop: usize, span: usize) -> usize
     requires { ⌜ Nested (nth (now qm)) (length (now qm)) ⌝ }
@@ -93,10 +93,10 @@ pub fn keep(
     requires { ⌜ Kept (now p) (now pm) (now q) (now qm) j t stop (now work) ⌝ }
     requires { ⌜ 24 * (length (now p) + 1) ≤ length (now work) ⌝ }
     requires { ⌜ Tables (now p) (now pm) (now tables) ⌝ }
-    ensures { λ _. ⌜ Ready (now (p .entry)) (now (pm .entry)) (now (q .entry)) (now (qm .entry)) j t s r (now (work .entry)) (now (work .exit)) ⌝ }
+    ensures { λ _. ⌜ SecondRow (now (p .entry)) (now (pm .entry)) (now (q .entry)) (now (qm .entry)) j t s r (now (work .entry)) (now (work .exit)) ⌝ }
 {
     let w = p.len() + 1;
     row::cut(work, j, t, w);
     let part = &mut work[w..];
-    tree::inner_row(p, pm, j, t, q, qm, s, r, stop, part, tables);
+    arcs::inner_row(p, pm, j, t, q, qm, s, r, stop, part, tables);
 }

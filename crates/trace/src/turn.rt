@@ -1,14 +1,14 @@
 // The turn that an arc of the molecule takes: what of the motif goes inside it and what to its ends, and the places that are written for its ends.
 use crate::path;
 use rows::row;
-use rows::tree;
 ghost use mathlib.Core.Path.{_≡_};
 ghost use Prim.Native.Nat.{_+_, _*_, _≤_, _<_};
 ghost use lib.ListN.{length};
 ghost use Rattle.strand.specs.Vocabulary.{nth};
 ghost use Rattle.embedding.specs.Row.{Closed, unitAt};
-ghost use Rattle.rows.specs.Rows.{Setting, Tables, matches};
-ghost use Rattle.trace.specs.Trace.{Turns, Turned, Put, Ended, Kept};
+ghost use Rattle.rows.specs.Rows.{Tables, matches};
+ghost use Rattle.arcs.specs.Arcs.{Setting};
+ghost use Rattle.trace.specs.Trace.{Turns, Turned, PlacePut, Ended, Kept};
 
 // How an arc s, r takes the motif from j on: the positions start..stop go inside it, one before them to s if start is past j, one after them to r if
 // next is past stop.
@@ -110,8 +110,8 @@ pub fn turn_at(
     ensures { λ t. ⌜ Turned (now (p .entry)) (now (pm .entry)) (now (q .entry)) (now (qm .entry)) to j s r t ⌝ }
     ensures { λ t. ⌜ Ended j s r t (now (places .entry)) (now (places .exit)) ⌝ }
 {
-    let z = tree::smaller(to, j + (r + 1 - s));
-    tree::inner_row(p, pm, j, z, q, qm, s, r, q.len(), work, tables);
+    let z = arcs::smaller(to, j + (r + 1 - s));
+    arcs::inner_row(p, pm, j, z, q, qm, s, r, q.len(), work, tables);
     take_turn(p, pm, q, j, z, s, r, work[j], work[j + 1], places, tables)
 }
 
@@ -171,7 +171,7 @@ pub fn put_base(
     requires { ⌜ (length (now pm) ≡ length (now p)) × (to ≤ length (now p)) ⌝ }
     requires { ⌜ (j < to) × (to ≤ length (now places)) ⌝ }
     requires { ⌜ (s < length (now q)) × (s < 4096) ⌝ }
-    ensures { λ k. ⌜ (k ≡ unitAt (matches (now (p .entry)) (nth (now (q .entry)) s)) (nth (now (pm .entry))) to j) × Put j k s (now (places .entry)) (now (places .exit)) ⌝ }
+    ensures { λ k. ⌜ (k ≡ unitAt (matches (now (p .entry)) (nth (now (q .entry)) s)) (nth (now (pm .entry))) to j) × PlacePut j k s (now (places .entry)) (now (places .exit)) ⌝ }
 {
     let k = row::unit(p, pm, to, j, q[s]);
     put(places, j, k, s);
@@ -181,7 +181,7 @@ pub fn put_base(
 // Writes the place s of position j, if k is past j.
 fn put(places: &mut [u16], j: usize, k: usize, s: usize)
     requires { ⌜ (j < k → j < length (now places)) × (s < 4096) ⌝ }
-    ensures { λ _. ⌜ Put j k s (now (places .entry)) (now (places .exit)) ⌝ }
+    ensures { λ _. ⌜ PlacePut j k s (now (places .entry)) (now (places .exit)) ⌝ }
 {
     if j < k {
         places[j] = s as u16;

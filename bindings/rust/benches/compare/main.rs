@@ -1,4 +1,4 @@
-//! Times the library against plain Rust (tests/compare/plain) and plain C (bindings/bench) on the same inputs in one run, all at optimization level 3, and prints
+//! Times the library against plain Rust (tests/compare/plain) and plain C (benches/peers) on the same inputs in one run, all at optimization level 3, and prints
 //! tables and the goals. `cargo bench --features c-peers`; words after `--` choose the tables: length, show, soundness, query.
 #[allow(dead_code)]
 #[path = "../../tests/compare/make.rs"]
@@ -123,8 +123,13 @@ fn lengths() {
         let (mut ours, mut rows, mut windows) = (vec![0; size], vec![0; size], vec![0; size]);
         let versions: Vec<Version> = vec![
             Box::new(move || lakhido::length(lent(p), lent(q), &mut ours).expect("accepted")),
-            Box::new(move || peers::length(By::Rows, p, q, &mut rows)),
-            Box::new(move || if peers::strand_ok(p) && peers::strand_ok(q) { peers::length(By::Windows, p, q, &mut windows) } else { usize::MAX }),
+            // SAFETY: the strands are valid: the first version, which is called first, panics on others.
+            Box::new(move || unsafe { peers::length(By::Rows, p, q, &mut rows) }),
+            Box::new(move || {
+                assert!(peers::strand_ok(p) && peers::strand_ok(q));
+                // SAFETY: the strands have just been found valid.
+                unsafe { peers::length(By::Windows, p, q, &mut windows) }
+            }),
             Box::new(move || plain::rows::length(p, q)),
         ];
         let row = format!("{shape} ({}, {}) {motif}", q.len(), p.len());
@@ -145,7 +150,9 @@ fn shows() {
     println!(
         "\n### Show\n\nMicroseconds; no buffer is cleared before a call. The library works in its work slice of 64 (m + 1) + 8 n numbers; the C and Rust versions keep a table of"
     );
-    println!("all rows, (n + 1) (m + 1) numbers, which C is lent and Rust allocates. The last column of times is the library's length, timed in the same turns.");
+    println!(
+        "all rows, (n + 1) (m + 1) numbers, which C is lent and Rust allocates. The last column of times is the library's length, timed in the same turns."
+    );
     print_head("shape | n | m | motif | L | library | C, table | Rust, table | length | / C table | / Rust table | / length");
     let mut goal = Goal::new("show / length", 6.0);
     for Case { shape, motif, p, q } in cases(&SIZES) {
@@ -156,7 +163,8 @@ fn shows() {
         let (mut ours, mut of_c, mut of_rust) = (vec![0; p.len()], vec![0; p.len()], vec![0; p.len()]);
         let versions: Vec<Version> = vec![
             Box::new(move || lakhido::show(lent(p), lent(q), &mut ours, &mut work).expect("accepted")),
-            Box::new(move || peers::show(p, q, &mut table, &mut of_c)),
+            // SAFETY: the strands are valid: the first version, which is called first, panics on others.
+            Box::new(move || unsafe { peers::show(p, q, &mut table, &mut of_c) }),
             Box::new(move || plain::table::Table::new(p, q).show(&mut of_rust)),
             Box::new(move || lakhido::length(lent(p), lent(q), &mut other).expect("accepted")),
         ];
@@ -226,12 +234,14 @@ fn query_versions<'a>(catalog: &'a [u8], p: Strand<'a>, cold: bool) -> Vec<Versi
     };
     let of_c = move |by: By| -> Version<'a> {
         let (mut cache, mut work, mut hits) = own();
-        peers::query(by, catalog, &mut cache, p, &mut work, &mut hits);
-        Box::new(move || {
+        let mut call = move || {
             clear(&mut cache);
-            let (count, searched) = peers::query(by, catalog, &mut cache, p, &mut work, &mut hits);
+            // SAFETY: the motif is valid: the library's query below, which is called first, panics on others.
+            let (count, searched) = unsafe { peers::query(by, catalog, &mut cache, p, &mut work, &mut hits) };
             sum(count, searched, &hits)
-        })
+        };
+        call();
+        Box::new(call)
     };
     let (mut cache, mut work, mut hits) = own();
     let (mut cache2, _, mut hits2) = own();
@@ -259,7 +269,8 @@ fn queries() {
     );
     println!("searched. Warm: the same query again, with nothing to search. Work and hits are not cleared.");
     print_head("shape | m | motif | cache | library | C, 003's rows | C, same algorithm | Rust, 003's rows | / C rows | / C same | / Rust");
-    let mut goal = Goal::new("cold query / C of 003's rows", 1.0);
+    let mut by_rows = Goal::new("cold query / C of 003's rows", 1.0);
+    let mut by_same = Goal::new("cold query / C of the same algorithm", 1.0);
     for Case { shape, motif, p, q } in cases(&SIZES[..2]) {
         let mut r = Random::new(SEED + p.bases.len() as u64);
         let mut bytes = catalog(&mut r, shape);
@@ -275,11 +286,13 @@ fn queries() {
             let (_, times) = least(&row, query_versions(&bytes, p.lend(), cold));
             print_row(&[shape.into(), p.bases.len().to_string(), motif.into(), name.into()], &times);
             if cold {
-                goal.hold(&row, times[0] / times[1]);
+                by_rows.hold(&row, times[0] / times[1]);
+                by_same.hold(&row, times[0] / times[2]);
             }
         }
     }
-    goal.told();
+    by_rows.told();
+    by_same.told();
 }
 
 fn main() {

@@ -1,5 +1,6 @@
-//! The plain C versions of bindings/bench, compiled at -O3 by build.rs, with slices in the place of pointers.
+//! The plain C versions of benches/peers, compiled at -O3 by build.rs, with slices in the place of pointers.
 use crate::plain::strand::Strand;
+use lakhido::{BLOCK, BLOCKS_MOST, MOST, MOTIF_MOST};
 
 mod c {
     type Matcher = unsafe extern "C" fn(*const u8, *const u16, usize, *const u8, *const u16, usize, *mut u16) -> usize;
@@ -12,19 +13,8 @@ mod c {
         pub fn peer_strand_ok(bases: *const u8, mates: *const u16, n: usize) -> std::ffi::c_int;
         pub fn peer_unsound_molecule(catalog: *const u8, blocks: usize) -> usize;
         pub fn peer_unsound_entry(cache: *const u8, blocks: usize) -> usize;
-        fn peer_query_rows(
-            catalog: *const u8,
-            blocks: usize,
-            cache: *mut u8,
-            slots: usize,
-            p: *const u8,
-            pm: *const u16,
-            m: usize,
-            work: *mut u16,
-            hits: *mut u16,
-            searched: *mut usize,
-        ) -> std::ffi::c_long;
-        fn peer_query_windows(
+        pub fn peer_query(
+            length: Matcher,
             catalog: *const u8,
             blocks: usize,
             cache: *mut u8,
@@ -37,35 +27,43 @@ mod c {
             searched: *mut usize,
         ) -> std::ffi::c_long;
     }
-    type Query =
-        unsafe extern "C" fn(*const u8, usize, *mut u8, usize, *const u8, *const u16, usize, *mut u16, *mut u16, *mut usize) -> std::ffi::c_long;
-    pub const QUERIES: [Query; 2] = [peer_query_rows, peer_query_windows];
 }
 
 /// Which search a C version uses.
 #[derive(Clone, Copy)]
 pub enum By {
-    /// Document 003's rows as written.
+    /// Document 003's rows.
     Rows = 0,
     /// The library's own algorithm.
     Windows = 1,
 }
 
-fn asserted(p: Strand, q: Strand, work: &[u16]) {
-    assert!(p.bases.len() == p.mates.len() && q.bases.len() == q.mates.len());
-    assert!(lakhido::work_size(p.len(), q.len()) <= work.len());
+fn assert_lengths(s: Strand, most: usize) {
+    assert!(s.bases.len() == s.mates.len() && s.len() <= most);
 }
 
-/// The strands are valid.
-pub fn length(by: By, p: Strand, q: Strand, work: &mut [u16]) -> usize {
-    asserted(p, q, work);
+/// The length of the longest closed prefix that embeds.
+///
+/// # Safety
+///
+/// The strands are valid: the library accepts them.
+pub unsafe fn length(by: By, p: Strand, q: Strand, work: &mut [u16]) -> usize {
+    assert_lengths(p, MOST);
+    assert_lengths(q, MOST);
+    assert!(lakhido::work_size(p.len(), q.len()) <= work.len());
     let call = c::MATCHERS[by as usize];
-    // SAFETY: valid strands and a work slice as large as the library's, which is all that the peers ask.
+    // SAFETY: valid strands no longer than the peers' tables, and a work slice as large as the library's, which is all that the peers ask.
     unsafe { call(p.bases.as_ptr(), p.mates.as_ptr(), p.len(), q.bases.as_ptr(), q.mates.as_ptr(), q.len(), work.as_mut_ptr()) }
 }
 
-/// The strands are valid.
-pub fn show(p: Strand, q: Strand, rows: &mut [u16], places: &mut [u16]) -> usize {
+/// As [`length`], and writes the places of an embedding.
+///
+/// # Safety
+///
+/// The strands are valid: the library accepts them.
+pub unsafe fn show(p: Strand, q: Strand, rows: &mut [u16], places: &mut [u16]) -> usize {
+    assert_lengths(p, MOST);
+    assert_lengths(q, MOST);
     assert!((p.len() + 1) * (q.len() + 1) <= rows.len() && p.len() <= places.len());
     // SAFETY: valid strands, a row of m + 1 numbers for each of n + 1 positions, and m places, which is all that the peer asks.
     unsafe {
@@ -82,32 +80,41 @@ pub fn show(p: Strand, q: Strand, rows: &mut [u16], places: &mut [u16]) -> usize
     }
 }
 
+/// Whether the strand is valid.
 pub fn strand_ok(s: Strand) -> bool {
-    assert_eq!(s.bases.len(), s.mates.len());
+    assert_lengths(s, MOST);
     // SAFETY: reads n bases and n mates of any content.
     unsafe { c::peer_strand_ok(s.bases.as_ptr(), s.mates.as_ptr(), s.len()) != 0 }
 }
 
+/// The lowest unsound molecule block, or the number of blocks.
 pub fn unsound_molecule(catalog: &[u8]) -> usize {
     // SAFETY: reads whole blocks of any content.
-    unsafe { c::peer_unsound_molecule(catalog.as_ptr(), catalog.len() / lakhido::BLOCK) }
+    unsafe { c::peer_unsound_molecule(catalog.as_ptr(), catalog.len() / BLOCK) }
 }
 
+/// The lowest unsound cache entry, or the number of blocks.
 pub fn unsound_entry(cache: &[u8]) -> usize {
     // SAFETY: reads whole blocks of any content.
-    unsafe { c::peer_unsound_entry(cache.as_ptr(), cache.len() / lakhido::BLOCK) }
+    unsafe { c::peer_unsound_entry(cache.as_ptr(), cache.len() / BLOCK) }
 }
 
-/// The motif is valid. Gives the count of hits and of molecules searched.
-pub fn query(by: By, catalog: &[u8], cache: &mut [u8], p: Strand, work: &mut [u16], hits: &mut [u16]) -> (usize, usize) {
-    assert!(p.bases.len() == p.mates.len() && lakhido::query_work_size(p.len()) <= work.len());
-    let (blocks, slots) = (catalog.len() / lakhido::BLOCK, cache.len() / lakhido::BLOCK);
-    assert!(blocks <= hits.len() && 0 < slots);
+/// The count of hits and of molecules searched.
+///
+/// # Safety
+///
+/// The motif is valid: the library accepts it.
+pub unsafe fn query(by: By, catalog: &[u8], cache: &mut [u8], p: Strand, work: &mut [u16], hits: &mut [u16]) -> (usize, usize) {
+    assert_lengths(p, MOTIF_MOST);
+    assert!(lakhido::query_work_size(p.len()) <= work.len());
+    let (blocks, slots) = (catalog.len() / BLOCK, cache.len() / BLOCK);
+    assert!(blocks <= BLOCKS_MOST && blocks <= hits.len() && 0 < slots);
     let mut searched = 0;
-    let call = c::QUERIES[by as usize];
-    // SAFETY: a valid motif, whole blocks, and work and hits as large as the library's, which is all that the peers ask.
+    // SAFETY: a valid motif that an entry has room for, whole blocks, no more than an entry has bits, and work and hits as large as the library's, which is
+    // all that the peer asks; it searches only where the catalog is sound.
     let count = unsafe {
-        call(
+        c::peer_query(
+            c::MATCHERS[by as usize],
             catalog.as_ptr(),
             blocks,
             cache.as_mut_ptr(),

@@ -5,9 +5,10 @@ use mathlib.Core.Path.{sym, _∙_}
 use lib.ListN.{length}
 use Rattle.catalog.proofs.JudgeLaws as judge
 use Rattle.strand.specs.Strands.{strandOf}
+use Rattle.calls.proofs.Claims as claim
 use Rattle.catalog.proofs.CallLaws as call
 use Rattle.catalog.proofs.SearchLaws as search-laws
-use Rattle.catalog.specs.Motifs.{embeds}
+use Rattle.calls.specs.Motifs.{embeds}
 use Rattle.catalog.proofs.query.Statement.{statement}
 use Rattle.catalog.proofs.query.Tie as tie
 
@@ -21,7 +22,7 @@ same-length : tie.Need-same-length
 same-length c = search needs
 
 returns : tie.Need-returns
-returns c = (call.query-refused embeds (c .before .before .before .before .before .before .before .before .before .before .before .args .catalog .now) (c .before .before .before .before .before .before .before .before .before .before .before .args .cache .now) (strandOf (c .before .before .before .before .before .before .before .before .before .before .before .args .bases .now) (c .before .before .before .before .before .before .before .before .before .before .before .args .mates .now)) (length (c .before .before .before .before .before .before .before .before .before .before .before .args .work .now)) (c .before .before .before .before .before .before .before .before .before .before .before .args .hits .now) (c .before .verdict .given .0 .0) (sym (c .before .before .before .judge-query .ensures) ∙ c .before .verdict .given .1), call.work-refused _ _)
+returns c = (sym (claim.query-refused embeds (c .before .before .before .before .before .before .before .before .before .before .before .args .catalog .now) (c .before .before .before .before .before .before .before .before .before .before .before .args .cache .now) (strandOf (c .before .before .before .before .before .before .before .before .before .before .before .args .bases .now) (c .before .before .before .before .before .before .before .before .before .before .before .args .mates .now)) (length (c .before .before .before .before .before .before .before .before .before .before .before .args .work .now)) (c .before .before .before .before .before .before .before .before .before .before .before .args .hits .now) (c .before .verdict .given .0 .0) (sym (c .before .before .before .judge-query .ensures) ∙ c .before .verdict .given .1)), call.work-refused _ _)
 
 enum-told : tie.Need-enum-told
 enum-told c = search needs
@@ -30,10 +31,10 @@ clean-all-requires : tie.Need-clean-all-requires
 clean-all-requires c κs = search needs
 
 slot-requires : tie.Need-slot-requires
-slot-requires c κs = let f = judge.query-facts (c .before .before .before .before .before .before .before .before .before .before .before .before .before .before .args .catalog .now) (c .before .before .before .before .before .before .before .before .before .before .before .before .before .before .args .cache .now) (strandOf (c .before .before .before .before .before .before .before .before .before .before .before .before .before .before .args .bases .now) (c .before .before .before .before .before .before .before .before .before .before .before .before .before .before .args .mates .now)) (length (c .before .before .before .before .before .before .before .before .before .before .before .before .before .before .args .work .now)) (length (c .before .before .before .before .before .before .before .before .before .before .before .before .before .before .args .hits .now)) (sym (c .before .before .before .before .before .before .judge-query .ensures) ∙ c .before .before .before .before .enum-told .given .1) in (f .0 .motif .small, omega (arith, f .0 .motif .small, f .0 .motif .same), omega (arith, f .2, c .before .before .clean-all .kept .0))
+slot-requires c κs = let f = judge.query-ready (c .before .before .before .before .before .before .before .before .before .before .before .before .before .before .args .catalog .now) (c .before .before .before .before .before .before .before .before .before .before .before .before .before .before .args .cache .now) (strandOf (c .before .before .before .before .before .before .before .before .before .before .before .before .before .before .args .bases .now) (c .before .before .before .before .before .before .before .before .before .before .before .before .before .before .args .mates .now)) (length (c .before .before .before .before .before .before .before .before .before .before .before .before .before .before .args .work .now)) (length (c .before .before .before .before .before .before .before .before .before .before .before .before .before .before .args .hits .now)) (sym (c .before .before .before .before .before .before .judge-query .ensures) ∙ c .before .before .before .before .enum-told .given .1) in (f .0 .motif .small, omega (arith, f .0 .motif .small, f .0 .motif .same), omega (arith, f .2, c .before .before .clean-all .kept .0))
 
 answer-requires : tie.Need-answer-requires
-answer-requires c κs = let f = judge.query-facts (c .before .before .before .before .before .before .before .before .before .before .before .before .before .before .before .before .before .before .args .catalog .now) (c .before .before .before .before .before .before .before .before .before .before .before .before .before .before .before .before .before .before .args .cache .now) (strandOf (c .before .before .before .before .before .before .before .before .before .before .before .before .before .before .before .before .before .before .args .bases .now) (c .before .before .before .before .before .before .before .before .before .before .before .before .before .before .before .before .before .before .args .mates .now)) (length (c .before .before .before .before .before .before .before .before .before .before .before .before .before .before .before .before .before .before .args .work .now)) (length (c .before .before .before .before .before .before .before .before .before .before .before .before .before .before .before .before .before .before .args .hits .now)) (sym (c .before .before .before .before .before .before .before .before .before .before .judge-query .ensures) ∙ c .before .before .before .before .before .before .before .before .enum-told .given .1) in (f .0, c .before .before .before .slot .ensures .1, call.slot-sound (c .before .before .before .before .before .before .before .before .before .before .before .before .before .before .before .before .before .before .args .cache .now) (c .before .before .before .before .before .before .clean-all .last .0) (c .before .before .before .slot .result) (c .before .before .before .before .before .before .clean-all .ensures) (omega (arith, c .before .before .before .slot .ensures .1, c .before .before .before .before .before .before .clean-all .kept .0)), f .1)
+answer-requires c κs = let f = judge.query-ready (c .before .before .before .before .before .before .before .before .before .before .before .before .before .before .before .before .before .before .args .catalog .now) (c .before .before .before .before .before .before .before .before .before .before .before .before .before .before .before .before .before .before .args .cache .now) (strandOf (c .before .before .before .before .before .before .before .before .before .before .before .before .before .before .before .before .before .before .args .bases .now) (c .before .before .before .before .before .before .before .before .before .before .before .before .before .before .before .before .before .before .args .mates .now)) (length (c .before .before .before .before .before .before .before .before .before .before .before .before .before .before .before .before .before .before .args .work .now)) (length (c .before .before .before .before .before .before .before .before .before .before .before .before .before .before .before .before .before .before .args .hits .now)) (sym (c .before .before .before .before .before .before .before .before .before .before .judge-query .ensures) ∙ c .before .before .before .before .before .before .before .before .enum-told .given .1) in (f .0, c .before .before .before .slot .ensures .1, call.slot-sound (c .before .before .before .before .before .before .before .before .before .before .before .before .before .before .before .before .before .before .args .cache .now) (c .before .before .before .before .before .before .clean-all .last .0) (c .before .before .before .slot .result) (c .before .before .before .before .before .before .clean-all .ensures) (omega (arith, c .before .before .before .slot .ensures .1, c .before .before .before .before .before .before .clean-all .kept .0)), f .1)
 
 same-length-2 : tie.Need-same-length-2
 same-length-2 c = search needs

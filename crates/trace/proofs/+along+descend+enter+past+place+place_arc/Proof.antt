@@ -7,7 +7,7 @@ use lib.ListN.{length}
 use Rattle.embedding.proofs.Recurrence.{rest}
 use Rattle.rows.proofs.Parts.{part-length, back-length}
 use Rattle.strand.specs.Vocabulary.{nth}
-use Rattle.rows.proofs.Arcs.{inner-sealed, split-left, heavy-end}
+use Rattle.arcs.proofs.Arcs.{inner-sealed, split-left, heavy-end}
 use Rattle.trace.specs.Trace.{Laid}
 use Rattle.trace.proofs.Top.{narrow, best-all, best-end, Walked, walked-none, walked-up, walked-in, walked-step, walked-unit}
 use Rattle.trace.proofs.Turning.{laid-none, laid-join, laid-wide, laid-unit}
@@ -33,8 +33,8 @@ use Rattle.trace.proofs.+along+descend+enter+past+place+place_arc.Lts-p
 use Rattle.trace.proofs.place_arc.Reads as place-arc
 use Rattle.trace.proofs.place_arc.Kinds as place-arc-kinds
 use Rattle.trace.proofs.+along+descend+enter+past+place+place_arc.Lts-place_arc as place-arc-lts
-use Rattle.rows.proofs.tree.heaviest.Reads as heaviest-reads
-use Rattle.rows.proofs.tree.mate.Reads as mate-reads
+use Rattle.arcs.proofs.heaviest.Reads as heaviest-reads
+use Rattle.arcs.proofs.mate.Reads as mate-reads
 use Rattle.trace.proofs.path.keep.Reads as keep-reads
 use Rattle.trace.proofs.path.middle.Reads as middle-reads
 use Rattle.trace.proofs.turn.put_base.Reads as put-base-reads

@@ -5,8 +5,6 @@ use lib.Seq.{length-take-le}
 use mathlib.Core.Path.{_∙_, ap, sym}
 use native.Mathlib.Omega.{arith}
 use Rattle.strand.specs.Strands.{isNested}
-use Rattle.block.proofs.EntryLaws.{kept}
-use Rattle.block.proofs.SoundLaws.{first-length, first-read}
 use Rattle.block.proofs.SoundLaws as laws
 use Rattle.block.proofs.sound.mates_in.Statement.{statement}
 use Rattle.block.proofs.sound.mates_in.Tie as tie

@@ -1,7 +1,5 @@
 -- `block::sound::sound_at` meets its contract.
 use borrow.Author.Needs.{needs}
-use Rattle.block.proofs.ContentLaws.{molecule-length}
-use Rattle.block.proofs.SoundLaws.{no-block}
 use Rattle.block.proofs.SoundLaws as laws
 use Rattle.block.proofs.sound.sound_at.Statement.{statement}
 use Rattle.block.proofs.sound.sound_at.Tie as tie

@@ -2,8 +2,6 @@
 use borrow.Author.Needs.{needs}
 use borrow.Author.Tests.{not-false, not-true}
 use mathlib.Core.Path.{_∙_, sym}
-use Rattle.block.proofs.ContentLaws.{entry-length}
-use Rattle.block.proofs.SoundLaws.{entry-check, entry-content, entry-hits, entry-zero}
 use Rattle.block.proofs.SoundLaws as laws
 use native.Mathlib.Omega.{arith}
 use Rattle.octets.proofs.SumLaws.{told-whole}

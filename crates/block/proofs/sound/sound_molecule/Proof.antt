@@ -2,8 +2,6 @@
 use borrow.Author.Needs.{needs}
 use borrow.Author.Tests.{not-false, not-true}
 use mathlib.Core.Path.{_∙_, sym}
-use Rattle.block.proofs.ContentLaws.{molecule-length}
-use Rattle.block.proofs.SoundLaws.{molecule-check, molecule-content, molecule-zero}
 use Rattle.block.proofs.SoundLaws as laws
 use native.Mathlib.Omega.{arith}
 use Rattle.octets.proofs.SumLaws.{told-whole}

@@ -28,8 +28,8 @@ letter-requires c κs = search needs
 set-byte-requires : tie.Need-set-byte-requires Inv-loop μ-loop
 set-byte-requires c κs = search needs
 
-set-word-requires : tie.Need-set-word-requires Inv-loop μ-loop
-set-word-requires c κs = search needs
+set-entry-requires : tie.Need-set-entry-requires Inv-loop μ-loop
+set-entry-requires c κs = search needs
 
 add-i : tie.Need-add-i Inv-loop μ-loop
 add-i c = omega arith
@@ -60,7 +60,7 @@ fill-spec =
     add-set-byte
     letter-requires
     set-byte-requires
-    set-word-requires
+    set-entry-requires
     add-i
     loop-less
     loop-again

@@ -25,7 +25,7 @@ returns-2 : tie.Need-returns-2
 returns-2 c = c .refuse .ensures ∙ judge.add-2 (c .before .before .before .before .before .before .before .before .before .args .catalog .now) (c .before .before .before .before .before .before .before .before .before .args .cache .now) (c .before .before .before .before .before .before .before .before .before .args .d) (strandOf (c .before .before .before .before .before .before .before .before .before .args .bases .now) (c .before .before .before .before .before .before .before .before .before .args .mates .now)) (sym (c .before .before .before .before .judge-buffers .ensures) ∙ c .before .before .enum-told .given .1) (c .before .if1 .taken)
 
 is-held-requires : tie.Need-is-held-requires
-is-held-requires c κs = (judge.sized (c .before .before .before .before .before .before .before .before .args .catalog .now) (c .before .before .before .before .before .before .before .before .args .cache .now) (sym (c .before .before .before .judge-buffers .ensures) ∙ c .before .enum-told .given .1) .blocks)
+is-held-requires c κs = (judge.all-sound (c .before .before .before .before .before .before .before .before .args .catalog .now) (c .before .before .before .before .before .before .before .before .args .cache .now) (sym (c .before .before .before .judge-buffers .ensures) ∙ c .before .enum-told .given .1))
 
 refuse-requires-2 : tie.Need-refuse-requires-2
 refuse-requires-2 c κs = search needs

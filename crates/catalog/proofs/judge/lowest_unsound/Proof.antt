@@ -1,22 +1,22 @@
 -- `catalog::judge::lowest_unsound` meets its contract.
 use borrow.Author.Needs.{needs}
-use Prim.Native.Nat.{_-_, _/_, _≤_}
+use Prim.Native.Nat.{_-_, _≤_}
 use native.Mathlib.Omega.{arith}
 use mathlib.Core.Path.{_≡_, sym}
-use lib.ListN.{length}
 use borrow.Author.Tests.{not-true, not-false}
 use Rattle.catalog.proofs.JudgeLaws as judge
 use Rattle.strand.specs.Vocabulary.{lowest}
 use Rattle.strand.proofs.ListLaws as laws
-use Rattle.catalog.specs.Buffers.{unsoundAt}
+use Rattle.calls.specs.Buffers.{unsoundAt}
+use Rattle.block.specs.Block.{blockCount}
 use Rattle.catalog.proofs.judge.lowest_unsound.Statement.{statement}
 use Rattle.catalog.proofs.judge.lowest_unsound.Tie as tie
 
 abbrev Inv-loop : tie.InvT-loop
-Inv-loop catalog n d₀ d = (d ≤ length catalog / 512) × (lowest d (unsoundAt catalog) ≡ d)
+Inv-loop catalog n d₀ d = (d ≤ blockCount catalog) × (lowest d (unsoundAt catalog) ≡ d)
 
 abbrev μ-loop : tie.MeasureT-loop
-μ-loop catalog n d₀ d = length catalog / 512 - d
+μ-loop catalog n d₀ d = blockCount catalog - d
 
 loop-holds : tie.Need-loop-holds Inv-loop μ-loop
 loop-holds c = (omega arith, laws.lowest-none _)

@@ -4,9 +4,9 @@ use native.Mathlib.Omega.{arith}
 use mathlib.Core.Path.{ap, _∙_}
 use lib.ListN.{length}
 use Rattle.catalog.proofs.SearchLaws as search-laws
-use Rattle.block.proofs.BlockLaws.{length-block}
+use Rattle.buffer.proofs.BlockLaws.{length-block}
 use Rattle.octets.proofs.MapLaws.{length-map}
-use Rattle.block.proofs.OutcomeLaws as outcome
+use Rattle.codec.proofs.OutcomeLaws as outcome
 use Rattle.block.specs.Block.{blockOf}
 use Rattle.catalog.proofs.search.answer_with.Statement.{statement}
 use Rattle.catalog.proofs.search.answer_with.Tie as tie

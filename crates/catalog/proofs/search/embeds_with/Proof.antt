@@ -5,7 +5,7 @@ use mathlib.Core.Path.{sym}
 use lib.ListN.{length}
 use Rattle.catalog.proofs.MatchLaws as matching
 use lib.Seq.{length-take-le}
-use Rattle.block.proofs.OutcomeLaws as outcome
+use Rattle.codec.proofs.OutcomeLaws as outcome
 use Rattle.catalog.proofs.search.embeds_with.Statement.{statement}
 use Rattle.catalog.proofs.search.embeds_with.Tie as tie
 

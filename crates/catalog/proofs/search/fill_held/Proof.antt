@@ -1,20 +1,21 @@
 -- `catalog::search::fill_held` meets its contract.
 use borrow.Author.Needs.{needs}
-use Prim.Native.Nat.{ℕ, _-_, _/_, _≤_}
+use Prim.Native.Nat.{ℕ, _-_, _≤_}
 use native.Mathlib.Omega.{arith}
 use mathlib.Core.Path.{_≡_, sym, ap, _∙_}
 use lib.ListN.{length, replicate}
 use Rattle.catalog.proofs.SearchLaws as search-laws
 use Rattle.octets.specs.Maps.{mapBytes}
-use Rattle.catalog.specs.Buffers.{held}
+use Rattle.calls.specs.Buffers.{held}
+use Rattle.block.specs.Block.{blockCount}
 use Rattle.catalog.proofs.search.fill_held.Statement.{statement}
 use Rattle.catalog.proofs.search.fill_held.Tie as tie
 
 abbrev Inv-loop : tie.InvT-loop
-Inv-loop catalog map₀ n d₀ map d = (d ≤ length catalog / 512) × (map ≡ mapBytes (search-laws.upTo d (held catalog))) × (length map ≡ 64)
+Inv-loop catalog map₀ n d₀ map d = (d ≤ blockCount catalog) × (map ≡ mapBytes (search-laws.upTo d (held catalog))) × (length map ≡ 64)
 
 abbrev μ-loop : tie.MeasureT-loop
-μ-loop catalog map₀ n d₀ map d = length catalog / 512 - d
+μ-loop catalog map₀ n d₀ map d = blockCount catalog - d
 
 zero-requires : tie.Need-zero-requires Inv-loop μ-loop
 zero-requires c κs = search needs
@@ -41,7 +42,7 @@ same-length : tie.Need-same-length Inv-loop μ-loop
 same-length c = c .before .loop .inv .2 ∙ sym (c .before .before .before .before .before .before .before .before .pre .0)
 
 returns : tie.Need-returns Inv-loop μ-loop
-returns c = search-laws.map-end (held (c .before .before .before .before .before .before .before .before .args .catalog .now)) (length (c .before .before .before .before .before .before .before .before .args .catalog .now) / 512) (c .before .loop .d) _ (c .loop-test .left) (c .before .loop .inv .0) (search-laws.held-end (c .before .before .before .before .before .before .before .before .args .catalog .now)) (c .before .loop .inv .1)
+returns c = search-laws.map-end (held (c .before .before .before .before .before .before .before .before .args .catalog .now)) (blockCount (c .before .before .before .before .before .before .before .before .args .catalog .now)) (c .before .loop .d) _ (c .loop-test .left) (c .before .loop .inv .0) (search-laws.held-end (c .before .before .before .before .before .before .before .before .args .catalog .now)) (c .before .loop .inv .1)
 
 pub fill-held-spec : {M : Type 1} → statement M
 fill-held-spec =

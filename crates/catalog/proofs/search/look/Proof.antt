@@ -5,8 +5,8 @@ use borrow.Author.Tests.{not-true, not-false}
 use Rattle.catalog.proofs.SearchLaws as search-laws
 use Rattle.strand.specs.Strands.{strandOf}
 use Rattle.block.specs.Content.{keepsMotif}
-use Rattle.catalog.proofs.JudgeLaws as judge
-use Rattle.catalog.specs.Motifs.{embeds}
+use Rattle.calls.proofs.FactLaws as fact
+use Rattle.calls.specs.Motifs.{embeds}
 use Rattle.catalog.proofs.search.look.Statement.{statement}
 use Rattle.catalog.proofs.search.look.Tie as tie
 
@@ -41,7 +41,7 @@ part-embeds-in-end : tie.Need-part-embeds-in-end
 part-embeds-in-end c = search needs
 
 embeds-in-requires : tie.Need-embeds-in-requires
-embeds-in-requires c κs = (c .before .before .before .before .before .before .before .before .before .before .before .pre .0 .blocks .sound (c .before .before .before .before .before .before .before .before .before .before .before .args .d) (c .before .before .before .before .before .before .before .before .before .before .before .pre .1), judge.held-facts (c .before .before .before .before .before .before .before .before .before .before .before .args .catalog .now) (c .before .before .before .before .before .before .before .before .before .before .before .args .d) (sym (c .before .before .before .before .before .is-held .ensures) ∙ not-false _ (c .before .before .before .before .if1 .left)) .1, c .before .before .before .before .before .before .before .before .before .before .before .pre .0 .motif, c .before .before .before .before .before .before .before .before .before .before .before .pre .0 .room)
+embeds-in-requires c κs = (c .before .before .before .before .before .before .before .before .before .before .before .pre .0 .blocks .sound (c .before .before .before .before .before .before .before .before .before .before .before .args .d) (c .before .before .before .before .before .before .before .before .before .before .before .pre .1), fact.held-facts (c .before .before .before .before .before .before .before .before .before .before .before .args .catalog .now) (c .before .before .before .before .before .before .before .before .before .before .before .args .d) (sym (c .before .before .before .before .before .is-held .ensures) ∙ not-false _ (c .before .before .before .before .if1 .left)) .1, c .before .before .before .before .before .before .before .before .before .before .before .pre .0 .motif, c .before .before .before .before .before .before .before .before .before .before .before .pre .0 .room)
 
 add-t17 : tie.Need-add-t17
 add-t17 c = search needs

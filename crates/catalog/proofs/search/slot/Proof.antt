@@ -4,7 +4,7 @@ use native.Mathlib.Omega.{arith}
 use mathlib.Core.Path.{ap₂}
 use native.Mathlib.Nat.{mod-lt}
 use Rattle.strand.specs.Strands.{key}
-use Rattle.catalog.specs.Buffers.{slotOf}
+use Rattle.calls.specs.Buffers.{slotOf}
 use Rattle.catalog.proofs.search.slot.Statement.{statement}
 use Rattle.catalog.proofs.search.slot.Tie as tie
 

@@ -1,16 +1,16 @@
 -- `catalog_test::lines::strand` meets its contract.
+use borrow.Author.Needs.{needs}
 use Prim.Native.Nat.{_-_, _≤_}
 use mathlib.Core.Path.{_≡_}
 use lib.ListN.{length}
-use borrow.Author.Needs.{needs}
 use Rattle.catalog_test.proofs.lines.strand.Statement.{statement}
 use Rattle.catalog_test.proofs.lines.strand.Tie as tie
 
 abbrev Inv-loop : tie.InvT-loop
-Inv-loop line s₀ i₀ s i = (i ≤ 161) × (length s ≡ length s₀)
+Inv-loop line bases₀ mates₀ i₀ bases mates i = (i ≤ 161) × (length bases ≡ length bases₀) × (length mates ≡ length mates₀)
 
 abbrev μ-loop : tie.MeasureT-loop
-μ-loop line s₀ i₀ s i = 161 - i
+μ-loop line bases₀ mates₀ i₀ bases mates i = 161 - i
 
 loop-holds : tie.Need-loop-holds Inv-loop μ-loop
 loop-holds c = search needs
@@ -18,14 +18,14 @@ loop-holds c = search needs
 base-requires : tie.Need-base-requires Inv-loop μ-loop
 base-requires c κs = search needs
 
-put-requires : tie.Need-put-requires Inv-loop μ-loop
-put-requires c κs = search needs
+set-byte-requires : tie.Need-set-byte-requires Inv-loop μ-loop
+set-byte-requires c κs = search needs
 
 mate-requires : tie.Need-mate-requires Inv-loop μ-loop
 mate-requires c κs = search needs
 
-put-word-requires : tie.Need-put-word-requires Inv-loop μ-loop
-put-word-requires c κs = search needs
+set-entry-requires : tie.Need-set-entry-requires Inv-loop μ-loop
+set-entry-requires c κs = search needs
 
 add-i : tie.Need-add-i Inv-loop μ-loop
 add-i c = search needs
@@ -39,6 +39,9 @@ loop-again c = search needs
 same-length : tie.Need-same-length Inv-loop μ-loop
 same-length c = search needs
 
+same-length-2 : tie.Need-same-length-2 Inv-loop μ-loop
+same-length-2 c = search needs
+
 returns : tie.Need-returns Inv-loop μ-loop
 returns c = search needs
 
@@ -50,11 +53,12 @@ strand-spec =
     μ-loop
     loop-holds
     base-requires
-    put-requires
+    set-byte-requires
     mate-requires
-    put-word-requires
+    set-entry-requires
     add-i
     loop-less
     loop-again
     same-length
+    same-length-2
     returns)

@@ -1,15 +1,16 @@
 -- `catalog_test::tell::write` meets its contract.
-use Prim.Native.Nat.{_-_, _≤_}
-use lib.ListN.{length}
 use borrow.Author.Needs.{needs}
+use Prim.Native.Nat.{_-_, _≤_}
+use mathlib.Core.Path.{_≡_}
+use lib.ListN.{length}
 use Rattle.catalog_test.proofs.tell.write.Statement.{statement}
 use Rattle.catalog_test.proofs.tell.write.Tie as tie
 
 abbrev Inv-loop : tie.InvT-loop
-Inv-loop s text i₀ i = i ≤ length text
+Inv-loop counts₀ text i₀ counts i = (i ≤ length text) × (length counts ≡ length counts₀)
 
 abbrev μ-loop : tie.MeasureT-loop
-μ-loop s text i₀ i = length text - i
+μ-loop counts₀ text i₀ counts i = length text - i
 
 loop-holds : tie.Need-loop-holds Inv-loop μ-loop
 loop-holds c = search needs
@@ -26,6 +27,9 @@ loop-less c = search needs
 loop-again : tie.Need-loop-again Inv-loop μ-loop
 loop-again c = search needs
 
+same-length : tie.Need-same-length Inv-loop μ-loop
+same-length c = search needs
+
 returns : tie.Need-returns Inv-loop μ-loop
 returns c = search needs
 
@@ -40,4 +44,5 @@ write-spec =
     add-i
     loop-less
     loop-again
+    same-length
     returns)

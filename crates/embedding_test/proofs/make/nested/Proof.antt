@@ -27,14 +27,14 @@ rem-letter c = search needs
 letter-requires : tie.Need-letter-requires Inv-loop μ-loop
 letter-requires c κs = search needs
 
-put-base-requires : tie.Need-put-base-requires Inv-loop μ-loop
-put-base-requires c κs = search needs
+set-byte-requires : tie.Need-set-byte-requires Inv-loop μ-loop
+set-byte-requires c κs = search needs
 
 next-requires-2 : tie.Need-next-requires-2 Inv-loop μ-loop
 next-requires-2 c κs = search needs
 
-bond-requires : tie.Need-bond-requires Inv-loop μ-loop
-bond-requires c κs = search needs
+fold-requires : tie.Need-fold-requires Inv-loop μ-loop
+fold-requires c κs = search needs
 
 add-i : tie.Need-add-i Inv-loop μ-loop
 add-i c = search needs
@@ -68,9 +68,9 @@ nested-spec =
     add-letter
     rem-letter
     letter-requires
-    put-base-requires
+    set-byte-requires
     next-requires-2
-    bond-requires
+    fold-requires
     add-i
     loop-less
     loop-again

@@ -1,6 +1,6 @@
 -- `matcher::walk::arc_end` meets its contract.
 use borrow.Author.Needs.{needs}
-use Rattle.rows.proofs.Made.{no-box}
+use Rattle.arcs.proofs.Made.{no-box}
 use Rattle.trace.proofs.Top.{window-of, window-best}
 use Rattle.matcher.proofs.Whole.{room-whole}
 use Rattle.matcher.proofs.walk.arc_end.Statement.{statement}

@@ -11,7 +11,7 @@ use Rattle.matcher_test.proofs.brute.+longest.Lts-longest as longest-lt
 use Rattle.matcher_test.proofs.brute.fits.Reads as fits-reads
 use Rattle.matcher_test.proofs.brute.greater.Reads as greater-reads
 use Rattle.matcher_test.proofs.brute.prefix.Reads as prefix-reads
-use Rattle.matcher_test.proofs.strands.put.Reads as put-reads
+use Rattle.testing.proofs.slices.set_entry.Reads as set-entry-reads
 use Rattle.matcher_test.proofs.brute.+longest.{statement}
 use Rattle.matcher_test.proofs.brute.+longest.Tie.{close}
 
@@ -31,8 +31,8 @@ longest-prefix-requires : (t : ℕ) → longest-lts.Need-prefix-requires (
   longest.Post,
   fits-reads.Asked,
   fits-reads.Learnt,
-  put-reads.Asked,
-  put-reads.Learnt,
+  set-entry-reads.Asked,
+  set-entry-reads.Learnt,
   greater-reads.Asked,
   greater-reads.Learnt,
 ) (longest-at t) longest.Post
@@ -45,8 +45,8 @@ longest-returns : (t : ℕ) → longest-lts.Need-returns (
   longest.Post,
   fits-reads.Asked,
   fits-reads.Learnt,
-  put-reads.Asked,
-  put-reads.Learnt,
+  set-entry-reads.Asked,
+  set-entry-reads.Learnt,
   greater-reads.Asked,
   greater-reads.Learnt,
 ) (longest-at t) longest.Post
@@ -59,8 +59,8 @@ longest-prefix-requires-2 : (t : ℕ) → longest-lts.Need-prefix-requires-2 (
   longest.Post,
   fits-reads.Asked,
   fits-reads.Learnt,
-  put-reads.Asked,
-  put-reads.Learnt,
+  set-entry-reads.Asked,
+  set-entry-reads.Learnt,
   greater-reads.Asked,
   greater-reads.Learnt,
 ) (longest-at t) longest.Post
@@ -73,8 +73,8 @@ longest-returns-2 : (t : ℕ) → longest-lts.Need-returns-2 (
   longest.Post,
   fits-reads.Asked,
   fits-reads.Learnt,
-  put-reads.Asked,
-  put-reads.Learnt,
+  set-entry-reads.Asked,
+  set-entry-reads.Learnt,
   greater-reads.Asked,
   greater-reads.Learnt,
 ) (longest-at t) longest.Post
@@ -87,8 +87,8 @@ longest-add-longest : (t : ℕ) → longest-lts.Need-add-longest (
   longest.Post,
   fits-reads.Asked,
   fits-reads.Learnt,
-  put-reads.Asked,
-  put-reads.Learnt,
+  set-entry-reads.Asked,
+  set-entry-reads.Learnt,
   greater-reads.Asked,
   greater-reads.Learnt,
 ) (longest-at t) longest.Post
@@ -101,8 +101,8 @@ longest-longest-requires : (t : ℕ) → longest-lts.Need-longest-requires (
   longest.Post,
   fits-reads.Asked,
   fits-reads.Learnt,
-  put-reads.Asked,
-  put-reads.Learnt,
+  set-entry-reads.Asked,
+  set-entry-reads.Learnt,
   greater-reads.Asked,
   greater-reads.Learnt,
 ) (longest-at t) longest.Post
@@ -115,8 +115,8 @@ longest-fits-requires : (t : ℕ) → longest-lts.Need-fits-requires (
   longest.Post,
   fits-reads.Asked,
   fits-reads.Learnt,
-  put-reads.Asked,
-  put-reads.Learnt,
+  set-entry-reads.Asked,
+  set-entry-reads.Learnt,
   greater-reads.Asked,
   greater-reads.Learnt,
 ) (longest-at t) longest.Post
@@ -129,8 +129,8 @@ longest-same-length : (t : ℕ) → longest-lts.Need-same-length (
   longest.Post,
   fits-reads.Asked,
   fits-reads.Learnt,
-  put-reads.Asked,
-  put-reads.Learnt,
+  set-entry-reads.Asked,
+  set-entry-reads.Learnt,
   greater-reads.Asked,
   greater-reads.Learnt,
 ) (longest-at t) longest.Post
@@ -143,26 +143,26 @@ longest-returns-3 : (t : ℕ) → longest-lts.Need-returns-3 (
   longest.Post,
   fits-reads.Asked,
   fits-reads.Learnt,
-  put-reads.Asked,
-  put-reads.Learnt,
+  set-entry-reads.Asked,
+  set-entry-reads.Learnt,
   greater-reads.Asked,
   greater-reads.Learnt,
 ) (longest-at t) longest.Post
 longest-returns-3 t c = tt
 
-longest-put-requires : (t : ℕ) → longest-lts.Need-put-requires (
+longest-set-entry-requires : (t : ℕ) → longest-lts.Need-set-entry-requires (
   prefix-reads.Asked,
   prefix-reads.Learnt,
   longest-below t,
   longest.Post,
   fits-reads.Asked,
   fits-reads.Learnt,
-  put-reads.Asked,
-  put-reads.Learnt,
+  set-entry-reads.Asked,
+  set-entry-reads.Learnt,
   greater-reads.Asked,
   greater-reads.Learnt,
 ) (longest-at t) longest.Post
-longest-put-requires t c κs = tt
+longest-set-entry-requires t c κs = tt
 
 longest-add-longest-2 : (t : ℕ) → longest-lts.Need-add-longest-2 (
   prefix-reads.Asked,
@@ -171,8 +171,8 @@ longest-add-longest-2 : (t : ℕ) → longest-lts.Need-add-longest-2 (
   longest.Post,
   fits-reads.Asked,
   fits-reads.Learnt,
-  put-reads.Asked,
-  put-reads.Learnt,
+  set-entry-reads.Asked,
+  set-entry-reads.Learnt,
   greater-reads.Asked,
   greater-reads.Learnt,
 ) (longest-at t) longest.Post
@@ -185,8 +185,8 @@ longest-add-longest-3 : (t : ℕ) → longest-lts.Need-add-longest-3 (
   longest.Post,
   fits-reads.Asked,
   fits-reads.Learnt,
-  put-reads.Asked,
-  put-reads.Learnt,
+  set-entry-reads.Asked,
+  set-entry-reads.Learnt,
   greater-reads.Asked,
   greater-reads.Learnt,
 ) (longest-at t) longest.Post
@@ -199,8 +199,8 @@ longest-longest-requires-2 : (t : ℕ) → longest-lts.Need-longest-requires-2 (
   longest.Post,
   fits-reads.Asked,
   fits-reads.Learnt,
-  put-reads.Asked,
-  put-reads.Learnt,
+  set-entry-reads.Asked,
+  set-entry-reads.Learnt,
   greater-reads.Asked,
   greater-reads.Learnt,
 ) (longest-at t) longest.Post
@@ -213,8 +213,8 @@ longest-greater-requires : (t : ℕ) → longest-lts.Need-greater-requires (
   longest.Post,
   fits-reads.Asked,
   fits-reads.Learnt,
-  put-reads.Asked,
-  put-reads.Learnt,
+  set-entry-reads.Asked,
+  set-entry-reads.Learnt,
   greater-reads.Asked,
   greater-reads.Learnt,
 ) (longest-at t) longest.Post
@@ -227,12 +227,12 @@ longest-same-length-2 : (t : ℕ) → longest-lts.Need-same-length-2 (
   longest.Post,
   fits-reads.Asked,
   fits-reads.Learnt,
-  put-reads.Asked,
-  put-reads.Learnt,
+  set-entry-reads.Asked,
+  set-entry-reads.Learnt,
   greater-reads.Asked,
   greater-reads.Learnt,
 ) (longest-at t) longest.Post
-longest-same-length-2 t c = c .before .before .before .longest2 .kept .1 .1 .1 .1 .0 ∙ c .before .before .before .before .before .before .before .put .kept .0 ∙ c .before .before .before .before .before .before .before .before .before .before .before .before .before .before .longest .kept .1 .1 .1 .1 .0
+longest-same-length-2 t c = c .before .before .before .longest2 .kept .1 .1 .1 .1 .0 ∙ c .before .before .before .before .before .before .before .set-entry .kept .0 ∙ c .before .before .before .before .before .before .before .before .before .before .before .before .before .before .longest .kept .1 .1 .1 .1 .0
 
 longest-returns-4 : (t : ℕ) → longest-lts.Need-returns-4 (
   prefix-reads.Asked,
@@ -241,8 +241,8 @@ longest-returns-4 : (t : ℕ) → longest-lts.Need-returns-4 (
   longest.Post,
   fits-reads.Asked,
   fits-reads.Learnt,
-  put-reads.Asked,
-  put-reads.Learnt,
+  set-entry-reads.Asked,
+  set-entry-reads.Learnt,
   greater-reads.Asked,
   greater-reads.Learnt,
 ) (longest-at t) longest.Post
@@ -256,8 +256,8 @@ pub +longest-spec : {M : Type 1} → statement M
   longest.Post,
   fits-reads.Asked,
   fits-reads.Learnt,
-  put-reads.Asked,
-  put-reads.Learnt,
+  set-entry-reads.Asked,
+  set-entry-reads.Learnt,
   greater-reads.Asked,
   greater-reads.Learnt,
 )
@@ -272,7 +272,7 @@ pub +longest-spec : {M : Type 1} → statement M
     (longest-fits-requires t)
     (longest-same-length t)
     (longest-returns-3 t)
-    (longest-put-requires t)
+    (longest-set-entry-requires t)
     (longest-add-longest-2 t)
     (longest-add-longest-3 t)
     (longest-longest-requires-2 t)

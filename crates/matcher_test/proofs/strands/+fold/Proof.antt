@@ -7,7 +7,7 @@ use borrow.Fn.PlainCycle.{Measures, is, falls, and}
 use Rattle.matcher_test.proofs.strands.fold.Reads as fold
 use Rattle.matcher_test.proofs.strands.fold.Kinds as fold-kinds
 use Rattle.matcher_test.proofs.strands.+fold.Lts-fold as fold-lts
-use Rattle.matcher_test.proofs.strands.put.Reads as put-reads
+use Rattle.testing.proofs.slices.bond.Reads as bond-reads
 use Rattle.matcher_test.proofs.strands.reach.Reads as reach-reads
 use Rattle.matcher_test.proofs.strands.+fold.{statement}
 use Rattle.matcher_test.proofs.strands.+fold.Tie.{close}
@@ -24,8 +24,8 @@ fold-below t = and 1 fold-kinds.ps (falls 1 fold-kinds.ps _<_ μ-fold t) fold.Pr
 fold-returns : (t : ℕ) → fold-lts.Need-returns (
   reach-reads.Asked,
   reach-reads.Learnt,
-  put-reads.Asked,
-  put-reads.Learnt,
+  bond-reads.Asked,
+  bond-reads.Learnt,
   fold-below t,
   fold.Post,
 ) (fold-at t) fold.Post
@@ -34,8 +34,8 @@ fold-returns t c = tt
 fold-sub-reach : (t : ℕ) → fold-lts.Need-sub-reach (
   reach-reads.Asked,
   reach-reads.Learnt,
-  put-reads.Asked,
-  put-reads.Learnt,
+  bond-reads.Asked,
+  bond-reads.Learnt,
   fold-below t,
   fold.Post,
 ) (fold-at t) fold.Post
@@ -44,8 +44,8 @@ fold-sub-reach t c = omega arith
 fold-reach-requires : (t : ℕ) → fold-lts.Need-reach-requires (
   reach-reads.Asked,
   reach-reads.Learnt,
-  put-reads.Asked,
-  put-reads.Learnt,
+  bond-reads.Asked,
+  bond-reads.Learnt,
   fold-below t,
   fold.Post,
 ) (fold-at t) fold.Post
@@ -54,8 +54,8 @@ fold-reach-requires t c κs = tt
 fold-sub-if2 : (t : ℕ) → fold-lts.Need-sub-if2 (
   reach-reads.Asked,
   reach-reads.Learnt,
-  put-reads.Asked,
-  put-reads.Learnt,
+  bond-reads.Asked,
+  bond-reads.Learnt,
   fold-below t,
   fold.Post,
 ) (fold-at t) fold.Post
@@ -64,8 +64,8 @@ fold-sub-if2 t c = omega arith
 fold-returns-2 : (t : ℕ) → fold-lts.Need-returns-2 (
   reach-reads.Asked,
   reach-reads.Learnt,
-  put-reads.Asked,
-  put-reads.Learnt,
+  bond-reads.Asked,
+  bond-reads.Learnt,
   fold-below t,
   fold.Post,
 ) (fold-at t) fold.Post
@@ -74,38 +74,28 @@ fold-returns-2 t c = tt
 fold-add-e : (t : ℕ) → fold-lts.Need-add-e (
   reach-reads.Asked,
   reach-reads.Learnt,
-  put-reads.Asked,
-  put-reads.Learnt,
+  bond-reads.Asked,
+  bond-reads.Learnt,
   fold-below t,
   fold.Post,
 ) (fold-at t) fold.Post
 fold-add-e t c = omega arith
 
-fold-put-requires : (t : ℕ) → fold-lts.Need-put-requires (
+fold-bond-requires : (t : ℕ) → fold-lts.Need-bond-requires (
   reach-reads.Asked,
   reach-reads.Learnt,
-  put-reads.Asked,
-  put-reads.Learnt,
+  bond-reads.Asked,
+  bond-reads.Learnt,
   fold-below t,
   fold.Post,
 ) (fold-at t) fold.Post
-fold-put-requires t c κs = tt
-
-fold-put-requires-2 : (t : ℕ) → fold-lts.Need-put-requires-2 (
-  reach-reads.Asked,
-  reach-reads.Learnt,
-  put-reads.Asked,
-  put-reads.Learnt,
-  fold-below t,
-  fold.Post,
-) (fold-at t) fold.Post
-fold-put-requires-2 t c κs = tt
+fold-bond-requires t c κs = tt
 
 fold-add-fold : (t : ℕ) → fold-lts.Need-add-fold (
   reach-reads.Asked,
   reach-reads.Learnt,
-  put-reads.Asked,
-  put-reads.Learnt,
+  bond-reads.Asked,
+  bond-reads.Learnt,
   fold-below t,
   fold.Post,
 ) (fold-at t) fold.Post
@@ -114,18 +104,18 @@ fold-add-fold t c = omega arith
 fold-fold-requires : (t : ℕ) → fold-lts.Need-fold-requires (
   reach-reads.Asked,
   reach-reads.Learnt,
-  put-reads.Asked,
-  put-reads.Learnt,
+  bond-reads.Asked,
+  bond-reads.Learnt,
   fold-below t,
   fold.Post,
 ) (fold-at t) fold.Post
-fold-fold-requires t c κs = (omega (arith, c .before .before .before .before .before .before .before .before .before .before .before .before .before .pre .0), tt)
+fold-fold-requires t c κs = (omega (arith, c .before .before .before .before .before .before .before .before .before .pre .0), tt)
 
 fold-add-fold-2 : (t : ℕ) → fold-lts.Need-add-fold-2 (
   reach-reads.Asked,
   reach-reads.Learnt,
-  put-reads.Asked,
-  put-reads.Learnt,
+  bond-reads.Asked,
+  bond-reads.Learnt,
   fold-below t,
   fold.Post,
 ) (fold-at t) fold.Post
@@ -134,28 +124,28 @@ fold-add-fold-2 t c = omega arith
 fold-fold-requires-2 : (t : ℕ) → fold-lts.Need-fold-requires-2 (
   reach-reads.Asked,
   reach-reads.Learnt,
-  put-reads.Asked,
-  put-reads.Learnt,
+  bond-reads.Asked,
+  bond-reads.Learnt,
   fold-below t,
   fold.Post,
 ) (fold-at t) fold.Post
-fold-fold-requires-2 t c κs = (omega (arith, c .before .before .before .before .before .before .before .before .before .before .before .before .before .before .before .before .before .pre .0), tt)
+fold-fold-requires-2 t c κs = (omega (arith, c .before .before .before .before .before .before .before .before .before .before .before .before .before .pre .0), tt)
 
 fold-same-length : (t : ℕ) → fold-lts.Need-same-length (
   reach-reads.Asked,
   reach-reads.Learnt,
-  put-reads.Asked,
-  put-reads.Learnt,
+  bond-reads.Asked,
+  bond-reads.Learnt,
   fold-below t,
   fold.Post,
 ) (fold-at t) fold.Post
-fold-same-length t c = c .before .before .fold2 .kept .1 .1 .1 .1 .0 ∙ c .before .before .before .before .before .before .fold .kept .1 .1 .1 .1 .0 ∙ c .before .before .before .before .before .before .before .before .before .before .put2 .kept .0 ∙ c .before .before .before .before .before .before .before .before .before .before .before .before .before .before .put .kept .0
+fold-same-length t c = c .before .before .fold2 .kept .1 .1 .1 .1 .0 ∙ c .before .before .before .before .before .before .fold .kept .1 .1 .1 .1 .0 ∙ c .before .before .before .before .before .before .before .before .before .before .bond .kept .0
 
 fold-returns-3 : (t : ℕ) → fold-lts.Need-returns-3 (
   reach-reads.Asked,
   reach-reads.Learnt,
-  put-reads.Asked,
-  put-reads.Learnt,
+  bond-reads.Asked,
+  bond-reads.Learnt,
   fold-below t,
   fold.Post,
 ) (fold-at t) fold.Post
@@ -165,8 +155,8 @@ pub +fold-spec : {M : Type 1} → statement M
 +fold-spec = close μ-fold λ t. fold-lts.spec (
   reach-reads.Asked,
   reach-reads.Learnt,
-  put-reads.Asked,
-  put-reads.Learnt,
+  bond-reads.Asked,
+  bond-reads.Learnt,
   fold-below t,
   fold.Post,
 )
@@ -178,8 +168,7 @@ pub +fold-spec : {M : Type 1} → statement M
     (fold-sub-if2 t)
     (fold-returns-2 t)
     (fold-add-e t)
-    (fold-put-requires t)
-    (fold-put-requires-2 t)
+    (fold-bond-requires t)
     (fold-add-fold t)
     (fold-fold-requires t)
     (fold-add-fold-2 t)

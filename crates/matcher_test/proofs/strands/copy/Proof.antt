@@ -21,8 +21,8 @@ add-byte-at c = omega arith
 byte-at-requires : tie.Need-byte-at-requires Inv-loop μ-loop
 byte-at-requires c κs = tt
 
-put-base-requires : tie.Need-put-base-requires Inv-loop μ-loop
-put-base-requires c κs = tt
+set-byte-requires : tie.Need-set-byte-requires Inv-loop μ-loop
+set-byte-requires c κs = tt
 
 add-digit-at : tie.Need-add-digit-at Inv-loop μ-loop
 add-digit-at c = omega arith
@@ -33,8 +33,8 @@ add-digit-at-2 c = omega arith
 digit-at-requires : tie.Need-digit-at-requires Inv-loop μ-loop
 digit-at-requires c κs = tt
 
-put-requires : tie.Need-put-requires Inv-loop μ-loop
-put-requires c κs = tt
+set-entry-requires : tie.Need-set-entry-requires Inv-loop μ-loop
+set-entry-requires c κs = tt
 
 add-k : tie.Need-add-k Inv-loop μ-loop
 add-k c = omega arith
@@ -43,7 +43,7 @@ loop-less : tie.Need-loop-less Inv-loop μ-loop
 loop-less c = omega arith
 
 loop-again : tie.Need-loop-again Inv-loop μ-loop
-loop-again c = (omega arith, (c .before .before .before .before .before .before .before .put-base .kept .0 ∙ c .before .before .before .before .before .before .before .before .before .before .before .loop .inv .1 .0, c .before .before .put .kept .0 ∙ c .before .before .before .before .before .before .before .before .before .before .before .loop .inv .1 .1))
+loop-again c = (omega arith, (c .before .before .before .before .before .before .before .set-byte .kept .0 ∙ c .before .before .before .before .before .before .before .before .before .before .before .loop .inv .1 .0, c .before .before .set-entry .kept .0 ∙ c .before .before .before .before .before .before .before .before .before .before .before .loop .inv .1 .1))
 
 same-length : tie.Need-same-length Inv-loop μ-loop
 same-length c = c .before .loop .inv .1 .0
@@ -63,11 +63,11 @@ copy-spec =
     loop-holds
     add-byte-at
     byte-at-requires
-    put-base-requires
+    set-byte-requires
     add-digit-at
     add-digit-at-2
     digit-at-requires
-    put-requires
+    set-entry-requires
     add-k
     loop-less
     loop-again

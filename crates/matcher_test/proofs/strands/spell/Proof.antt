@@ -18,8 +18,8 @@ loop-holds c = (omega arith, refl)
 base-requires : tie.Need-base-requires Inv-loop μ-loop
 base-requires c κs = tt
 
-put-base-requires : tie.Need-put-base-requires Inv-loop μ-loop
-put-base-requires c κs = tt
+set-byte-requires : tie.Need-set-byte-requires Inv-loop μ-loop
+set-byte-requires c κs = tt
 
 add-i : tie.Need-add-i Inv-loop μ-loop
 add-i c = omega arith
@@ -28,7 +28,7 @@ loop-less : tie.Need-loop-less Inv-loop μ-loop
 loop-less c = omega arith
 
 loop-again : tie.Need-loop-again Inv-loop μ-loop
-loop-again c = (omega arith, c .before .before .put-base .kept .0 ∙ c .before .before .before .before .before .before .loop .inv .1)
+loop-again c = (omega arith, c .before .before .set-byte .kept .0 ∙ c .before .before .before .before .before .before .loop .inv .1)
 
 same-length : tie.Need-same-length Inv-loop μ-loop
 same-length c = c .before .loop .inv .1
@@ -44,7 +44,7 @@ spell-spec =
     μ-loop
     loop-holds
     base-requires
-    put-base-requires
+    set-byte-requires
     add-i
     loop-less
     loop-again

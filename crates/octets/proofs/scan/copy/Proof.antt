@@ -1,6 +1,5 @@
 -- `octets::scan::copy` meets its contract.
 use Prim.Native.Nat.{_-_, _≤_}
-use Rattle.octets.proofs.ScanLaws.{copy-end, copy-more}
 use borrow.Author.Needs.{needs}
 use lib.ListN.{drop, length, length-set, take}
 use mathlib.Core.List.{_++_}

@@ -1,6 +1,5 @@
 -- `octets::scan::put_words` meets its contract.
 use Prim.Native.Nat.{_*_, _-_, _≤_}
-use Rattle.octets.proofs.ScanLaws.{words-end, words-more, words-none}
 use Rattle.octets.specs.Numbers.{bytesOf}
 use borrow.Author.Needs.{needs}
 use lib.ListN.{drop, length, length-set, take}

@@ -5,7 +5,6 @@ use borrow.Author.Needs.{needs}
 use lib.ListN.{length}
 use mathlib.Core.Path.{_≡_, sym}
 use native.Mathlib.Omega.{arith}
-use Rattle.strand.proofs.ListLaws.{same-all, same-length, same-place}
 use Rattle.strand.specs.Vocabulary.{nth}
 use Rattle.strand.proofs.ListLaws as laws
 use Rattle.octets.proofs.scan.same_words.Statement.{statement}

@@ -1,6 +1,5 @@
 -- `octets::scan::zero` meets its contract.
 use Prim.Native.Nat.{_-_, _≤_}
-use Rattle.octets.proofs.ScanLaws.{zero-end}
 use borrow.Author.Fill.{fill-more}
 use borrow.Author.Needs.{needs}
 use lib.ListN.{drop, length, length-set, replicate}

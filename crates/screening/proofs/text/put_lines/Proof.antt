@@ -3,13 +3,13 @@ use Prim.Native.Nat.{_-_, _≤_}
 use native.Mathlib.Omega.{arith}
 use mathlib.Core.Path.{_≡_, refl, _∙_}
 use lib.ListN.{length, take}
-use Rattle.screening.specs.Text.{lines, Put}
+use Rattle.screening.specs.Text.{lines, TextPut}
 use Rattle.screening.proofs.TextLaws as law
 use Rattle.screening.proofs.text.put_lines.Statement.{statement}
 use Rattle.screening.proofs.text.put_lines.Tie as tie
 
 abbrev Inv-loop : tie.InvT-loop
-Inv-loop out₀ at numbers count past₀ i₀ out past i = (i ≤ count) × (length out ≡ length out₀) × Put (lines (take i numbers)) out₀ out at past
+Inv-loop out₀ at numbers count past₀ i₀ out past i = (i ≤ count) × (length out ≡ length out₀) × TextPut (lines (take i numbers)) out₀ out at past
 
 abbrev μ-loop : tie.MeasureT-loop
 μ-loop out₀ at numbers count past₀ i₀ out past i = count - i

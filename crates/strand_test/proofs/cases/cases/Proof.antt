@@ -1,74 +1,46 @@
 -- `strand_test::cases::cases` meets its contract.
 use borrow.Author.Needs.{needs}
 use Prim.Native.Nat.{_-_, _/_, _≤_}
-use native.Mathlib.Omega.{arith}
-use mathlib.Core.Path.{_≡_, refl, _∙_}
+use mathlib.Core.Path.{_≡_}
 use lib.ListN.{length}
 use Rattle.strand_test.proofs.cases.cases.Statement.{statement}
 use Rattle.strand_test.proofs.cases.cases.Tie as tie
 
 abbrev Inv-loop : tie.InvT-loop
-Inv-loop text bases₀ mates₀ i₀ t7 bases mates i = (i ≤ length text / 48) × (length bases ≡ length bases₀) × (length mates ≡ length mates₀)
+Inv-loop text bases₀ mates₀ i₀ bases mates i = (i ≤ length text / 48) × (length bases ≡ length bases₀) × (length mates ≡ length mates₀)
 
 abbrev μ-loop : tie.MeasureT-loop
-μ-loop text bases₀ mates₀ i₀ t7 bases mates i = length text / 48 - i
+μ-loop text bases₀ mates₀ i₀ bases mates i = length text / 48 - i
 
 loop-holds : tie.Need-loop-holds Inv-loop μ-loop
-loop-holds c = (omega arith, refl, refl)
+loop-holds c = search needs
 
-mul-from : tie.Need-mul-from Inv-loop μ-loop
-mul-from c = omega arith
+mul-part : tie.Need-mul-part Inv-loop μ-loop
+mul-part c = search needs
 
-add-end : tie.Need-add-end Inv-loop μ-loop
-add-end c = omega arith
+part-requires : tie.Need-part-requires Inv-loop μ-loop
+part-requires c κs = search needs
 
-sub-say : tie.Need-sub-say Inv-loop μ-loop
-sub-say c = omega arith
-
-part-say-start : tie.Need-part-say-start Inv-loop μ-loop
-part-say-start c = omega arith
-
-part-say-end : tie.Need-part-say-end Inv-loop μ-loop
-part-say-end c = omega arith
-
-say-requires : tie.Need-say-requires Inv-loop μ-loop
-say-requires c κs = search needs
-
-sub-case : tie.Need-sub-case Inv-loop μ-loop
-sub-case c = omega arith
-
-part-case-start : tie.Need-part-case-start Inv-loop μ-loop
-part-case-start c = omega arith
-
-part-case-end : tie.Need-part-case-end Inv-loop μ-loop
-part-case-end c = omega arith
-
-case-requires : tie.Need-case-requires Inv-loop μ-loop
-case-requires c κs = search needs
-
-slice-aggregate-say : tie.Need-slice-aggregate-say Inv-loop μ-loop
-slice-aggregate-say c = refl
-
-say-requires-2 : tie.Need-say-requires-2 Inv-loop μ-loop
-say-requires-2 c κs = search needs
+told-requires : tie.Need-told-requires Inv-loop μ-loop
+told-requires c κs = search needs
 
 add-i : tie.Need-add-i Inv-loop μ-loop
-add-i c = omega arith
+add-i c = search needs
 
 loop-less : tie.Need-loop-less Inv-loop μ-loop
-loop-less c = omega arith
+loop-less c = search needs
 
 loop-again : tie.Need-loop-again Inv-loop μ-loop
-loop-again c = (omega arith, c .before .before .before .before .before .before .case .kept .1 .0 ∙ c .before .before .before .before .before .before .before .before .before .before .before .before .before .loop .inv .1, c .before .before .before .before .before .before .case .kept .1 .1 .0 ∙ c .before .before .before .before .before .before .before .before .before .before .before .before .before .loop .inv .2)
+loop-again c = search needs
 
 same-length : tie.Need-same-length Inv-loop μ-loop
-same-length c = c .before .loop .inv .1
+same-length c = search needs
 
 same-length-2 : tie.Need-same-length-2 Inv-loop μ-loop
-same-length-2 c = c .before .loop .inv .2
+same-length-2 c = search needs
 
 returns : tie.Need-returns Inv-loop μ-loop
-returns c = tt
+returns c = search needs
 
 pub cases-spec : {M : Type 1} → statement M
 cases-spec =
@@ -77,18 +49,9 @@ cases-spec =
     Inv-loop
     μ-loop
     loop-holds
-    mul-from
-    add-end
-    sub-say
-    part-say-start
-    part-say-end
-    say-requires
-    sub-case
-    part-case-start
-    part-case-end
-    case-requires
-    slice-aggregate-say
-    say-requires-2
+    mul-part
+    part-requires
+    told-requires
     add-i
     loop-less
     loop-again

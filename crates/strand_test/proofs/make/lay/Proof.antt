@@ -18,8 +18,8 @@ loop-holds c = (omega arith, refl)
 by-rule-requires : tie.Need-by-rule-requires Inv-loop μ-loop
 by-rule-requires c κs = tt
 
-set-requires : tie.Need-set-requires Inv-loop μ-loop
-set-requires c κs = tt
+set-entry-requires : tie.Need-set-entry-requires Inv-loop μ-loop
+set-entry-requires c κs = tt
 
 add-i : tie.Need-add-i Inv-loop μ-loop
 add-i c = omega arith
@@ -28,7 +28,7 @@ loop-less : tie.Need-loop-less Inv-loop μ-loop
 loop-less c = omega arith
 
 loop-again : tie.Need-loop-again Inv-loop μ-loop
-loop-again c = (omega arith, c .before .before .set .kept .0 ∙ c .before .before .before .before .before .before .loop .inv .1)
+loop-again c = (omega arith, c .before .before .set-entry .kept .0 ∙ c .before .before .before .before .before .before .loop .inv .1)
 
 same-length : tie.Need-same-length Inv-loop μ-loop
 same-length c = c .before .loop .inv .1
@@ -44,7 +44,7 @@ lay-spec =
     μ-loop
     loop-holds
     by-rule-requires
-    set-requires
+    set-entry-requires
     add-i
     loop-less
     loop-again

@@ -11,14 +11,14 @@ Inv-loop mates i j a₀ a = a ≤ length mates
 abbrev μ-loop : tie.MeasureT-loop
 μ-loop mates i j a₀ a = length mates - a
 
-entry-requires : tie.Need-entry-requires Inv-loop μ-loop
-entry-requires c κs = tt
+entry-at-requires : tie.Need-entry-at-requires Inv-loop μ-loop
+entry-at-requires c κs = tt
 
 loop-holds : tie.Need-loop-holds Inv-loop μ-loop
 loop-holds c = omega arith
 
-entry-requires-2 : tie.Need-entry-requires-2 Inv-loop μ-loop
-entry-requires-2 c κs = tt
+entry-at-requires-2 : tie.Need-entry-at-requires-2 Inv-loop μ-loop
+entry-at-requires-2 c κs = tt
 
 cross-requires : tie.Need-cross-requires Inv-loop μ-loop
 cross-requires c κs = tt
@@ -44,9 +44,9 @@ crossed-spec =
     (tie.spec
     Inv-loop
     μ-loop
-    entry-requires
+    entry-at-requires
     loop-holds
-    entry-requires-2
+    entry-at-requires-2
     cross-requires
     returns
     add-a

@@ -3,7 +3,7 @@ use Prim.Native.Nat.{_+_}
 use native.Mathlib.Omega.{arith}
 use lib.ListN.{length}
 use borrow.Author.Needs.{needs}
-use Rattle.rows.proofs.Made.{cut-box}
+use Rattle.arcs.proofs.Made.{cut-box}
 use Rattle.trace.proofs.Descent.{room-part, ready}
 use Rattle.trace.proofs.path.keep.Statement.{statement}
 use Rattle.trace.proofs.path.keep.Tie as tie

@@ -3,7 +3,7 @@ use mathlib.Core.Path.{sym}
 use Prim.Native.Nat.{_-_}
 use native.Mathlib.Omega.{arith}
 use borrow.Author.Needs.{needs}
-use Rattle.rows.proofs.Arcs.{inner-sealed}
+use Rattle.arcs.proofs.Arcs.{inner-sealed}
 use Rattle.trace.proofs.Levels.{lower-same, lower-heavy}
 use Rattle.trace.proofs.path.lower.Statement.{statement}
 use Rattle.trace.proofs.path.lower.Tie as tie

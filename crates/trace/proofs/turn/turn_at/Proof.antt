@@ -2,8 +2,8 @@
 use Prim.Native.Nat.{_-_}
 use native.Mathlib.Omega.{arith}
 use borrow.Author.Needs.{needs}
-use Rattle.rows.proofs.Made.{no-box}
-use Rattle.rows.proofs.Arcs.{room-any}
+use Rattle.arcs.proofs.Made.{no-box}
+use Rattle.arcs.proofs.Arcs.{room-any}
 use Rattle.trace.proofs.Top.{window-low, window-high, window-of}
 use Rattle.trace.proofs.Descent.{turned-at}
 use Rattle.trace.proofs.turn.turn_at.Statement.{statement}

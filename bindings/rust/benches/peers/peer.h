@@ -1,0 +1,46 @@
+// Plain C peers of the library's calls, for the benchmark: the same work at the same optimization. Nothing is proved of them. Strands are valid and no
+// longer than the library's, and buffers large enough: no peer refuses anything. `work` is as large as the library's.
+#ifndef PEER_H
+#define PEER_H
+
+#include <stddef.h>
+#include <stdint.h>
+
+// The length of the longest closed prefix of the motif that embeds in the molecule.
+typedef size_t peer_matcher(const uint8_t *p, const uint16_t *pm, size_t m, const uint8_t *q, const uint16_t *qm, size_t n, uint16_t *work);
+
+// By document 003's rows (rows.c), and by the library's own algorithm (windows.c).
+peer_matcher rows_length, windows_length;
+
+// The left end of the longest arc directly in lo..hi, or hi. It stands here so that both matchers may have it inline.
+static inline int peer_heaviest(const uint16_t *qm, int lo, int hi) {
+    int best = hi, size = 0;
+    for (int i = lo; i < hi; i++) {
+        int k = qm[i];
+        if (i < k) {
+            if (size < k - i) best = i, size = k - i;
+            i = k;
+        }
+    }
+    return best;
+}
+
+// Whether a strand's bases are letters and its mates in range, mutual and nested (sound.c).
+int peer_strand_ok(const uint8_t *bases, const uint16_t *mates, size_t n);
+
+// The lowest unsound block of a buffer of molecule blocks, and of one of cache entries; the number of blocks where all are sound (sound.c).
+size_t peer_unsound_molecule(const uint8_t *catalog, size_t blocks);
+size_t peer_unsound_entry(const uint8_t *cache, size_t blocks);
+
+// Writes the checksum of a block.
+void peer_put_checksum(uint8_t *block);
+
+// A query (query.c): the soundness pass over catalog and cache, the search by `length` of each held molecule that the cache does not know, the hits, and
+// the entry written to the motif's slot. Gives the count of hits, or -1 where a block of the catalog is unsound.
+long peer_query(peer_matcher *length, const uint8_t *catalog, size_t blocks, uint8_t *cache, size_t slots, const uint8_t *p, const uint16_t *pm, size_t m,
+                uint16_t *work, uint16_t *hits, size_t *searched);
+
+// Show (show.c): the length, and the places of an embedding. `rows` has (n + 1) (m + 1) numbers, a row for each position of the molecule.
+size_t table_show(const uint8_t *p, const uint16_t *pm, size_t m, const uint8_t *q, const uint16_t *qm, size_t n, uint16_t *rows, uint16_t *places);
+
+#endif

@@ -1,0 +1,55 @@
+-- Only the contracts of this crate, trace and the matcher need this file: what the walk over the arcs of the molecule asks and leaves. Assumes nothing.
+use Prim.Native.Nat.{ℕ, _+_, _-_, _*_, _^_, _≤_, _<_}
+use mathlib.Core.Path.{_≡_}
+use mathlib.Core.Bool.{true}
+use mathlib.Core.List.{List}
+use lib.ListN.{length}
+use Rattle.strand.specs.Vocabulary.{nth, all}
+use Rattle.strand.specs.Strands.{Nested, isLetter, moleculeSide}
+use Rattle.embedding.specs.Embedding.{lettersFit}
+use Rattle.embedding.specs.Row.{IsRow}
+use Rattle.rows.specs.Rows.{Window}
+
+-- A window of a nested motif, and a nested molecule of letters.
+pub record Setting (p pm q qm : List ℕ) (from to : ℕ) : Type 0 where
+  pub window : Window p pm from to
+  pub motif : Nested (nth pm) (length p)
+  pub equal : length qm ≡ length q
+  pub short : length q ≤ 4096
+  pub bases : all (isLetter moleculeSide) q ≡ true
+  pub molecule : Nested (nth qm) (length q)
+
+-- No arc leaves Q[lo..hi).
+pub record Sealed (qm : List ℕ) (lo hi : ℕ) : Type 0 where
+  pub low : (u : ℕ) → lo ≤ u → u < hi → lo ≤ nth qm u
+  pub high : (u : ℕ) → lo ≤ u → u < hi → nth qm u < hi
+
+-- The left end of the first longest arc in Q[lo..hi), or hi where there is none.
+pub record Heavy (qm : List ℕ) (lo hi r : ℕ) : Type 0 where
+  pub low : lo ≤ r
+  pub high : r ≤ hi
+  pub arc : r < hi → r < nth qm r
+  pub most : (c : ℕ) → lo ≤ c → c < hi → c < nth qm c → (r < hi) × (nth qm c - c ≤ nth qm r - r)
+  pub first : (c : ℕ) → lo ≤ c → c < r → r < hi → c < nth qm c → nth qm c - c < nth qm r - r
+
+-- Room for the inner row of an arc that is `size` long, in rows of w entries: two for each light edge below it, and two.
+pub record Room (w size room : ℕ) : Type 0 where
+  pub depth : ℕ
+  pub short : size + 3 < 8 * 2 ^ depth
+  pub rows : (2 * depth + 2) * w ≤ room
+
+-- Room for a row and, past it, for the light arcs of Q[lo..hi).
+pub record LightRoom (w : ℕ) (qm : List ℕ) (lo hi room : ℕ) : Type 0 where
+  pub depth : ℕ
+  pub rows : (2 * depth + 1) * w ≤ room
+  pub light : (c : ℕ) → lo ≤ c → c < hi → c < nth qm c → 2 * (nth qm c - c + 3) < 8 * 2 ^ depth
+
+-- The row `new` is the row `old` with Q[lo..hi) put in front of its stretch.
+pub record Prepended (p pm q qm : List ℕ) (from to lo hi : ℕ) (old new : List ℕ) : Type 0 where
+  pub row : ℕ → ℕ
+  pub is : IsRow (lettersFit p q) (nth pm) (nth qm) from to lo hi row
+  pub entry : (j : ℕ) → from ≤ j → j ≤ to → nth new j ≡ nth old (row j)
+
+-- The first row of the work slice is the row inside the arc of Q from `stop`, if that is a position of Q.
+pub record Boxed (p pm q qm : List ℕ) (from to stop : ℕ) (work : List ℕ) : Type 0 where
+  pub row : stop < length q → IsRow (lettersFit p q) (nth pm) (nth qm) from to (stop + 1) (nth qm stop) (nth work)

@@ -1,0 +1,3 @@
+pub mod BufferLaws
+pub mod BlockLaws
+pub mod OutcomeLaws

@@ -1,0 +1,71 @@
+-- The outcomes of the writers of one block of a buffer: each return of their code, and what a caller whose input fits may cite.
+-- Assumes nothing.
+use mathlib.Core.Path.{_≡_, refl, ap, _∙_}
+use mathlib.Core.Bool.{Bool, true, false}
+use mathlib.Core.List.{List, _++_}
+use Prim.Native.Nat.{ℕ, _+_, _-_, _*_, _<_, _≤_}
+use native.Mathlib.Omega.{arith}
+use borrow.Author.Tests.{lt-ltb, le-ltb}
+use borrow.Rule.Slice.PartMut.{putMid}
+use lib.ListN.{length, take, drop, take-append-drop, replicate}
+use Rattle.strand.specs.Vocabulary.{choose}
+use Rattle.strand.specs.Strands.{strandOf}
+use Rattle.block.specs.Content.{emptyBlock, moleculeBlock, encodeMolecule}
+use Rattle.block.specs.Block.{blockOf, blockCount}
+use Rattle.buffer.specs.Buffer.{putBlock, blockFits, moleculePut, zeroPut}
+use Rattle.codec.specs.Outcomes.{Wrote, wrote, wroteIf, strandFits, moleculeWrote}
+use Rattle.buffer.proofs.BlockLaws.{length-block}
+use Rattle.buffer.proofs.BufferLaws.{put-is}
+use Rattle.codec.proofs.OutcomeLaws.{wrote-not, wrote-new, bytes-new, strand-fits}
+
+-- A part put back as it was.
+put-same : (d : ℕ) (s : List ℕ) → putMid (512 * d) (512 * d + 512 - 512 * d) s (blockOf d s) ≡ s
+put-same d s = ap (λ (l : List ℕ). take (512 * d) s ++ l) (take-append-drop (512 * d + 512 - 512 * d) (drop (512 * d) s)) ∙ take-append-drop (512 * d) s
+
+-- What a writer of a part did, in the buffer.
+part-put : (d : ℕ) (b buf x : List ℕ) (r fits : Bool) → wrote r x ≡ wroteIf fits b (blockOf d buf)
+    → wrote r (putMid (512 * d) (512 * d + 512 - 512 * d) buf x) ≡ wroteIf fits (putBlock d b buf) buf
+unfolding wroteIf choose
+part-put d b buf x r true q =
+    ap (λ (w : Wrote). wrote (w .done) (putMid (512 * d) (512 * d + 512 - 512 * d) buf (w .bytes))) q ∙ ap (wrote true) (put-is d buf b b refl)
+part-put d b buf x r false q =
+    ap (λ (w : Wrote). wrote (w .done) (putMid (512 * d) (512 * d + 512 - 512 * d) buf (w .bytes))) q ∙ ap (wrote false) (put-same d buf)
+
+module _ (d : ℕ) (bases mates buf : List ℕ) where
+  pub put-not : blockCount buf ≤ d → wrote false buf ≡ moleculePut d (strandOf bases mates) buf
+  unfolding moleculePut blockFits
+  put-not h = wrote-not (putBlock d (encodeMolecule (strandOf bases mates)) buf) buf _ (rw (le-ltb d (blockCount buf) h))
+
+  pub put-done : (r : Bool) (x : List ℕ) → d < blockCount buf → wrote r x ≡ moleculeWrote (blockOf d buf) bases mates
+      → wrote r (putMid (512 * d) (512 * d + 512 - 512 * d) buf x) ≡ moleculePut d (strandOf bases mates) buf
+  unfolding moleculePut moleculeWrote blockFits encodeMolecule
+  put-done r x h e =
+      let l : length (blockOf d buf) ≡ 512 = length-block d buf (omega arith) in
+      rw (lt-ltb d (blockCount buf) h) (part-put d (moleculeBlock bases mates) buf x r (strandFits 512 160 (length bases) (length mates)) (rw l at e))
+
+  -- Where there is a block d and the molecule fits, its block is written.
+  pub molecule-put-there : (r : Bool) (x : List ℕ) → d < blockCount buf → length bases ≤ 160 → length mates ≡ length bases
+      → wrote r x ≡ moleculePut d (strandOf bases mates) buf → x ≡ putBlock d (encodeMolecule (strandOf bases mates)) buf
+  unfolding moleculePut blockFits
+  molecule-put-there r x h hb hm q =
+      bytes-new (putBlock d (encodeMolecule (strandOf bases mates)) buf) buf _ r x
+      (rw (lt-ltb d (blockCount buf) h, strand-fits 160 512 (length bases) (length mates) refl hb hm)) q
+
+pub zero-at-is : (d : ℕ) (s r : List ℕ) → d < blockCount s → r ≡ replicate (length (take (512 * d + 512 - 512 * d) (drop (512 * d) s))) 0
+    → putMid (512 * d) (512 * d + 512 - 512 * d) s r ≡ putBlock d emptyBlock s
+unfolding emptyBlock
+zero-at-is d s r h e = put-is d s r (replicate 512 0) (e ∙ ap (λ (k : ℕ). replicate k 0) (length-block d s (omega arith)))
+
+module _ (d : ℕ) (buf : List ℕ) where
+  pub zero-not : blockCount buf ≤ d → wrote false buf ≡ zeroPut d buf
+  unfolding zeroPut blockFits
+  zero-not h = wrote-not (putBlock d emptyBlock buf) buf _ (le-ltb d (blockCount buf) h)
+
+  pub zero-done : (x : List ℕ) → d < blockCount buf → x ≡ putBlock d emptyBlock buf → wrote true x ≡ zeroPut d buf
+  unfolding zeroPut blockFits
+  zero-done x h q = wrote-new (putBlock d emptyBlock buf) buf _ x (lt-ltb d (blockCount buf) h) q
+
+  -- Where there is a block d, it is zeroed.
+  pub zero-put-there : (r : Bool) (x : List ℕ) → d < blockCount buf → wrote r x ≡ zeroPut d buf → x ≡ putBlock d emptyBlock buf
+  unfolding zeroPut blockFits
+  zero-put-there r x h q = bytes-new (putBlock d emptyBlock buf) buf _ r x (lt-ltb d (blockCount buf) h) q

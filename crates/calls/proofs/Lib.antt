@@ -1,0 +1,4 @@
+pub mod BlockUse
+pub mod ReadingLaws
+pub mod FactLaws
+pub mod Claims

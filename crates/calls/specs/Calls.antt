@@ -1,0 +1,126 @@
+-- Add, remove and query: what each answers and leaves in every buffer, for all inputs and all contents of the buffers.
+-- These are the definitions that the contracts of the calls cite. Assumes nothing.
+use Prim.Native.Nat.{ℕ}
+use mathlib.Core.List.{List, [], _∷_, _++_}
+use mathlib.Core.Path.{_≡_}
+use mathlib.Core.Bool.{Bool, not, _&&_}
+use lib.ListN.{length, drop}
+use lib.Dec.{leb, ltb}
+use Rattle.strand.specs.Vocabulary.{choose, select}
+use Rattle.strand.specs.Strands.{Strand, noSide}
+use Rattle.strand.specs.Refusals.{wrongSlice, numberTooLarge, alreadyHeld, notHeld, first, refuseIf}
+use Rattle.block.specs.Block.{blockOf, forgot, blockCount}
+use Rattle.buffer.specs.Buffer.{eachBlock, putBlock}
+use Rattle.block.specs.Content.{emptyBlock, encodeMolecule, encodeEntry, keepsMotif, searchedIn, hitIn}
+use Rattle.strand.specs.declared.Verdict.{Verdict}
+use Rattle.strand.specs.declared.Verdict.the-variants.{Accepted, Refused}
+use Rattle.calls.specs.declared.Updated.{Updated}
+use Rattle.calls.specs.declared.Updated.the-variants.{Done, Refused as NotUpdated}
+use Rattle.calls.specs.declared.Queried.{Queried}
+use Rattle.calls.specs.declared.Queried.the-variants.{Hits, Refused as NotQueried}
+use Rattle.calls.specs.Limits.{moleculeVerdict, motifVerdict, workVerdict}
+use Rattle.calls.specs.Buffers.{held, moleculeAt, buffersVerdict, slotOf, cleanCache}
+
+-- The effect of add or remove: the answer and both buffers afterwards.
+pub record UpdateEffect : Type 0 where
+  pub answer : Updated
+  pub catalog : List ℕ
+  pub cache : List ℕ
+
+abbrev pub updated : Updated → List ℕ → List ℕ → UpdateEffect
+updated answer catalog cache = record { answer = answer; catalog = catalog; cache = cache }
+
+-- A refusal leaves both buffers as they are.
+unfoldable pub updateUnless : Verdict → List ℕ → List ℕ → UpdateEffect → UpdateEffect
+updateUnless Accepted catalog cache effect = effect
+updateUnless (Refused r) catalog cache effect = updated (NotUpdated r) catalog cache
+
+-- Add (number d, molecule) is refused by rows 10, 11, 12, 13, then 1 to 7.
+unfoldable pub addVerdict : List ℕ → List ℕ → ℕ → Strand → Verdict
+addVerdict catalog cache d q =
+    first
+    (buffersVerdict catalog cache
+    ∷ refuseIf numberTooLarge noSide (leb (blockCount catalog) d)
+    ∷ refuseIf alreadyHeld noSide (held catalog d)
+    ∷ moleculeVerdict q
+    ∷ [])
+
+-- It writes block d.
+unfoldable pub addOutcome : List ℕ → List ℕ → ℕ → Strand → UpdateEffect
+addOutcome catalog cache d q =
+    updateUnless (addVerdict catalog cache d q) catalog cache
+    (updated Done (putBlock d (encodeMolecule q) catalog) (cleanCache cache))
+
+-- Remove (d) is refused by rows 10, 11, 12, 14.
+unfoldable pub removeVerdict : List ℕ → List ℕ → ℕ → Verdict
+removeVerdict catalog cache d =
+    first
+    (buffersVerdict catalog cache
+    ∷ refuseIf numberTooLarge noSide (leb (blockCount catalog) d)
+    ∷ refuseIf notHeld noSide (not (held catalog d))
+    ∷ [])
+
+-- It zeroes block d, and clears bit d in both maps of every cache entry.
+unfoldable pub removeOutcome : List ℕ → List ℕ → ℕ → UpdateEffect
+removeOutcome catalog cache d =
+    updateUnless (removeVerdict catalog cache d) catalog cache
+    (updated Done (putBlock d emptyBlock catalog) (eachBlock (forgot d) (cleanCache cache)))
+
+-- The effect of query: the answer, the cache and the slice of the hits afterwards. The catalog is only read.
+pub record QueryEffect : Type 0 where
+  pub answer : Queried
+  pub cache : List ℕ
+  pub hits : List ℕ
+
+abbrev pub queried : Queried → List ℕ → List ℕ → QueryEffect
+queried answer cache hits = record { answer = answer; cache = cache; hits = hits }
+
+-- A refusal leaves the cache and the hits as they are.
+unfoldable pub queryUnless : Verdict → List ℕ → List ℕ → QueryEffect → QueryEffect
+queryUnless Accepted cache hits effect = effect
+queryUnless (Refused r) cache hits effect = queried (NotQueried r) cache hits
+
+-- Query (motif) is refused by rows 10, 11, 1 to 7 of the motif, 9, 8; `work` and `room` are the lengths of the work and the hit slice.
+unfoldable pub queryVerdict : List ℕ → List ℕ → Strand → ℕ → ℕ → Verdict
+queryVerdict catalog cache p work room =
+    first
+    (buffersVerdict catalog cache
+    ∷ motifVerdict p
+    ∷ refuseIf wrongSlice noSide (ltb room (blockCount catalog))
+    ∷ workVerdict p work
+    ∷ [])
+
+-- The slot's entry keeps this very motif (same bases, same mates) with searched bit d.
+unfoldable pub isKnown : List ℕ → Strand → ℕ → Bool
+isKnown entry p d = keepsMotif entry p && searchedIn entry d
+
+-- The query has to search molecule d.
+unfoldable pub toSearch : List ℕ → List ℕ → Strand → ℕ → Bool
+toSearch catalog entry p d = held catalog d && not (isKnown entry p d)
+
+module _ (embeds : Strand → Strand → Bool) where
+  -- Molecule d is a hit when held and, if it is known, its hit bit is set; otherwise if the motif embeds.
+  unfoldable pub isHit : List ℕ → List ℕ → Strand → ℕ → Bool
+  isHit catalog entry p d = held catalog d && choose (isKnown entry p d) (hitIn entry d) (embeds p (moleculeAt catalog d))
+
+  -- The count of hits and how many molecules had to be searched; the hits, rising, at the start of the slice, whose later entries stay;
+  -- the slot written anew with the motif, searched bits for all held numbers and no other, and the hit bits.
+  unfoldable pub queryAccepted : List ℕ → List ℕ → List ℕ → ℕ → Strand → List ℕ → QueryEffect
+  queryAccepted catalog cache entry slot p hits =
+      let list : List ℕ = select (blockCount catalog) (isHit catalog entry p) in
+      queried
+      (Hits (length list) (length (select (blockCount catalog) (toSearch catalog entry p))))
+      (putBlock slot (encodeEntry p (held catalog) (isHit catalog entry p)) cache)
+      (list ++ drop (length list) hits)
+
+  -- The query reads the entry of the motif's slot in the clean cache.
+  unfoldable pub queryOutcome : List ℕ → List ℕ → Strand → ℕ → List ℕ → QueryEffect
+  queryOutcome catalog cache p work hits =
+      let slot : ℕ = slotOf (blockCount cache) p in
+      queryUnless (queryVerdict catalog cache p work (length hits)) cache hits
+      (queryAccepted catalog (cleanCache cache) (blockOf slot (cleanCache cache)) slot p hits)
+
+-- After a refusal the work slice is as before; after an accepted query it keeps its length, and its entries are free.
+unfoldable pub QueryWorkKept : Queried → List ℕ → List ℕ → Type 0
+QueryWorkKept (Hits count searched) before after = length after ≡ length before
+QueryWorkKept (NotQueried r) before after = after ≡ before

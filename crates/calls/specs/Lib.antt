@@ -1,0 +1,6 @@
+pub mod Limits
+pub mod Motifs
+pub mod Buffers
+pub mod Calls
+pub mod Results
+pub mod Statements

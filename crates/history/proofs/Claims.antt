@@ -1,0 +1,18 @@
+-- What is claimed of histories holds: the record of `specs/Statements` from the theorems. Assumes nothing.
+use Rattle.history.specs.Statements.{Claims}
+use Rattle.history.proofs.Theorem as theorem
+use Rattle.history.proofs.Runs.{runs}
+use Rattle.history.proofs.Computed as computed
+use Rattle.history.proofs.Stories as stories
+
+pub claims : Claims
+claims =
+    record {
+      decides = theorem.decides;
+      history = theorem.demand-3;
+      runs = runs;
+      not-whole = theorem.not-whole;
+      by-model = computed.settled;
+      on-bytes = stories.settled-bytes;
+      limited = stories.limited;
+    }
