@@ -15,7 +15,7 @@ use Rattle.strand.proofs.VerdictLaws.{row-yes, row-no, row-pass, first-pass, pa
 use Rattle.matcher.specs.declared.Matched.the-variants.{Prefix, Refused}
 use Rattle.rows.specs.Rows.{workSize}
 use Rattle.arcs.specs.Arcs.{Setting}
-use Rattle.trace.specs.Trace.{Laid}
+use Rattle.turns.specs.Turns.{Laid}
 use Rattle.matcher.specs.Answers.{Shown, Searchable, workRow, placesRow, matchUnless, lengthVerdict, showVerdict}
 
 -- The answer by a verdict v.

@@ -1,11 +1,10 @@
 // An embedding of the longest prefix: the walk over the molecule that also writes the places. Down a path of longest arcs rows are wanted from the outside
 // in, but come from the inside out: the row inside a middle arc of the path, the box, is kept while what lies outside of it is placed.
-mod path;
-mod turn;
-
-use path::Part;
 use rows::tables;
-use turn::Turn;
+use turns::path;
+use turns::path::Part;
+use turns::turn;
+use turns::turn::Turn;
 ghost use mathlib.Core.Path.{_≡_};
 ghost use Prim.Native.Nat.{_+_, _-_, _*_, _≤_, _<_};
 ghost use lib.ListN.{length};
@@ -14,7 +13,7 @@ ghost use Rattle.embedding.specs.Row.{Best, Reach};
 ghost use Rattle.embedding.specs.Embedding.{lettersFit};
 ghost use Rattle.rows.specs.Rows.{Tables, workSize};
 ghost use Rattle.arcs.specs.Arcs.{Setting, Sealed};
-ghost use Rattle.trace.specs.Trace.{Laid, Kept, OnPath, Levels, ArcLevels, LaidBut, FromArc, AtArc};
+ghost use Rattle.turns.specs.Turns.{Laid, Kept, OnPath, Levels, ArcLevels, LaidBut, FromArc, AtArc};
 
 // Writes the places of from.. as far as the motif up to `to` is taken by lo..hi, and gives how far that is.
 fn place(

@@ -8,11 +8,11 @@ use Rattle.embedding.proofs.Recurrence.{rest}
 use Rattle.rows.proofs.Parts.{part-length, back-length}
 use Rattle.strand.specs.Vocabulary.{nth}
 use Rattle.arcs.proofs.Arcs.{inner-sealed, split-left, heavy-end}
-use Rattle.trace.specs.Trace.{Laid}
-use Rattle.trace.proofs.Top.{narrow, best-all, best-end, Walked, walked-none, walked-up, walked-in, walked-step, walked-unit}
-use Rattle.trace.proofs.Turning.{laid-none, laid-join, laid-wide, laid-unit}
-use Rattle.trace.proofs.Descent.{but-end, but-turn, but-all, but-box, but-taken, but-rest, but-but, but-to, but-empty, but-filled, but-after, kept-none, kept-under, kept-back, kept-part, nested-mates, reach-to, heavy-before, heavy-on, heavy-in, first-end, first-split, first-behind}
-use Rattle.trace.proofs.Levels.{below-next, path-at, box-none, box-size, levels-least, levels-at, levels-half, levels-arc, levels-all, levels-behind, levels-before}
+use Rattle.turns.specs.Turns.{Laid}
+use Rattle.turns.proofs.Top.{narrow, best-all, best-end, Walked, walked-none, walked-up, walked-in, walked-step, walked-unit}
+use Rattle.turns.proofs.Turning.{laid-none, laid-join, laid-wide, laid-unit}
+use Rattle.turns.proofs.Descent.{but-end, but-turn, but-all, but-box, but-taken, but-rest, but-but, but-to, but-empty, but-filled, but-after, kept-none, kept-under, kept-back, kept-part, nested-mates, reach-to, heavy-before, heavy-on, heavy-in, first-end, first-split, first-behind}
+use Rattle.turns.proofs.Levels.{below-next, path-at, box-none, box-size, levels-least, levels-at, levels-half, levels-arc, levels-all, levels-behind, levels-before}
 use borrow.Fn.Kinds.{In}
 use borrow.Fn.PlainCycle.{Measures, is, falls, and}
 use Rattle.trace.proofs.along.Reads as along
@@ -35,11 +35,11 @@ use Rattle.trace.proofs.place_arc.Kinds as place-arc-kinds
 use Rattle.trace.proofs.+along+descend+enter+past+place+place_arc.Lts-place_arc as place-arc-lts
 use Rattle.arcs.proofs.heaviest.Reads as heaviest-reads
 use Rattle.arcs.proofs.mate.Reads as mate-reads
-use Rattle.trace.proofs.path.keep.Reads as keep-reads
-use Rattle.trace.proofs.path.middle.Reads as middle-reads
-use Rattle.trace.proofs.turn.put_base.Reads as put-base-reads
-use Rattle.trace.proofs.turn.turn_at.Reads as turn-at-reads
-use Rattle.trace.proofs.turn.turn_kept.Reads as turn-kept-reads
+use Rattle.turns.proofs.path.keep.Reads as keep-reads
+use Rattle.turns.proofs.path.middle.Reads as middle-reads
+use Rattle.turns.proofs.turn.put_base.Reads as put-base-reads
+use Rattle.turns.proofs.turn.turn_at.Reads as turn-at-reads
+use Rattle.turns.proofs.turn.turn_kept.Reads as turn-kept-reads
 use Rattle.trace.proofs.+along+descend+enter+past+place+place_arc.{statement}
 use Rattle.trace.proofs.+along+descend+enter+past+place+place_arc.Tie.{close}
 

@@ -1,7 +1,7 @@
 -- `trace::prepared_place` meets its contract.
 use native.Mathlib.Omega.{arith}
-use Rattle.trace.proofs.Top.{all-sealed}
-use Rattle.trace.proofs.Levels.{levels-whole}
+use Rattle.turns.proofs.Top.{all-sealed}
+use Rattle.turns.proofs.Levels.{levels-whole}
 use borrow.Author.Needs.{needs}
 use Rattle.trace.proofs.prepared_place.Statement.{statement}
 use Rattle.trace.proofs.prepared_place.Tie as tie

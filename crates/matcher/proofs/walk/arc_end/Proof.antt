@@ -1,7 +1,7 @@
 -- `matcher::walk::arc_end` meets its contract.
 use borrow.Author.Needs.{needs}
 use Rattle.arcs.proofs.Made.{no-box}
-use Rattle.trace.proofs.Top.{window-of, window-best}
+use Rattle.turns.proofs.Top.{window-of, window-best}
 use Rattle.matcher.proofs.Whole.{room-whole}
 use Rattle.matcher.proofs.walk.arc_end.Statement.{statement}
 use Rattle.matcher.proofs.walk.arc_end.Tie as tie

@@ -4,7 +4,7 @@ use mathlib.Core.Logic.{⊎-elim}
 use Prim.Native.Nat.{_-_}
 use native.Mathlib.Omega.{arith}
 use lib.ListN.{length}
-use Rattle.trace.proofs.Top.{narrow, all-sealed, best-all, best-end, Walked, walked-none, walked-up, walked-in, walked-step, walked-unit}
+use Rattle.turns.proofs.Top.{narrow, all-sealed, best-all, best-end, Walked, walked-none, walked-up, walked-in, walked-step, walked-unit}
 use Rattle.matcher.proofs.Whole.{walked-longest}
 use Rattle.matcher.proofs.walk.whole_end.Statement.{statement}
 use Rattle.matcher.proofs.walk.whole_end.Tie as tie

@@ -1,4 +1,4 @@
--- Only contracts inside this crate and the matcher's laws need this file: what one arc of the molecule takes of the motif, and which places are written.
+-- Only the contracts of this crate and of trace, and the matcher's laws, need this file: what one arc of the molecule takes of the motif, and which places are written.
 -- Assumes nothing.
 use Prim.Native.Nat.{ℕ, _+_, _-_, _*_, _^_, _≤_, _<_}
 use mathlib.Core.Path.{_≡_}
@@ -10,7 +10,7 @@ use Rattle.embedding.specs.Embedding.{Emb, lettersFit}
 use Rattle.embedding.specs.Row.{Closed, Reach, Best, IsRow, unitAt, overAt}
 use Rattle.rows.specs.Rows.{Tables}
 use Rattle.arcs.specs.Arcs.{Setting, Sealed, Heavy, Boxed}
-use Rattle.trace.specs.declared.turn.Turn.{Turn}
+use Rattle.turns.specs.declared.turn.Turn.{Turn}
 
 -- The turns: upon the arc; with its left end; without its left end, and with its right end where that is taken.
 pub data Turns (left right : ℕ → Bool) (pm : ℕ → ℕ) (z j here next : ℕ) : Turn → Type 0 where

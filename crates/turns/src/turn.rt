@@ -8,7 +8,7 @@ ghost use Rattle.strand.specs.Vocabulary.{nth};
 ghost use Rattle.embedding.specs.Row.{Closed, unitAt};
 ghost use Rattle.rows.specs.Rows.{Tables, matches};
 ghost use Rattle.arcs.specs.Arcs.{Setting};
-ghost use Rattle.trace.specs.Trace.{Turns, Turned, PlacePut, Ended, Kept};
+ghost use Rattle.turns.specs.Turns.{Turns, Turned, PlacePut, Ended, Kept};
 
 // How an arc s, r takes the motif from j on: the positions start..stop go inside it, one before them to s if start is past j, one after them to r if
 // next is past stop.

@@ -9,7 +9,7 @@ use Rattle.strand.specs.Vocabulary.{nth}
 use Rattle.strand.specs.Strands.{Nested}
 use Rattle.arcs.specs.Arcs.{Sealed, Heavy}
 use Rattle.arcs.proofs.Arcs.{inner-sealed, heavy-end, heavy-left, light-left, heavy-same}
-use Rattle.trace.specs.Trace.{Below, here, down, OnPath, Lower, Between, Levels, ArcLevels}
+use Rattle.turns.specs.Turns.{Below, here, down, OnPath, Lower, Between, Levels, ArcLevels}
 
 -- One arc further down.
 pub below-next : {qm : List ℕ} {stop s r : ℕ} → nth qm s ≡ r → Below qm stop s → (s ≡ stop → ⊥) → OnPath qm (s + 1) r stop

@@ -1,12 +1,12 @@
--- `trace::path::middle` meets its contract.
+-- `turns::path::middle` meets its contract.
 use Prim.Native.Nat.{_-_}
 use native.Mathlib.Omega.{arith}
 use borrow.Author.Needs.{needs}
 use Rattle.strand.specs.Vocabulary.{nth}
-use Rattle.trace.specs.Trace.{Lower, Between}
-use Rattle.trace.proofs.Levels.{between-start, between-next}
-use Rattle.trace.proofs.path.middle.Statement.{statement}
-use Rattle.trace.proofs.path.middle.Tie as tie
+use Rattle.turns.specs.Turns.{Lower, Between}
+use Rattle.turns.proofs.Levels.{between-start, between-next}
+use Rattle.turns.proofs.path.middle.Statement.{statement}
+use Rattle.turns.proofs.path.middle.Tie as tie
 
 abbrev Inv-loop : tie.InvT-loop
 Inv-loop qm s hi stop span least mid₀ next₀ mid next = Between qm s hi stop mid × Lower qm mid stop next

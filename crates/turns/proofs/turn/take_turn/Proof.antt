@@ -1,9 +1,9 @@
--- `trace::turn::take_turn` meets its contract.
+-- `turns::turn::take_turn` meets its contract.
 use native.Mathlib.Omega.{arith}
 use borrow.Author.Needs.{needs}
-use Rattle.trace.proofs.Turning.{turns-end}
-use Rattle.trace.proofs.turn.take_turn.Statement.{statement}
-use Rattle.trace.proofs.turn.take_turn.Tie as tie
+use Rattle.turns.proofs.Turning.{turns-end}
+use Rattle.turns.proofs.turn.take_turn.Statement.{statement}
+use Rattle.turns.proofs.turn.take_turn.Tie as tie
 
 shared-slice-read-choose-turn : tie.Need-shared-slice-read-choose-turn
 shared-slice-read-choose-turn c = search needs

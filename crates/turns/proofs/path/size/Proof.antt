@@ -1,11 +1,11 @@
--- `trace::path::size` meets its contract.
+-- `turns::path::size` meets its contract.
 use mathlib.Core.Path.{refl}
 use Prim.Native.Nat.{_-_}
 use native.Mathlib.Omega.{arith}
 use lib.ListN.{List·getD-eq-default}
 use borrow.Author.Needs.{needs}
-use Rattle.trace.proofs.path.size.Statement.{statement}
-use Rattle.trace.proofs.path.size.Tie as tie
+use Rattle.turns.proofs.path.size.Statement.{statement}
+use Rattle.turns.proofs.path.size.Tie as tie
 
 returns : tie.Need-returns
 returns c = (omega (arith, List·getD-eq-default (c .before .args .qm .now) 0 {n = c .before .args .s} (c .if1 .taken)), omega arith)

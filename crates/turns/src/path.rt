@@ -8,7 +8,7 @@ ghost use Rattle.strand.specs.Strands.{Nested};
 ghost use Rattle.embedding.specs.Row.{Closed};
 ghost use Rattle.rows.specs.Rows.{Tables};
 ghost use Rattle.arcs.specs.Arcs.{Setting};
-ghost use Rattle.trace.specs.Trace.{Kept, SecondRow, Lower, Between};
+ghost use Rattle.turns.specs.Turns.{Kept, SecondRow, Lower, Between};
 
 // A part start..stop of the motif.
 pub struct Part {

@@ -1,13 +1,13 @@
--- `trace::turn::turn_at` meets its contract.
+-- `turns::turn::turn_at` meets its contract.
 use Prim.Native.Nat.{_-_}
 use native.Mathlib.Omega.{arith}
 use borrow.Author.Needs.{needs}
 use Rattle.arcs.proofs.Made.{no-box}
 use Rattle.arcs.proofs.Arcs.{room-any}
-use Rattle.trace.proofs.Top.{window-low, window-high, window-of}
-use Rattle.trace.proofs.Descent.{turned-at}
-use Rattle.trace.proofs.turn.turn_at.Statement.{statement}
-use Rattle.trace.proofs.turn.turn_at.Tie as tie
+use Rattle.turns.proofs.Top.{window-low, window-high, window-of}
+use Rattle.turns.proofs.Descent.{turned-at}
+use Rattle.turns.proofs.turn.turn_at.Statement.{statement}
+use Rattle.turns.proofs.turn.turn_at.Tie as tie
 
 add-smaller : tie.Need-add-smaller
 add-smaller c = search needs

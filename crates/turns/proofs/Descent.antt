@@ -19,10 +19,10 @@ use Rattle.rows.specs.Rows.{Written, matches}
 use Rattle.arcs.specs.Arcs.{Setting, Sealed, Heavy, Room}
 use Rattle.rows.proofs.Parts.{part, back, part-length, part-at, back-under, back-over}
 use Rattle.arcs.proofs.Arcs.{heavy-left, room-any}
-use Rattle.trace.specs.declared.turn.Turn.{Turn}
-use Rattle.trace.specs.Trace.{Turns, Turned, Ended, Laid, LaidBut, Kept, SecondRow}
-use Rattle.trace.proofs.Top.{window-low, window-high, window-best}
-use Rattle.trace.proofs.Turning.{shift, no-base, turned, laid-none, laid-wide}
+use Rattle.turns.specs.declared.turn.Turn.{Turn}
+use Rattle.turns.specs.Turns.{Turns, Turned, Ended, Laid, LaidBut, Kept, SecondRow}
+use Rattle.turns.proofs.Top.{window-low, window-high, window-best}
+use Rattle.turns.proofs.Turning.{shift, no-base, turned, laid-none, laid-wide}
 
 module _ {p pm q qm : List ℕ} where
   -- Nothing is left out.

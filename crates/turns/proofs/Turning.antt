@@ -20,10 +20,10 @@ use Rattle.embedding.proofs.Splitting.{restrict, agree, join}
 use Rattle.embedding.proofs.Arc.{inner-closed, upon-arc}
 use Rattle.embedding.proofs.Window.{cut-to}
 use Rattle.embedding.proofs.Rows.{before-right, row-from}
-use Rattle.trace.specs.declared.turn.Turn.{Turn}
+use Rattle.turns.specs.declared.turn.Turn.{Turn}
 use Rattle.rows.specs.Rows.{Tables, matches}
 use Rattle.arcs.specs.Arcs.{Setting}
-use Rattle.trace.specs.Trace.{Turns, upon, left-end, inside, Turned, PlacePut, Laid}
+use Rattle.turns.specs.Turns.{Turns, upon, left-end, inside, Turned, PlacePut, Laid}
 use Rattle.rows.proofs.Entries.{over-other, over-free, over-far, over-unlike, over-short, over-arc, by-over}
 
 -- A unit row takes a position or not.

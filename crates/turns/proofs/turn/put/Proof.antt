@@ -1,10 +1,10 @@
--- `trace::turn::put` meets its contract.
+-- `turns::turn::put` meets its contract.
 use Prim.Native.Nat.{_-_}
 use native.Mathlib.Omega.{arith}
 use borrow.Author.Needs.{needs}
-use Rattle.trace.proofs.Turning.{put-set}
-use Rattle.trace.proofs.turn.put.Statement.{statement}
-use Rattle.trace.proofs.turn.put.Tie as tie
+use Rattle.turns.proofs.Turning.{put-set}
+use Rattle.turns.proofs.turn.put.Statement.{statement}
+use Rattle.turns.proofs.turn.put.Tie as tie
 
 cast-places : tie.Need-cast-places
 cast-places c = search needs

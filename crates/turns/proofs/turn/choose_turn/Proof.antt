@@ -1,10 +1,10 @@
--- `trace::turn::choose_turn` meets its contract.
+-- `turns::turn::choose_turn` meets its contract.
 use mathlib.Core.Path.{refl}
 use native.Mathlib.Omega.{arith}
 use borrow.Author.Needs.{needs}
-use Rattle.trace.proofs.Turning.{turns-inside, turns-left, turns-upon, over-known}
-use Rattle.trace.proofs.turn.choose_turn.Statement.{statement}
-use Rattle.trace.proofs.turn.choose_turn.Tie as tie
+use Rattle.turns.proofs.Turning.{turns-inside, turns-left, turns-upon, over-known}
+use Rattle.turns.proofs.turn.choose_turn.Statement.{statement}
+use Rattle.turns.proofs.turn.choose_turn.Tie as tie
 
 unit-requires : tie.Need-unit-requires
 unit-requires c κs = search needs

@@ -1,12 +1,12 @@
--- `trace::path::keep` meets its contract.
+-- `turns::path::keep` meets its contract.
 use Prim.Native.Nat.{_+_}
 use native.Mathlib.Omega.{arith}
 use lib.ListN.{length}
 use borrow.Author.Needs.{needs}
 use Rattle.arcs.proofs.Made.{cut-box}
-use Rattle.trace.proofs.Descent.{room-part, ready}
-use Rattle.trace.proofs.path.keep.Statement.{statement}
-use Rattle.trace.proofs.path.keep.Tie as tie
+use Rattle.turns.proofs.Descent.{room-part, ready}
+use Rattle.turns.proofs.path.keep.Statement.{statement}
+use Rattle.turns.proofs.path.keep.Tie as tie
 
 add-w : tie.Need-add-w
 add-w c = search needs

@@ -1,12 +1,12 @@
--- `trace::path::lower` meets its contract.
+-- `turns::path::lower` meets its contract.
 use mathlib.Core.Path.{sym}
 use Prim.Native.Nat.{_-_}
 use native.Mathlib.Omega.{arith}
 use borrow.Author.Needs.{needs}
 use Rattle.arcs.proofs.Arcs.{inner-sealed}
-use Rattle.trace.proofs.Levels.{lower-same, lower-heavy}
-use Rattle.trace.proofs.path.lower.Statement.{statement}
-use Rattle.trace.proofs.path.lower.Tie as tie
+use Rattle.turns.proofs.Levels.{lower-same, lower-heavy}
+use Rattle.turns.proofs.path.lower.Statement.{statement}
+use Rattle.turns.proofs.path.lower.Tie as tie
 
 mate-requires : tie.Need-mate-requires
 mate-requires c κs = search needs

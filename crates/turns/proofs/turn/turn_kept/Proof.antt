@@ -1,9 +1,9 @@
--- `trace::turn::turn_kept` meets its contract.
+-- `turns::turn::turn_kept` meets its contract.
 use native.Mathlib.Omega.{arith}
 use borrow.Author.Needs.{needs}
-use Rattle.trace.proofs.Descent.{turned-part, kept-under}
-use Rattle.trace.proofs.turn.turn_kept.Statement.{statement}
-use Rattle.trace.proofs.turn.turn_kept.Tie as tie
+use Rattle.turns.proofs.Descent.{turned-part, kept-under}
+use Rattle.turns.proofs.turn.turn_kept.Statement.{statement}
+use Rattle.turns.proofs.turn.turn_kept.Tie as tie
 
 keep-requires : tie.Need-keep-requires
 keep-requires c κs = ((c .before .before .before .before .before .before .before .before .pre) .0, ((c .before .before .before .before .before .before .before .before .pre) .1 .0, ((c .before .before .before .before .before .before .before .before .pre) .1 .1 .1 .0, ((c .before .before .before .before .before .before .before .before .pre) .1 .1 .1 .1 .0, ((c .before .before .before .before .before .before .before .before .pre) .1 .1 .1 .1 .1 .0, (c .before .before .before .before .before .before .before .before .pre) .1 .1 .1 .1 .1 .1)))))
