@@ -1,4 +1,4 @@
--- Only the contracts of this crate, trace and the matcher need this file: what the walk over the arcs of the molecule asks and leaves. Assumes nothing.
+-- Only the contracts of this crate, turns, trace and the matcher need this file: what the walk over the arcs of the molecule asks and leaves. Assumes nothing.
 use Prim.Native.Nat.{ℕ, _+_, _-_, _*_, _^_, _≤_, _<_}
 use mathlib.Core.Path.{_≡_}
 use mathlib.Core.Bool.{true}
