@@ -1,114 +1,53 @@
-#!/usr/bin/env python3
-"""Writes the input of the test program block_test: python3 tools/block_cases.py > crates/block_test/stdin
+"""For tests alone: the lines that block_test reads, and what it must write. `tools/verify-cases` writes the files.
 
 Each line has 48 bytes: a letter, three numbers of five digits, and a name or a comment. What the letters mean is said in
-crates/block_test/src/cases.rt. The expected answers come from the model here, which follows document 01 and shares nothing with the crates.
+crates/block_test/src/cases.rt. The expected answers are those of `lakhido_model`.
 The image is three blocks and a byte; the strand has room for 162 bases; the two maps have room for 65 bytes.
 """
 import random
-import sys
 
-SIZE = 512
-KINDS = {1: (28, 160), 2: (20, 120)}  # byte 0: where the bases begin, the greatest length
-SEARCHED, HITS, CHECK = 380, 444, 508
+from lakhido_model import (BLOCK, CHECKSUM_AT, ENTRY, FORMS, HITS_AT, LETTERS, LONGEST_MOLECULE, LONGEST_MOTIF, MAP, MOLECULE, SEARCHED_AT, checksum, decode,
+                           encode, forget, has_bit, nested, seal, sound)
+from testing_crate import after, total
 
-
-# ---- the model
-
-def checksum(s):
-    return sum((i + 1) * s[i] for i in range(CHECK))
-
-
-def put_checksum(s):
-    if len(s) >= SIZE:
-        s[CHECK:SIZE] = checksum(s).to_bytes(4, 'little')
-
-
-def strand_in(kind, s):
-    start, most = KINDS[kind]
-    at = start + most
-    return list(s[start:start + s[1]]), [s[at + 2 * i] + 256 * s[at + 2 * i + 1] for i in range(s[1])]
-
-
-def nested(mates):
-    n = len(mates)
-    if any(m >= n or mates[m] != i for i, m in enumerate(mates)):
-        return False
-    arcs = [(i, m) for i, m in enumerate(mates) if i < m]
-    return not any(a < i < b < j for a, b in arcs for i, j in arcs)
-
-
-def sound(kind, s):
-    if len(s) != SIZE:
-        return False
-    if not any(s):
-        return True
-    start, most = KINDS[kind]
-    n, at = s[1], start + most
-    if s[0] != kind or not 1 <= n <= most:
-        return False
-    if any(s[2:start]) or any(s[start + n:at]) or any(s[at + 2 * n:at + 2 * most]):
-        return False
-    bases, mates = strand_in(kind, s)
-    if any(b not in b'ACGU' for b in bases) or not nested(mates):
-        return False
-    if kind == 2 and any(s[HITS + i] & ~s[SEARCHED + i] & 255 for i in range(64)):
-        return False
-    return int.from_bytes(s[CHECK:SIZE], 'little') == checksum(s)
-
-
-def encoded(kind, bases, mates, searched=b'', hits=b''):
-    start, most = KINDS[kind]
-    s = bytearray([kind, len(bases)]) + bytes(start - 2)
-    s += bytes(bases) + bytes(most - len(bases))
-    s += b''.join(m.to_bytes(2, 'little') for m in mates) + bytes(2 * (most - len(mates)))
-    s += bytes(searched) + bytes(hits) + bytes(4)
-    put_checksum(s)
-    return s
-
-
-def has_bit(s, at, d):
-    return at + d // 8 < len(s) and s[at + d // 8] >> d % 8 & 1
-
-
-def forget(s, d):
-    if len(s) == SIZE and s[0]:
-        for at in (SEARCHED, HITS):
-            if at + d // 8 < len(s):
-                s[at + d // 8] &= ~(1 << d % 8) & 255
-        put_checksum(s)
-
-
-def total(entries):
-    n = 0
-    for x in entries:
-        n = (n * 31 + x + 1) % 65536
-    return n
+BLOCKS = 3
+ROOM = 162
 
 
 class Cases:
     """Runs each command on the model, and writes its line with the answer."""
 
     def __init__(self):
-        self.image = bytearray(3 * SIZE + 1)
-        self.bases, self.mates = bytearray(162), [0] * 162
+        self.lines, self.told, self.right = [], [], 0
+        self.image = bytearray(BLOCKS * BLOCK + 1)
+        self.bases, self.mates = bytearray(ROOM), [0] * ROOM
         self.n = self.m = 0
-        self.searched, self.hits = bytearray(64), bytearray(64)
+        self.searched, self.hits = bytearray(MAP), bytearray(MAP)
 
     def line(self, letter, a=0, b=0, c=0, name=''):
         text = '%s %05d %05d %05d %-27s' % (letter, a, b, c, name)
         assert len(text) == 47, text
-        sys.stdout.write(text + '\n')
+        self.lines.append(text + '\n')
+
+    def ask(self, letter, a, b, answer, name):
+        self.line(letter, a, b, answer, name)
+        self.right += 1
 
     def strand(self):
-        return self.bases[:self.n], self.mates[:self.m]
+        return self.bases[:self.n].decode('latin-1'), self.mates[:self.m]
+
+    def block(self, d):
+        return self.image[BLOCK * d:BLOCK * d + BLOCK]
+
+    def set_block(self, d, block):
+        self.image[BLOCK * d:BLOCK * d + BLOCK] = block
 
     # the strand and the maps
     def new(self, n, m, seed, name=''):
         x = seed
-        for i in range(162):
-            x = x % 2147483647 * 48271 % 2147483647
-            self.bases[i], self.mates[i] = b'ACGU'[x // 16 % 4], i
+        for i in range(ROOM):
+            x = after(x)
+            self.bases[i], self.mates[i] = ord(LETTERS[x // 16 % 4]), i
         self.n, self.m = n, m
         self.line('N', n, m, seed, name)
 
@@ -116,7 +55,7 @@ class Cases:
         self.mates[i], self.mates[j] = j, i
         self.line('A', i, j)
 
-    def maps(self, n=64, m=64):
+    def maps(self, n=MAP, m=MAP):
         self.searched, self.hits = bytearray(n), bytearray(m)
         self.line('C', n, m)
 
@@ -131,199 +70,197 @@ class Cases:
         self.image[i] = v
         self.line('S', i, v)
 
-    def first(self, n, do):
-        part = self.image[:n]
-        do(part)
-        self.image[:n] = part
+    def check(self, n=BLOCK, name=''):
+        if n >= BLOCK:
+            block = self.block(0)
+            seal(block)
+            self.set_block(0, block)
+        self.ask('R', n, 0, n >= BLOCK, name)
 
-    def check(self, n=SIZE, name=''):
-        self.first(n, put_checksum)
-        self.line('R', n, 0, n >= SIZE, name)
-
-    def judge(self, kind, n=SIZE, name=''):
-        self.line('J', kind, n, sound(kind, self.image[:n]), name)
+    def judge(self, form, n=BLOCK, name=''):
+        self.ask('J', form.kind, n, sound(form, self.image[:n]), name)
 
     def forget(self, d, name=''):
-        self.first(SIZE, lambda s: forget(s, d))
-        self.line('F', d, 0, sound(2, self.image[:SIZE]), name)
+        block = self.block(0)
+        forget(block, d)
+        self.set_block(0, block)
+        self.ask('F', d, 0, sound(ENTRY, block), name)
 
     def bits(self, d, name=''):
-        s = self.image[:SIZE]
-        self.line('Q', d, 0, has_bit(s, SEARCHED, d) + 2 * has_bit(s, HITS, d), name)
+        block = self.block(0)
+        self.ask('Q', d, 0, has_bit(block, SEARCHED_AT, d) + 2 * has_bit(block, HITS_AT, d), name)
 
-    def damage(self, kind, i, v, name=''):
-        s = self.image[:SIZE]
-        was, s[i] = s[i], v
-        old = sound(kind, s)
-        put_checksum(s)
-        right = sound(kind, s)
-        s[i] = was
-        put_checksum(s)
-        self.image[:SIZE] = s
-        self.line('X', i, v, 1000 * kind + 100 * old + 10 * right + sound(kind, s), name)
+    def damage(self, form, i, v, name=''):
+        block = self.block(0)
+        was, block[i] = block[i], v
+        old = sound(form, block)
+        seal(block)
+        right = sound(form, block)
+        block[i] = was
+        seal(block)
+        self.set_block(0, block)
+        self.ask('X', i, v, 1000 * form.kind + 100 * old + 10 * right + sound(form, block), name)
 
     # the strand into the image, and out of it
-    def molecule(self, n=SIZE, name=''):
+    def encoded(self, form):
+        """The block of the strand, or None where it or its maps do not fit."""
         bases, mates = self.strand()
-        fits = n == SIZE and len(bases) <= 160 and len(mates) == len(bases)
-        if fits:
-            self.image[:n] = encoded(1, bases, mates)
-        self.line('M', 0, n, fits, name)
+        fits = len(bases) <= form.longest and len(mates) == len(bases)
+        if form is MOLECULE:
+            return encode(form, bases, mates) if fits else None
+        return encode(form, bases, mates, self.searched, self.hits) if fits and len(self.searched) == len(self.hits) == MAP else None
 
-    def entry(self, n=SIZE, name=''):
-        bases, mates = self.strand()
-        fits = n == SIZE and len(bases) <= 120 and len(mates) == len(bases) and len(self.searched) == len(self.hits) == 64
-        if fits:
-            self.image[:n] = encoded(2, bases, mates, self.searched, self.hits)
-        self.line('K', 0, n, fits, name)
+    def write(self, form, n=BLOCK, name=''):
+        block = self.encoded(form) if n == BLOCK else None
+        if block:
+            self.set_block(0, block)
+        self.ask('M' if form is MOLECULE else 'K', 0, n, block is not None, name)
 
     def put(self, d, name=''):
-        bases, mates = self.strand()
-        fits = d < 3 and len(bases) <= 160 and len(mates) == len(bases)
-        if fits:
-            self.image[SIZE * d:SIZE * d + SIZE] = encoded(1, bases, mates)
-        self.line('O', d, len(self.image), fits, name)
+        block = self.encoded(MOLECULE) if d < BLOCKS else None
+        if block:
+            self.set_block(d, block)
+        self.ask('O', d, len(self.image), block is not None, name)
 
-    def keeps(self, n=SIZE, name=''):
-        s, (bases, mates) = self.image[:n], self.strand()
-        yes = n == SIZE and s[1] <= 120 and any(s) and strand_in(2, s) == (list(bases), mates)
-        self.line('U', 0, n, yes, name)
+    def keeps(self, n=BLOCK, name=''):
+        s = self.image[:n]
+        yes = n == BLOCK and s[1] <= LONGEST_MOTIF and any(s) and decode(ENTRY, s) == self.strand()
+        self.ask('U', 0, n, yes, name)
 
-    def decode(self, n=162, m=162, size=SIZE, name=''):
+    def decode(self, n=ROOM, m=ROOM, size=BLOCK, name=''):
         s = self.image[:size]
-        count = s[1] if size == SIZE and s[1] <= min(160, n, m) else 0
+        count = s[1] if size == BLOCK and s[1] <= min(LONGEST_MOLECULE, n, m) else 0
         if count:
-            bases, mates = strand_in(1, s)
-            self.bases[:count], self.mates[:count] = bytes(bases), mates
-        self.line('D' if size == SIZE else 'd', n, m, count, name)
+            bases, mates = decode(MOLECULE, s)
+            self.bases[:count], self.mates[:count] = bases.encode('latin-1'), mates
+        self.ask('D' if size == BLOCK else 'd', n, m, count, name)
 
     # the buffer
     def zero(self, d, name=''):
-        if d < 3:
-            self.image[SIZE * d:SIZE * d + SIZE] = bytes(SIZE)
-        self.line('Z', d, 0, d < 3, name)
+        if d < BLOCKS:
+            self.set_block(d, bytes(BLOCK))
+        self.ask('Z', d, 0, d < BLOCKS, name)
 
     def judge_at(self, d, name=''):
-        self.line('Y', d, 0, d < 3 and sound(1, self.image[SIZE * d:SIZE * d + SIZE]), name)
-
-    def each(self, do):
-        for d in range(3):
-            part = self.image[SIZE * d:SIZE * d + SIZE]
-            do(part)
-            self.image[SIZE * d:SIZE * d + SIZE] = part
+        self.ask('Y', d, 0, d < BLOCKS and sound(MOLECULE, self.block(d)), name)
 
     def clean_all(self, name=''):
-        def clean(s):
-            if not sound(2, s):
-                s[:] = bytes(SIZE)
-        self.each(clean)
-        self.line('H', 0, 0, total(self.image), name)
+        for d in range(BLOCKS):
+            if not sound(ENTRY, self.block(d)):
+                self.set_block(d, bytes(BLOCK))
+        self.ask('H', 0, 0, total(self.image) % 65536, name)
 
-    def forget_all(self, d, name=''):
-        self.each(lambda s: forget(s, d))
-        self.line('f', d, 0, total(self.image), name)
+    def forget_all(self, number, name=''):
+        for d in range(BLOCKS):
+            block = self.block(d)
+            forget(block, number)
+            self.set_block(d, block)
+        self.ask('f', number, 0, total(self.image) % 65536, name)
 
     def sums(self, name=''):
         for which, entries in enumerate((self.image, self.bases, self.mates)):
-            self.line('W', which, 0, total(entries), name)
+            self.ask('W', which, 0, total(entries) % 65536, name)
 
     def end(self, name):
         self.line('G', name=name)
+        self.told.append('%-27s %d right, 0 wrong\n' % (name, self.right))
+        self.right = 0
 
 
 # ---- the cases
 
-def small(t, kind):
+def small(t, form):
     """Three bases with an arc of the outer two; in an entry 0 and 1 are searched and 1 is a hit."""
     t.new(3, 3, 5)
     t.arc(0, 2)
     t.maps()
     t.mark(0, 1)
     t.mark(1, 3)
-    t.molecule() if kind == 1 else t.entry()
+    t.write(form)
 
 
-def damages(t, kind):
-    small(t, kind)
-    start, most = KINDS[kind]
-    at = start + most
+def damages(t, form):
+    small(t, form)
+    start, at, most = form.bases_at, form.mates_at, form.longest
     letter = t.image[start]
     for i, v, name in [
-        (0, 9, 'kind'), (0, 3 - kind, 'kind, the other'), (1, 0, 'length 0'), (1, 2, 'length, less'), (1, 4, 'length, more'), (1, most + 1, 'length, over the limit'),
-        (2, 1, 'first zero byte'), (start - 1, 1, 'last zero byte'), (start, 88, 'base, no letter'), (start, 65 if letter != 65 else 67, 'base, another letter'),
+        (0, 9, 'kind'), (0, 3 - form.kind, 'kind, the other'), (1, 0, 'length 0'), (1, 2, 'length, less'), (1, 4, 'length, more'),
+        (1, most + 1, 'length, over the limit'),
+        (2, 1, 'first zero byte'), (start - 1, 1, 'last zero byte'), (start, 88, 'base, no letter'),
+        (start, 65 if letter != 65 else 67, 'base, another letter'),
         (start + 3, 65, 'first unused base'), (at - 1, 65, 'last unused base'), (at, 1, 'mate, not mutual'), (at, 3, 'mate, out of range'),
         (at + 1, 1, 'mate, high byte'), (at + 6, 1, 'first unused mate'), (at + 2 * most - 1, 1, 'last unused mate'),
-        (508, 0, 'checksum'), (509, 0, 'checksum'), (510, 9, 'checksum'), (511, 1, 'checksum'),
+        *((CHECKSUM_AT + i, v, 'checksum') for i, v in enumerate((0, 0, 9, 1))),
     ]:
-        t.damage(kind, i, v, name)
-    if kind == 2:
+        t.damage(form, i, v, name)
+    if form is ENTRY:
         for i, v, name in [
-            (380, 7, 'searched, one more'), (380, 1, 'searched, without the hit'), (443, 128, 'searched, last byte'),
-            (444, 3, 'hit, searched too'), (444, 6, 'hit, not searched'), (444, 0, 'hit, none'), (507, 128, 'hit, last byte'),
+            (SEARCHED_AT, 7, 'searched, one more'), (SEARCHED_AT, 1, 'searched, without the hit'), (HITS_AT - 1, 128, 'searched, last byte'),
+            (HITS_AT, 3, 'hit, searched too'), (HITS_AT, 6, 'hit, not searched'), (HITS_AT, 0, 'hit, none'), (CHECKSUM_AT - 1, 128, 'hit, last byte'),
         ]:
-            t.damage(kind, i, v, name)
-    t.end(('molecule' if kind == 1 else 'entry') + ', a byte changed')
+            t.damage(form, i, v, name)
+    t.end(('molecule' if form is MOLECULE else 'entry') + ', a byte changed')
 
 
 def empties(t):
     t.zero(0)
-    for kind in (1, 2):
-        t.judge(kind)
-        for i in (0, 1, 2, 300, 380, 444, 508, 511):
-            t.damage(kind, i, 1)
+    for form in FORMS.values():
+        t.judge(form)
+        for i in (0, 1, 2, 300, SEARCHED_AT, HITS_AT, CHECKSUM_AT, BLOCK - 1):
+            t.damage(form, i, 1)
     t.end('empty block, a byte changed')
 
 
 def lengths(t):
     for n in (0, 1, 120, 121, 160, 161):
-        for kind in (1, 2):
+        for form in FORMS.values():
             t.zero(0)
             t.new(n, n, 70 + n, 'length %d' % n)
             t.maps()
-            t.molecule() if kind == 1 else t.entry()
-            t.judge(kind)
+            t.write(form)
+            t.judge(form)
             t.store(1, n)
             t.check(name='byte 1 is the length')
-            t.judge(kind)
+            t.judge(form)
             t.sums()
     t.end('lengths')
 
 
 def arcs(t):
-    for kind in (1, 2):
+    for form in FORMS.values():
         for name, pairs in (('nested', [(0, 3), (1, 2)]), ('crossing', [(0, 2), (1, 3)]), ('side by side', [(0, 1), (2, 3)])):
             t.new(4, 4, 9, name)
             for i, j in pairs:
                 t.arc(i, j)
-            t.molecule() if kind == 1 else t.entry()
-            t.judge(kind)
+            t.write(form)
+            t.judge(form)
     t.end('arcs')
 
 
 def refusals(t):
-    small(t, 1)
+    small(t, MOLECULE)
     for n in (0, 511, 513):
-        t.judge(1, n, 'no block')
-        t.judge(2, n, 'no block')
-        t.molecule(n, 'no block')
-        t.entry(n, 'no block')
+        t.judge(MOLECULE, n, 'no block')
+        t.judge(ENTRY, n, 'no block')
+        t.write(MOLECULE, n, 'no block')
+        t.write(ENTRY, n, 'no block')
         t.keeps(n, 'no block')
     t.store(300, 7)
     t.check(511, 'short: nothing written')
     t.sums()
     for n, m, name in ((2, 3, 'a mate more'), (3, 2, 'a mate less'), (161, 161, 'over 160'), (162, 162, 'over 160'), (160, 162, 'mates over 160')):
         t.new(n, m, 6, name)
-        t.molecule()
-        t.entry()
+        t.write(MOLECULE)
+        t.write(ENTRY)
         t.put(1)
         t.sums()
     t.new(121, 121, 6, 'over 120')
-    t.entry()
+    t.write(ENTRY)
     t.sums()
     t.new(3, 3, 6)
     for n, m in ((63, 64), (64, 63), (65, 64), (64, 65), (0, 0)):
         t.maps(n, m)
-        t.entry(name='maps of %d and %d bytes' % (n, m))
+        t.write(ENTRY, name='maps of %d and %d bytes' % (n, m))
     t.put(3, 'no such block')
     t.zero(3, 'no such block')
     t.judge_at(3, 'no such block')
@@ -334,7 +271,7 @@ def refusals(t):
 def decoders(t):
     t.new(160, 160, 11)
     t.arc(3, 150)
-    t.molecule()
+    t.write(MOLECULE)
     t.new(1, 1, 12)
     for n, m in ((159, 160), (160, 159), (0, 0)):
         t.decode(n, m, name='too few places')
@@ -364,21 +301,21 @@ def buffers(t):
     t.sums()
     for d in range(4):
         t.judge_at(d)
-    t.store(SIZE + 40, 1)
+    t.store(BLOCK + 40, 1)
     t.judge_at(1)
     t.zero(1)
     t.judge_at(1)
     t.sums()
-    small(t, 2)
+    small(t, ENTRY)
     t.clean_all('keeps the entry alone')
     t.sums()
     t.forget_all(1)
     t.bits(0)
     t.bits(1)
-    t.judge(2)
+    t.judge(ENTRY)
     t.sums()
     t.forget_all(512, 'no number of the maps')
-    t.judge(2)
+    t.judge(ENTRY)
     t.sums()
     t.end('blocks of a buffer')
 
@@ -393,9 +330,9 @@ def random_arcs(t, rng, n, tries):
                 t.arc(i, j)
 
 
-def random_damage(t, rng, kind):
-    i = rng.randrange(SIZE)
-    t.damage(kind, i, (t.image[i] + rng.randrange(1, 256)) % 256)
+def random_damage(t, rng, form):
+    i = rng.randrange(BLOCK)
+    t.damage(form, i, (t.image[i] + rng.randrange(1, 256)) % 256)
 
 
 def random_molecules(t, rng):
@@ -403,13 +340,13 @@ def random_molecules(t, rng):
         n = rng.randrange(1, 161)
         t.new(n, n, rng.randrange(1, 99999))
         random_arcs(t, rng, n, 16)
-        t.molecule()
-        t.judge(1)
+        t.write(MOLECULE)
+        t.judge(MOLECULE)
         t.new(1, 1, rng.randrange(1, 99999))
         t.decode(name='decoded again')
         t.sums()
-        random_damage(t, rng, 1)
-        random_damage(t, rng, 1)
+        random_damage(t, rng, MOLECULE)
+        random_damage(t, rng, MOLECULE)
     t.end('random molecules')
 
 
@@ -424,17 +361,17 @@ def random_entries(t, rng):
             t.mark(d, rng.choice((1, 3)))
         if k % 2:
             t.mark(rng.randrange(512), 2)
-        t.entry()
-        t.judge(2)
+        t.write(ENTRY)
+        t.judge(ENTRY)
         t.sums()
         t.keeps(name='this motif')
         t.bits(numbers[0])
         t.bits(rng.randrange(600))
         t.forget(numbers[0])
         t.bits(numbers[0])
-        t.judge(2)
-        random_damage(t, rng, 2)
-        random_damage(t, rng, 2)
+        t.judge(ENTRY)
+        random_damage(t, rng, ENTRY)
+        random_damage(t, rng, ENTRY)
         t.sums()
         t.new(n, n, rng.randrange(1, 99999))
         t.keeps(name='another motif')
@@ -442,13 +379,12 @@ def random_entries(t, rng):
 
 
 def keeping(t):
-    small(t, 2)
+    small(t, ENTRY)
     t.keeps(name='this motif')
     t.arc(0, 0)
     t.arc(2, 2)
     t.keeps(name='another bond')
     t.arc(0, 2)
-    t.n = 2
     t.new(2, 3, 5)
     t.keeps(name='a base less')
     t.new(3, 2, 5)
@@ -464,25 +400,23 @@ def keeping(t):
     t.end('the motif of an entry')
 
 
-def main():
-    t, rng = Cases(), random.Random(1)
+def first(t):
     t.new(1, 1, 0, 'A, 0')
-    t.molecule(name='checksum 1888')
+    t.write(MOLECULE, name='checksum 1888')
     assert checksum(t.image) == 1888
-    t.judge(1)
+    t.judge(MOLECULE)
     t.sums()
     t.end('the block of A, 0')
+
+
+def files():
+    t, rng = Cases(), random.Random(1)
+    first(t)
     empties(t)
-    for kind in (1, 2):
-        damages(t, kind)
-    lengths(t)
-    arcs(t)
-    keeping(t)
-    decoders(t)
-    refusals(t)
-    buffers(t)
+    for form in FORMS.values():
+        damages(t, form)
+    for part in (lengths, arcs, keeping, decoders, refusals, buffers):
+        part(t)
     random_molecules(t, rng)
     random_entries(t, rng)
-
-
-main()
+    return {'crates/block_test/stdin': ''.join(t.lines), 'crates/block_test/stdout': ''.join(t.told)}

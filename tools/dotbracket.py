@@ -19,13 +19,9 @@ import argparse
 import random
 import sys
 
-BLOCK = 512
-LONGEST = 160
-LONGEST_MOTIF = 120
-MOST_BLOCKS = 512
-MOST_SCREENED = 64
-BASES_AT, MATES_AT, CHECKSUM_AT = 28, 188, 508
-LETTERS = 'ACGU'
+from lakhido_model import (BLOCK, LETTERS, LONGEST_MOLECULE, LONGEST_MOTIF, MOLECULE, MOST_BLOCKS, MOST_SCREENED, decode, encode, fault,
+                           random_strand)
+
 EMPTY_NAME = '(empty)'
 
 
@@ -33,73 +29,9 @@ class Bad(Exception):
     """What is wrong with a file, and where."""
 
 
-# ---- rules of a molecule block
-
-def checksum(block):
-    return sum((i + 1) * block[i] for i in range(CHECKSUM_AT))
-
-
-def put_pair(block, at, value):
-    block[at], block[at + 1] = value % 256, value // 256
-
-
-def pair_at(block, at):
-    return block[at] + 256 * block[at + 1]
-
-
-def encode(bases, mates):
+def block_of(bases, mates):
     """The block of a molecule. The empty molecule, `('', [])`, is the empty block."""
-    block = bytearray(BLOCK)
-    if not bases:
-        return bytes(block)
-    block[0], block[1] = 1, len(bases)
-    for i, base in enumerate(bases):
-        block[BASES_AT + i] = ord(base)
-        put_pair(block, MATES_AT + 2 * i, mates[i])
-    for k, value in enumerate(checksum(block).to_bytes(4, 'little')):
-        block[CHECKSUM_AT + k] = value
-    return bytes(block)
-
-
-def check_block(block):
-    """None for a sound block, else (byte, what is wrong there). Reads the bytes alone."""
-    if len(block) != BLOCK:
-        return len(block), 'a block has %d bytes' % BLOCK
-    if not any(block):
-        return None
-    if block[0] != 1:
-        return 0, 'the kind of a molecule block is 1, not %d' % block[0]
-    n = block[1]
-    if not 1 <= n <= LONGEST:
-        return 1, 'the length is %d, and 1 to %d are taken' % (n, LONGEST)
-    for i in list(range(2, BASES_AT)) + list(range(BASES_AT + n, MATES_AT)) + list(range(MATES_AT + 2 * n, CHECKSUM_AT)):
-        if block[i] != 0:
-            return i, 'an unused byte is %d, not 0' % block[i]
-    for i in range(n):
-        if chr(block[BASES_AT + i]) not in LETTERS:
-            return BASES_AT + i, 'base %d is no letter of %s' % (i, LETTERS)
-    mates = [pair_at(block, MATES_AT + 2 * i) for i in range(n)]
-    for i, mate in enumerate(mates):
-        if mate >= n:
-            return MATES_AT + 2 * i, 'the mate of base %d is %d, and there are %d bases' % (i, mate, n)
-    for i, mate in enumerate(mates):
-        if mates[mate] != i:
-            return MATES_AT + 2 * i, 'the mate of base %d is %d, whose mate is %d' % (i, mate, mates[mate])
-    closing = []
-    for i, mate in enumerate(mates):
-        if mate > i:
-            closing.append((mate, i))
-        elif mate < i and closing.pop()[0] != i:
-            return MATES_AT + 2 * i, 'the bond of bases %d and %d crosses another' % (mate, i)
-    if block[CHECKSUM_AT:] != checksum(block).to_bytes(4, 'little'):
-        return CHECKSUM_AT, 'the checksum is not %d' % checksum(block)
-    return None
-
-
-def decode(block):
-    """Bases and mates of a sound block; the empty block has none."""
-    n = block[1]
-    return block[BASES_AT:BASES_AT + n].decode('ascii'), [pair_at(block, MATES_AT + 2 * i) for i in range(n)]
+    return bytes(encode(MOLECULE, bases, mates) if bases else BLOCK)
 
 
 # ---- dot-bracket text
@@ -154,8 +86,8 @@ def molecule(lines, header, name):
         if base not in LETTERS:
             hint = ' (RNA has U)' if base == 'T' else ''
             raise Bad('%s:%d:%d: `%s` is no letter of %s%s' % (name, first, begin + i + 1, base, LETTERS, hint))
-    if len(bases) > LONGEST:
-        raise Bad('%s:%d:%d: %d bases, and a molecule has 1 to %d' % (name, first, begin + LONGEST + 1, len(bases), LONGEST))
+    if len(bases) > LONGEST_MOLECULE:
+        raise Bad('%s:%d:%d: %d bases, and a molecule has 1 to %d' % (name, first, begin + LONGEST_MOLECULE + 1, len(bases), LONGEST_MOLECULE))
     indent, structure = len(structure) - len(structure.lstrip()), structure.split()[0]
     if len(structure) != len(bases):
         column = indent + min(len(structure), len(bases)) + 1
@@ -171,9 +103,9 @@ def blocks_of(text, name):
             bases, mates = '', []
         else:
             bases, mates = molecule(lines, header, name)
-        block = encode(bases, mates)
-        wrong = check_block(block)
-        if wrong or decode(block) != (bases, mates):
+        block = block_of(bases, mates)
+        wrong = fault(MOLECULE, block)
+        if wrong or decode(MOLECULE, block) != (bases, mates):
             raise Bad('%s:%d:1: the tool made an unsound block: %s' % (name, header, wrong))
         blocks.append(block)
     return blocks
@@ -186,10 +118,10 @@ def text_of(data, name, screen=False):
     out = []
     for d in range(len(data) // BLOCK):
         block = data[BLOCK * d:BLOCK * (d + 1)]
-        wrong = check_block(block)
+        wrong = fault(MOLECULE, block)
         if wrong:
             raise Bad('%s: block %d, byte %d: %s' % (name, d, wrong[0], wrong[1]))
-        bases, mates = decode(block)
+        bases, mates = decode(MOLECULE, block)
         if not bases:
             out.append('>' + EMPTY_NAME + '\n')
             continue
@@ -219,19 +151,6 @@ def motif_and_catalog(motif, motif_name, catalog, catalog_name):
 
 # ---- self-test
 
-def random_molecule(rng, most=LONGEST):
-    n = rng.randint(1, most)
-    mates, begun = list(range(n)), []
-    for i in range(n):
-        move = rng.random()
-        if begun and move < 0.35:
-            mates[i] = begun.pop()
-            mates[mates[i]] = i
-        elif move < 0.7:
-            begun.append(i)
-    return ''.join(rng.choice(LETTERS) for _ in range(n)), mates
-
-
 def expect_error(text, start):
     try:
         blocks_of(text, 'T')
@@ -243,24 +162,16 @@ def expect_error(text, start):
 
 def self_test():
     rng = random.Random(1)
-    one = encode('A', [0])
-    assert checksum(one) == 1888 and one[CHECKSUM_AT:] == (1888).to_bytes(4, 'little') and check_block(one) is None
-    assert check_block(bytes(BLOCK)) is None and decode(bytes(BLOCK)) == ('', [])
+    one = block_of('A', [0])
     for _ in range(300):
-        bases, mates = random_molecule(rng)
-        block = encode(bases, mates)
-        assert check_block(block) is None and decode(block) == (bases, mates)
+        bases, mates = random_strand(rng, LONGEST_MOLECULE)
         text = '>x\n%s\n%s (-1.50)\n' % (bases, structure_of(mates))
+        block = block_of(bases, mates)
         assert blocks_of(text, 'T') == [block] and blocks_of(text_of(block, 'B'), 'T') == [block]
-        at, damaged = rng.randrange(BLOCK), bytearray(block)
-        damaged[at] = (damaged[at] + rng.randint(1, 255)) % 256
-        assert check_block(bytes(damaged)) is not None, at
-    whole = b''.join([one, bytes(BLOCK), encode('GAC', [2, 1, 0])])
+    whole = b''.join([one, bytes(BLOCK), block_of('GAC', [2, 1, 0])])
     assert b''.join(blocks_of(text_of(whole, 'B'), 'T')) == whole
     assert text_of(whole, 'B', screen=True).startswith('>motif\nA\n.\n>(empty)\n>molecule 1\n')
-    assert blocks_of('# a note\n\n>x\r\n gac \r\n (.)\r\n', 'T') == [encode('GAC', [2, 1, 0])]
-    for bases, mates in [('AXC', [0, 1, 2]), ('A', [1]), ('AC', [1, 1]), ('ACGU', [2, 3, 0, 1])]:
-        assert check_block(encode(bases, mates)) is not None, bases
+    assert blocks_of('# a note\n\n>x\r\n gac \r\n (.)\r\n', 'T') == [block_of('GAC', [2, 1, 0])]
     expect_error('GAC\n', 'T:1:1: a molecule begins')
     expect_error('>x\nGAXC\n....\n', 'T:2:3: `X` is no letter')
     expect_error('>x\nGATC\n....\n', 'T:2:3: `T` is no letter of ACGU (RNA has U)')
@@ -284,7 +195,6 @@ def self_test():
             assert str(error).startswith(start), (str(error), start)
         else:
             raise AssertionError((motif, catalog))
-    print('self-test: ok')
 
 
 # ---- commands
@@ -311,6 +221,7 @@ def write(path, data):
 def run(words):
     if words == ['--self-test']:
         self_test()
+        print('self-test: ok')
         return
     parser = argparse.ArgumentParser(description=__doc__, formatter_class=argparse.RawDescriptionHelpFormatter)
     parser.add_argument('--self-test', action='store_true', help='test this tool and stop')

@@ -1,19 +1,17 @@
-#!/usr/bin/env python3
-"""Writes the input of matcher_test, whose main.rt says what a line has.
+"""For tests alone: the lines that matcher_test reads, and what it must write. `tools/verify-cases` writes the files.
 
-    python3 tools/matcher_cases.py > crates/matcher_test/stdin
-    python3 tools/matcher_cases.py check      compares `longest` with brute force on random pairs
-
-The lengths that it wants come from `longest`: plain lists for all suffixes of the motif, base by base and arc by arc. The refusals that it wants
-come from `refused`: the table's rows, word by word. Strands by rule are made as in matcher_test (`strands`).
+What a line has is said in crates/matcher_test/src/main.rt. Lengths and refusals are those of `lakhido_model`. Strands by rule are made as in
+matcher_test (`strands`).
 """
+import collections
 import functools
 import itertools
-import random
-import sys
+
+import lakhido_model
+from lakhido_model import LETTERS, LONGEST, SETTLED, strand_refusal, work_size
 
 WIDTH = 112
-LIMIT = 4096
+NAME = 46
 
 
 # Strands by rule.
@@ -67,7 +65,7 @@ def written(bases, mates):
 
 def by_rule(shape, n, seed, letters, mates=None):
     count = n if mates is None else mates
-    bases = ''.join('ACGUX'[number(seed, i) % letters] for i in range(n))
+    bases = ''.join((LETTERS + 'X')[number(seed, i) % letters] for i in range(n))
     return Strand(bases, fold(shape, seed, count), '%d %6d %6d %6d %d' % (shape, n, count, seed, letters))
 
 
@@ -75,23 +73,7 @@ def by_rule(shape, n, seed, letters, mates=None):
 
 @functools.cache
 def strand_row(s):
-    """The first of rows 1 to 7 that applies, with its place, or None."""
-    n = len(s.bases)
-    if n != len(s.mates):
-        return 1, 0
-    if n == 0:
-        return 2, 0
-    if n > LIMIT:
-        return 3, 0
-    for row, applies in (
-            (4, lambda i: s.bases[i] not in 'ACGU'),
-            (5, lambda i: s.mates[i] >= n),
-            (6, lambda i: s.mates[s.mates[i]] != i),
-            (7, lambda i: any(a < i < s.mates[a] < s.mates[i] for a in range(i)))):
-        for i in range(n):
-            if applies(i):
-                return row, i
-    return None
+    return strand_refusal(s.bases, s.mates)
 
 
 def refused(call, p, q, places, work):
@@ -108,69 +90,12 @@ def refused(call, p, q, places, work):
 
 
 def room(p, q):
-    return 64 * (len(p.bases) + 1) + 8 * len(q.bases)
+    return work_size(len(p.bases), len(q.bases))
 
 
 @functools.cache
 def longest(p, q):
-    """The longest closed prefix of p that embeds in q. For a stretch of q, ends[j] is the end of the longest closed stretch of p that begins at j
-    and embeds there; stretches of q side by side are joined by looking one up in the other."""
-    m, free = len(p.bases), [p.mates[j] == j for j in range(len(p.bases))] + [False]
-    letter = p.bases + ' '
-    steps = {c: [j + 1 if free[j] and letter[j] == c else j for j in range(m + 1)] for c in 'ACGU'}
-
-    def around(inside, left, right):
-        ends = []
-        for j in range(m + 1):
-            best = steps[right][inside[j]]
-            if free[j] and letter[j] == left:
-                best = max(best, inside[j + 1])
-            if j < m and p.mates[j] > j:
-                e = p.mates[j]
-                if letter[j] == left and letter[e] == right and inside[j + 1] >= e:
-                    best = max(best, e + 1)
-            ends.append(best)
-        return ends
-
-    # Of the stretches that are open: what they have so far.
-    open_stretches = []
-    ends = list(range(m + 1))
-    for i, c in enumerate(q.bases):
-        mate = q.mates[i]
-        if mate > i:
-            open_stretches.append(ends)
-            ends = list(range(m + 1))
-        else:
-            step = steps[c]
-            if mate < i:
-                step = around(ends, q.bases[mate], c)
-                ends = open_stretches.pop()
-            ends = [step[k] for k in ends]
-    return ends[0]
-
-
-def brute(p, q):
-    """The same by trying every list of rising places."""
-    m, n = len(p.bases), len(q.bases)
-    for k in range(m, 0, -1):
-        if any(p.mates[j] >= k for j in range(k)):
-            continue
-        for at in itertools.combinations(range(n), k):
-            if all(p.bases[j] == q.bases[at[j]] for j in range(k)) and all(
-                    (p.mates[x] == y) == (q.mates[at[x]] == at[y]) for x in range(k) for y in range(x)):
-                return k
-    return 0
-
-
-def check():
-    rng = random.Random(1)
-    for i in range(20000):
-        letters = rng.choice((1, 2, 4))
-        p = by_rule(rng.randrange(6), rng.randrange(1, 7), rng.randrange(65536), letters)
-        q = by_rule(rng.randrange(6), rng.randrange(1, 10), rng.randrange(65536), letters)
-        assert strand_row(p) is None and strand_row(q) is None
-        assert longest(p, q) == brute(p, q), (p.field, q.field)
-    print('20000 random pairs agree')
+    return lakhido_model.longest(p.bases, p.mates, q.bases, q.mates)
 
 
 # The lines.
@@ -179,7 +104,7 @@ SHAPES = ('no arcs', 'stem', 'comb', 'balanced', 'fold', 'stems')
 BAD = {
     1: written('AC', '0'),
     2: written('', ''),
-    3: by_rule(0, LIMIT + 1, 1, 4),
+    3: by_rule(0, LONGEST + 1, 1, 4),
     4: written('AXC', '012'),
     5: written('A', '1'),
     6: written('AC', '11'),
@@ -188,66 +113,79 @@ BAD = {
 # Two rows apply to each. Rows 2 and 3 exclude each other, and rows 2 and 4.
 BOTH = {
     '1 and 2': written('', '0'),
-    '1 and 3': by_rule(0, LIMIT + 1, 1, 4, LIMIT),
+    '1 and 3': by_rule(0, LONGEST + 1, 1, 4, LONGEST),
     '1 and 4': written('AXC', '01'),
-    '3 and 4': by_rule(0, LIMIT + 1, 1, 5),
+    '3 and 4': by_rule(0, LONGEST + 1, 1, 5),
     '4 and 5': written('AXC', '912'),
     '5 and 6': written('ACG', '113'),
     '6 and 7': written('ACGUAC', '230155'),
 }
-LINES = []
+LINES, TOLD, COUNTS = [], [], collections.Counter()
 
 
 def put(text):
     assert len(text) < WIDTH, text
-    LINES.append('%-*s' % (WIDTH - 1, text))
+    LINES.append('%-*s\n' % (WIDTH - 1, text))
 
 
 def line(calls, p, q, places, work, row, side, n, name):
-    put('%s %-24s %-24s %6d %6d %d %d %6d %s' % (calls, p.field, q.field, places, work, row, side, n, name))
+    put('%s %-24s %-24s %6d %6d%2d %d %6d %s' % (calls, p.field, q.field, places, work, row, side, n, name))
 
 
-def case(p, q, places, work, name, calls='ls'):
-    """A line for the calls, or one for each if they answer differently."""
-    wants = {c: refused(c, p, q, places, work) or (0, 0, longest(p, q)) for c in calls}
-    if len(calls) == 2 and len(set(wants.values())) == 1:
-        return line('b', p, q, places, work, *wants['l'], name)
-    for c in calls:
-        line(c, p, q, places, work, *wants[c], name)
+def count(calls, p, row, n):
+    """Calls that are refused by a row, or for row 0 answer the length n."""
+    COUNTS['calls'] += calls
+    COUNTS['refused'] += calls * (row > 0)
+    COUNTS['whole'] += calls * (row == 0 and n == len(p.bases))
+    COUNTS['empty'] += calls * (row == 0 and n == 0)
 
 
-def exact(p, q, name, calls='ls'):
-    case(p, q, len(p.bases), room(p, q), name, calls)
+def case(p, q, places, work, name):
+    """A line for both calls, or one for each if they answer differently."""
+    wants = {call: refused(call, p, q, places, work) or (0, 0, longest(p, q)) for call in 'ls'}
+    for row, _, n in wants.values():
+        count(1, p, row, n)
+    if wants['l'] == wants['s']:
+        wants = {'b': wants['l']}
+    for calls, want in wants.items():
+        line(calls, p, q, places, work, *want, name)
+
+
+def rounds(times, motif, molecule, name):
+    """A line for so many random pairs, of rising seeds; the test program asks brute force for their answers. A rule is shape, length, seed, letters."""
+    def pair(i):
+        return (by_rule(shape, n, seed + i, letters) for shape, n, seed, letters in (motif, molecule))
+    p, q = pair(0)
+    line('r', p, q, len(p.bases), room(p, q), 0, 0, times, name)
+    for i in range(times):
+        p, q = pair(i)
+        count(2, p, 0, lakhido_model.longest(p.bases, p.mates, q.bases, q.mates))
+
+
+def exact(p, q, name):
+    case(p, q, len(p.bases), room(p, q), name)
 
 
 def group(name):
-    assert len(name) <= 46, name
+    assert len(name) <= NAME, name
     put('= ' + name)
+    TOLD.append('%-*s: calls %d, refused %d, whole motif %d, no prefix %d, wrong 0\n'
+                % (NAME, name, *(COUNTS[k] for k in ('calls', 'refused', 'whole', 'empty'))))
+    COUNTS.clear()
 
 
 def settled():
-    table = (
-        ('A', '0', 'A', '0', 1),
-        ('GC', '10', 'GAC', '210', 2),
-        ('GC', '01', 'GAC', '210', 1),
-        ('GC', '10', 'GC', '01', 0),
-        ('GC', '01', 'GCC', '210', 2),
-        ('GC', '01', 'GGC', '210', 2),
-        ('AGC', '021', 'AG', '01', 1),
-        ('AGC', '021', 'AGAC', '0321', 3),
-        ('GGCC', '3210', 'GGCC', '0213', 0),
-    )
-    for row, (bases, mates, other, bonds, length) in enumerate(table):
-        p, q = written(bases, mates), written(other, bonds)
-        assert longest(p, q) == length
-        exact(p, q, 'row %d' % (row + 1))
+    for row, (p, pm, q, qm, length) in enumerate(SETTLED, 1):
+        motif, molecule = (written(bases, ''.join(map(str, mates))) for bases, mates in ((p, pm), (q, qm)))
+        assert longest(motif, molecule) == length
+        exact(motif, molecule, 'row %d' % row)
     group('settled examples')
 
 
 def refusals():
     good = written('GC', '10')
     # No room at all, so that rows 9 and 8 apply too, and more than enough, so that there are entries to compare.
-    for places, work, name in ((0, 0, 'no room'), (LIMIT + 4, 294980, 'ample room')):
+    for places, work, name in ((0, 0, 'no room'), (LONGEST + 4, 294980, 'ample room')):
         for i in BAD:
             case(BAD[i], good, places, work, 'motif %d' % i)
             case(good, BAD[i], places, work, 'molecule %d' % i)
@@ -267,7 +205,7 @@ def rooms():
     case(one, one, 1, 136, 'row 8, one entry more')
     case(written('GC', '01'), one, 1, 64 * 3 + 8, 'row 9')
     group('small examples of rows 8 and 9')
-    for m, n in ((1, 1), (1, 7), (7, 1), (9, 9), (120, 160), (1, LIMIT)):
+    for m, n in ((1, 1), (1, 7), (7, 1), (9, 9), (120, 160), (1, LONGEST)):
         p, q = by_rule(4, m, 5, 1), by_rule(4, n, 6, 1)
         size = room(p, q)
         for work in (0, size - 1, size, size + 4):
@@ -281,13 +219,11 @@ def rooms():
 def random_pairs():
     for letters in (1, 2, 4):
         for a, b in itertools.product(range(6), range(6)):
-            p, q = by_rule(a, 6, 100, letters), by_rule(b, 9, 5000, letters)
-            line('r', p, q, 6, room(p, q), 0, 0, 60, '%s in %s' % (SHAPES[a], SHAPES[b]))
+            rounds(60, (a, 6, 100, letters), (b, 9, 5000, letters), '%s in %s' % (SHAPES[a], SHAPES[b]))
         group('random pairs of 6 and 9, letters %d' % letters)
     for m, n in ((1, 1), (1, 12), (3, 7), (5, 12), (9, 9), (10, 6), (8, 12)):
         for letters in (1, 2):
-            p, q = by_rule(4, m, 300, letters), by_rule(5, n, 7000, letters)
-            line('r', p, q, m, room(p, q), 0, 0, 100, '%d in %d, letters %d' % (m, n, letters))
+            rounds(100, (4, m, 300, letters), (5, n, 7000, letters), '%d in %d, letters %d' % (m, n, letters))
     group('random pairs of other lengths')
 
 
@@ -302,19 +238,16 @@ def long_pairs():
         exact(s, s, SHAPES[a] + ' in itself')
     group('strands of 1000 in themselves')
     for a in range(6):
-        s = by_rule(a, LIMIT, 14, 4)
+        s = by_rule(a, LONGEST, 14, 4)
         exact(s, s, SHAPES[a] + ' in itself')
     group('strands of 4096 in themselves')
     for a in range(6):
-        exact(by_rule(a, 1000, 15, 1), by_rule(4, LIMIT, 16, 1), SHAPES[a] + ' in fold')
-        exact(written('C', '0'), by_rule(a, LIMIT, 17, 2), 'C in ' + SHAPES[a])
+        exact(by_rule(a, 1000, 15, 1), by_rule(4, LONGEST, 16, 1), SHAPES[a] + ' in fold')
+        exact(written('C', '0'), by_rule(a, LONGEST, 17, 2), 'C in ' + SHAPES[a])
     group('1000 and 1 in 4096')
 
 
-if __name__ == '__main__':
-    if sys.argv[1:] == ['check']:
-        check()
-    else:
-        for part in (settled, refusals, rooms, random_pairs, long_pairs):
-            part()
-        print('\n'.join(LINES))
+def files():
+    for part in (settled, refusals, rooms, random_pairs, long_pairs):
+        part()
+    return {'crates/matcher_test/stdin': ''.join(LINES), 'crates/matcher_test/stdout': ''.join(TOLD)}

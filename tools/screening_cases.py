@@ -1,19 +1,15 @@
-#!/usr/bin/env python3
-"""For tests alone: writes the lines that screening_test reads, and what it must write, by screen_reference.py.
-
-    screening_cases.py          writes crates/screening_test/stdin and stdout
-    screening_cases.py --check  says whether they are as it would write them
+"""For tests alone: the lines that screening_test reads, and what it must write, by screen_reference.py; and the shipped examples, from their
+dot-bracket texts. `tools/verify-cases` writes the files. What a line means is said in crates/screening_test/src/main.rt.
 """
 import os
 import random
-import sys
 
-sys.path.insert(0, os.path.dirname(os.path.abspath(__file__)))
-from dotbracket import BLOCK, encode, random_molecule
+from dotbracket import block_of, motif_and_catalog, read_text
+from lakhido_model import BLOCK, MOST_SCREENED, few_letters, random_strand
 from screen_reference import output
 
-ROOT = os.path.join(os.path.dirname(os.path.abspath(__file__)), '..')
-MOST = 65 * BLOCK
+MOST = (1 + MOST_SCREENED) * BLOCK
+EXAMPLES = os.path.join(os.path.dirname(os.path.abspath(__file__)), '..', 'examples')
 
 
 class Cases:
@@ -28,7 +24,7 @@ class Cases:
     def same_bases(self, d, n):
         """n times A without bonds in block d."""
         self.line('B', d, n)
-        self.image[BLOCK * d:BLOCK * (d + 1)] = encode('A' * n, list(range(n)))
+        self.image[BLOCK * d:BLOCK * (d + 1)] = block_of('A' * n, list(range(n)))
 
     def empty(self, d):
         self.line('Z', d)
@@ -85,28 +81,20 @@ def long_motifs(cases):
     cases.screen(4 * BLOCK)
 
 
-def example(cases, name):
-    """A folder of examples/, byte by byte."""
-    with open(os.path.join(ROOT, 'examples', name, 'input.bin'), 'rb') as file:
-        data = file.read()
+def example(cases, data):
+    """An input of the screen program, byte by byte."""
     for d in range(len(data) // BLOCK):
         cases.block(d, data[BLOCK * d:BLOCK * (d + 1)])
     cases.screen(len(data))
-    with open(os.path.join(ROOT, 'examples', name, 'output.txt')) as file:
-        assert cases.told[-1] == cases.lines[-1] + file.read(), name
 
 
 def bonds(cases, rng):
     """Random motifs with bonds in random molecules."""
     for _ in range(12):
-        cases.block(0, encode(*few_letters(random_molecule(rng, 5))))
+        cases.block(0, block_of(*few_letters(random_strand(rng, 5))))
         for d in range(1, 4):
-            cases.block(d, encode(*few_letters(random_molecule(rng, 14))))
+            cases.block(d, block_of(*few_letters(random_strand(rng, 14))))
         cases.screen(4 * BLOCK)
-
-
-def few_letters(strand):
-    return strand[0].replace('G', 'A').replace('U', 'C'), strand[1]
 
 
 def unsound_places(cases, rng):
@@ -135,30 +123,27 @@ def unsound_places(cases, rng):
     cases.screen(MOST)
 
 
-def main(words):
+def example_input(name):
+    """The input of the screen program that the two texts of a folder of examples/ give."""
+    texts = (os.path.join(EXAMPLES, name, part) for part in ('motif.dbn', 'catalog.dbn'))
+    motif, catalog = ((read_text(path), path) for path in texts)
+    return motif_and_catalog(*motif, *catalog)
+
+
+def files():
     rng, cases = random.Random(3), Cases()
+    small, trna = example_input('small'), example_input('trna')
     lengths(cases)
     long_motifs(cases)
-    example(cases, 'small')
-    example(cases, 'trna')
+    example(cases, small)
+    example(cases, trna)
     bonds(cases, rng)
     unsound_places(cases, rng)
-    text, told = ''.join(cases.lines), ''.join(cases.told)
-    assert len(text) <= 65536, len(text)
-    same = True
-    for name, data in (('stdin', text), ('stdout', told)):
-        path = os.path.join(ROOT, 'crates', 'screening_test', name)
-        if words == ['--check']:
-            with open(path) as file:
-                same = same and file.read() == data
-        else:
-            with open(path, 'w') as file:
-                file.write(data)
-    if not same:
-        sys.exit('crates/screening_test: stdin or stdout differs from what tools/screening_cases.py makes')
-
-
-if __name__ == '__main__':
-    if sys.argv[1:] not in ([], ['--check']):
-        sys.exit(__doc__)
-    main(sys.argv[1:])
+    text = ''.join(cases.lines)
+    assert len(text) <= 65536, len(text)  # what the program reads
+    return {
+        'crates/screening_test/stdin': text, 'crates/screening_test/stdout': ''.join(cases.told),
+        'examples/small/input.bin': small, 'examples/small/output.txt': output(small),
+        'examples/trna/input.bin': trna, 'examples/trna/output.txt': output(trna),
+        'crates/screen/stdin': small, 'crates/screen/stdout': output(small),
+    }

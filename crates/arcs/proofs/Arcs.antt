@@ -1,11 +1,11 @@
--- The tree of arcs of a nested molecule: stretches that no arc leaves, a longest arc, what lies beside it, and room for rows. Assumes nothing.
+-- The tree of arcs of a nested molecule: stretches that no arc leaves, a longest arc, what lies beside it, and room for rows.
 use Prim.Native.Nat.{ℕ, zero, suc, _+_, _-_, _*_, _^_, _≤_, _<_}
 use mathlib.Core.Path.{_≡_, refl, ap}
 use mathlib.Core.List.{List}
 use native.Mathlib.Numerals.{add-one}
 use native.Mathlib.Decide.{decLt, decLe, ℕ-discrete}
 use native.Mathlib.Omega.{arith}
-use Rattle.strand.specs.Vocabulary.{nth}
+use Rattle.lists.specs.Vocabulary.{nth}
 use Rattle.strand.specs.Strands.{Nested}
 use Rattle.embedding.specs.Row.{Split}
 use Rattle.embedding.proofs.Arc.{same-mate, inner-closed, arc-closed}
@@ -44,13 +44,13 @@ module _ {qm : List ℕ} {n : ℕ} (N : Nested (nth qm) n) where
 
   -- The base before the end of such a stretch, and the stretch before it or before its arc.
   module _ {lo : ℕ} (k : ℕ) (Z : Sealed qm lo (suc k)) (kn : k < n) (lk : lo ≤ k) where
-    pub back-low : lo ≤ nth qm k
+    back-low : lo ≤ nth qm k
     back-low = Z .low k lk (omega arith)
 
-    pub back-high : nth qm k ≤ k
+    back-high : nth qm k ≤ k
     back-high = omega (arith, Z .high k lk (omega arith))
 
-    pub seal-back : Sealed qm lo (nth qm k)
+    seal-back : Sealed qm lo (nth qm k)
     seal-back = record { low = λ u a b. Z .low u a (omega (arith, back-high)); high = high } where
       high : (u : ℕ) → lo ≤ u → u < nth qm k → nth qm u < nth qm k
       high u a b = go (decLt (nth qm u) (nth qm k)) (ℕ-discrete (nth qm u) (nth qm k)) (ℕ-discrete (nth qm u) k) where
@@ -141,7 +141,13 @@ module _ {qm : List ℕ} {n : ℕ} (N : Nested (nth qm) n) where
         ]
 
   pub seen-end : (lo hi best size i : ℕ) → Seen qm lo hi best size i → hi ≤ i → Heavy qm lo hi best
-  seen-end lo hi best size i S h = record { low = S .best-low; high = S .best-high; arc = λ a. S .arc a .0; most = most; first = λ c p q r d. omega (arith, S .first c p q r d, S .arc r) } where
+  seen-end lo hi best size i S h = record {
+    low = S .best-low;
+    high = S .best-high;
+    arc = λ a. S .arc a .0;
+    most = most;
+    first = λ c p q r d. omega (arith, S .first c p q r d, S .arc r);
+  } where
     most : (c : ℕ) → lo ≤ c → c < hi → c < nth qm c → (best < hi) × (nth qm c - c ≤ nth qm best - best)
     most c p q r = go (decLt best hi) where
       go : Dec (best < hi) → (best < hi) × (nth qm c - c ≤ nth qm best - best)
@@ -172,7 +178,7 @@ module _ {qm : List ℕ} {n : ℕ} (N : Nested (nth qm) n) where
         go (no x) (no y) (no z) (yes w) = absurd (N .apart u h (omega arith) b (omega arith) w)
         go (no x) (no y) (no z) (no w) = omega (arith, H .most u a (omega arith) (omega arith), H .arc lt)
 
-    pub heavy-right : Sealed qm (nth qm h + 1) hi
+    heavy-right : Sealed qm (nth qm h + 1) hi
     heavy-right = record { low = low; high = λ u a b. Z .high u (omega (arith, H .low, H .arc lt)) b } where
       low : (u : ℕ) → nth qm h + 1 ≤ u → u < hi → nth qm h + 1 ≤ nth qm u
       low u a b = go (decLe (nth qm h + 1) (nth qm u)) (decLt (nth qm u) h) where
@@ -187,11 +193,11 @@ module _ {qm : List ℕ} {n : ℕ} (N : Nested (nth qm) n) where
     pub split-left : Split (nth qm) lo h hi
     split-left u a b d = absurd (omega (arith, heavy-left .high u a b))
 
-    pub split-right : Split (nth qm) h (nth qm h + 1) hi
+    split-right : Split (nth qm) h (nth qm h + 1) hi
     split-right u a b d = absurd (omega (arith, arc-closed N h (omega arith) (H .arc lt) u a (omega arith)))
 
     -- An arc beside the longest one is less than half as long as what is around them.
-    pub light-right : (c : ℕ) → nth qm h + 1 ≤ c → c < hi → c < nth qm c → 2 * (nth qm c - c + 3) ≤ hi - lo + 4
+    light-right : (c : ℕ) → nth qm h + 1 ≤ c → c < hi → c < nth qm c → 2 * (nth qm c - c + 3) ≤ hi - lo + 4
     light-right c a b d = omega (arith, Z .high c (omega (arith, H .low, H .arc lt)) b, H .most c (omega (arith, H .low, H .arc lt)) b d, H .low, H .arc lt)
 
     pub light-left : (c : ℕ) → lo ≤ c → c < h → c < nth qm c → 2 * (nth qm c - c + 3) ≤ hi - lo + 4
@@ -230,12 +236,14 @@ room-child {w} {lo} {hi} {room} {qm} L c a b d = go (L .depth) (L .rows) (L .lig
 pub light-one : {w lo hi room : ℕ} {qm : List ℕ} → LightRoom w qm lo hi room → w ≤ room
 light-one L = omega (arith, L .rows)
 
-pub room-light : {w l r room : ℕ} (qm : List ℕ) (lo hi : ℕ) → Room w (r - l) room → ((c : ℕ) → lo ≤ c → c < hi → c < nth qm c → 2 * (nth qm c - c + 3) ≤ r - (l + 1) + 4)
+pub room-light : {w l r room : ℕ} (qm : List ℕ) (lo hi : ℕ) → Room w (r - l) room
+    → ((c : ℕ) → lo ≤ c → c < hi → c < nth qm c → 2 * (nth qm c - c + 3) ≤ r - (l + 1) + 4)
     → l < r → LightRoom w qm lo hi room
 room-light qm lo hi R h lr =
     record { depth = R .depth; rows = omega (arith, R .rows); light = λ c a b d. omega (arith, h c a b d, R .short) }
 
-pub room-past : {w l r room : ℕ} (qm : List ℕ) (lo hi : ℕ) → Room w (r - l) room → ((c : ℕ) → lo ≤ c → c < hi → c < nth qm c → 2 * (nth qm c - c + 3) ≤ r - (l + 1) + 4)
+pub room-past : {w l r room : ℕ} (qm : List ℕ) (lo hi : ℕ) → Room w (r - l) room
+    → ((c : ℕ) → lo ≤ c → c < hi → c < nth qm c → 2 * (nth qm c - c + 3) ≤ r - (l + 1) + 4)
     → l < r → LightRoom w qm lo hi (room - w)
 room-past qm lo hi R h lr =
     record { depth = R .depth; rows = omega (arith, R .rows); light = λ c a b d. omega (arith, h c a b d, R .short) }
@@ -260,7 +268,8 @@ pub record Around (qm : List ℕ) (n l r h e : ℕ) : Type 0 where
   pub light-l : (c : ℕ) → l + 1 ≤ c → c < h → c < nth qm c → 2 * (nth qm c - c + 3) ≤ r - (l + 1) + 4
   pub light-r : (c : ℕ) → e + 1 ≤ c → c < r → c < nth qm c → 2 * (nth qm c - c + 3) ≤ r - (l + 1) + 4
 
-pub around : {qm : List ℕ} {n l r h e : ℕ} → Nested (nth qm) n → l < r → r < n → nth qm l ≡ r → Heavy qm (l + 1) r h → h < r → e ≡ nth qm h → Around qm n l r h e
+pub around : {qm : List ℕ} {n l r h e : ℕ} → Nested (nth qm) n → l < r → r < n → nth qm l ≡ r → Heavy qm (l + 1) r h → h < r → e ≡ nth qm h
+    → Around qm n l r h e
 around {qm} {n} {l} {r} {h} {e} N lr rn arc H lt m =
     let Z : Sealed qm (l + 1) r = inner-sealed N l r lr rn arc in
     let rn′ : r ≤ n = omega arith in

@@ -1,5 +1,4 @@
 -- How the code makes rows: a row in front of another, the row of an arc in the place of its inner row, and rows in parts of the work slice.
--- Assumes nothing.
 use Prim.Native.Nat.{ℕ, suc, _+_, _-_, _≤_, _<_, min}
 use mathlib.Core.Path.{_≡_, refl, sym, ap, _∙_}
 use mathlib.Core.Bool.{Bool, true}
@@ -8,30 +7,35 @@ use native.Mathlib.Numerals.{add-one}
 use native.Mathlib.Decide.{decLt}
 use native.Mathlib.Omega.{arith}
 use lib.ListN.{length}
-use Rattle.strand.specs.Vocabulary.{nth}
-use Rattle.strand.specs.Strands.{isLetter, moleculeSide}
-use Rattle.strand.proofs.ListLaws.{every-at}
+use Rattle.lists.specs.Vocabulary.{nth}
+use Rattle.strand.specs.Strands.{isLetter}
+use Rattle.refusals.specs.Rules.{moleculeSide}
+use Rattle.lists.proofs.ListLaws.{every-at}
 use Rattle.embedding.specs.Row.{Closed, Split, IsRow, unitAt, arcAt}
 use Rattle.embedding.specs.Embedding.{lettersFit}
 use Rattle.embedding.proofs.Rows.{empty-row, unit-row, combine-row, arc-row, row-from, narrow-row}
 use Rattle.rows.specs.Rows.{Written, Remade, matches}
-use Rattle.arcs.specs.Arcs.{Setting, Prepended, Boxed}
+use Rattle.arcs.specs.Arcs.{Setting, Prepended, KeptRow}
 use Rattle.arcs.proofs.Arcs.{Around}
 use Rattle.rows.proofs.Parts.{part, back, part-at, back-under, back-over}
-use Rattle.rows.proofs.Entries.{unit-end, over-end}
+use Rattle.embedding.proofs.Entries.{unit-end, over-end}
 
 -- The row in the part past the first row, looked up in the first, and the other way round.
 module _ (from to w : ℕ) (work ys new : List ℕ) (le : w ≤ length work) (tw : to < w) where
   pub looked : ((j : ℕ) → from ≤ j → j ≤ to → (j ≤ nth ys j) × (nth ys j ≤ to))
-      → Written (λ j. nth (back w work ys) (nth (back w work ys) (w + j))) (back w work ys) new from (to + 1)
+      → Written (λ j. nth (back w work ys) (0 + nth (back w work ys) (w + j))) (back w work ys) new from (to + 1)
       → (j : ℕ) → from ≤ j → j ≤ to → nth new j ≡ nth work (nth ys j)
   looked h W j a b =
-      W .done j a (omega arith) ∙ ap (nth (back w work ys)) (back-over w work le ys j) ∙ back-under w work le ys (nth ys j) (omega (arith, h j a b))
+      let z : 0 + nth ys j ≡ nth ys j = omega arith in
+      W .done j a (omega arith) ∙ ap (λ (i : ℕ). nth (back w work ys) (0 + i)) (back-over w work le ys j) ∙ ap (nth (back w work ys)) z
+      ∙ back-under w work le ys (nth ys j) (omega (arith, h j a b))
 
-  pub looked-into : Written (λ j. nth (back w work ys) (w + nth (back w work ys) j)) (back w work ys) new from (to + 1)
+  looked-into : Written (λ j. nth (back w work ys) (w + nth (back w work ys) (0 + j))) (back w work ys) new from (to + 1)
       → (j : ℕ) → from ≤ j → j ≤ to → nth new j ≡ nth ys (nth work j)
   looked-into W j a b =
-      W .done j a (omega arith) ∙ ap (λ (i : ℕ). nth (back w work ys) (w + i)) (back-under w work le ys j (omega arith)) ∙ back-over w work le ys (nth work j)
+      let z : 0 + j ≡ j = omega arith in
+      W .done j a (omega arith) ∙ ap (λ (i : ℕ). nth (back w work ys) (w + nth (back w work ys) i)) z
+      ∙ ap (λ (i : ℕ). nth (back w work ys) (w + i)) (back-under w work le ys j (omega arith)) ∙ back-over w work le ys (nth work j)
 
 -- An unbonded base is a stretch of its own.
 unit-split : (qm : List ℕ) (i k hi : ℕ) → suc k ≡ i → nth qm k ≡ k → Split (nth qm) k i hi
@@ -51,7 +55,7 @@ module _ {fit : ℕ → ℕ → Bool} {f g : ℕ → ℕ} {from to : ℕ} where
 -- A longest arc inside another, and what is right of it.
 pub right-row : {fit : ℕ → ℕ → Bool} {f : ℕ → ℕ} {qm : List ℕ} {n from to l r h e : ℕ} (w : ℕ) (mid ys new : List ℕ) → Around qm n l r h e
     → w ≤ length mid → to < w → IsRow fit f (nth qm) from to h (e + 1) (nth mid) → IsRow fit f (nth qm) from to (e + 1) r (nth ys)
-    → Written (λ j. nth (back w mid ys) (w + nth (back w mid ys) j)) (back w mid ys) new from (to + 1) → IsRow fit f (nth qm) from to h r (nth new)
+    → Written (λ j. nth (back w mid ys) (w + nth (back w mid ys) (0 + j))) (back w mid ys) new from (to + 1) → IsRow fit f (nth qm) from to h r (nth new)
 right-row {fit} {f} {qm} {n} {from} {to} w mid ys new A le tw F G W =
     combine-row (omega (arith, A .up)) (omega (arith, A .end)) (A .split-r) F G (looked-into from to w mid ys new le tw W)
 
@@ -82,7 +86,7 @@ module _ {p pm q qm : List ℕ} {from to : ℕ} where
       }
 
   -- An unbonded base.
-  pub prepend-base : {hi : ℕ} {old mid new : List ℕ} (i k : ℕ) → suc k ≡ i → i ≤ hi → nth qm k ≡ k → Prepended p pm q qm from to i hi old mid
+  prepend-base : {hi : ℕ} {old mid new : List ℕ} (i k : ℕ) → suc k ≡ i → i ≤ hi → nth qm k ≡ k → Prepended p pm q qm from to i hi old mid
       → Written (λ j. nth mid (unitAt (matches p (nth q k)) (nth pm) to j)) mid new from to → Prepended p pm q qm from to k hi old new
   prepend-base {hi} {old} {mid} {new} i k e ih b P W =
       let F : IsRow (lettersFit p q) (nth pm) (nth qm) from to k i (unitAt (matches p (nth q k)) (nth pm) to) = rw (← e) (unit-row k) in
@@ -118,7 +122,8 @@ module _ {p pm q qm : List ℕ} {from to : ℕ} where
       → IsRow (lettersFit p q) (nth pm) (nth qm) from to lo hi (nth new)
   fresh-row e P = record { best = λ j a b. let h = row-from (P .is) j a b in rw (P .entry j a b, e (P .row j) (omega arith) (h .1)) (P .is .best j a b) }
 
-  pub prepended-row : {lo i hi : ℕ} {old new : List ℕ} → lo ≤ i → i ≤ hi → Split (nth qm) lo i hi → IsRow (lettersFit p q) (nth pm) (nth qm) from to i hi (nth old)
+  pub prepended-row : {lo i hi : ℕ} {old new : List ℕ} → lo ≤ i → i ≤ hi → Split (nth qm) lo i hi
+      → IsRow (lettersFit p q) (nth pm) (nth qm) from to i hi (nth old)
       → Prepended p pm q qm from to lo i old new → IsRow (lettersFit p q) (nth pm) (nth qm) from to lo hi (nth new)
   prepended-row li ih S F P = combine-row li ih S (P .is) F (P .entry)
 
@@ -138,14 +143,14 @@ module _ {p pm q qm : List ℕ} {from to : ℕ} where
       → IsRow (lettersFit p q) (nth pm) (nth qm) from to c i (nth new)
   arc-front c k i e S ck kn m A W = rw (← e) (closed-row c k S ck kn m A W)
 
-  -- No row is known before.
-  pub no-box : (work : List ℕ) → Boxed p pm q qm from to (length q) work
-  no-box work = record { row = λ h. absurd (omega arith) }
+  -- No row is kept.
+  pub no-kept-row : (work : List ℕ) → KeptRow p pm q qm from to (length q) work
+  no-kept-row work = record { row = λ h. absurd (omega arith) }
 
-  -- The row inside the arc (l, r), if it is known before.
-  pub box-row : {l r stop : ℕ} {work : List ℕ} → Boxed p pm q qm from to stop work → l ≡ stop → l < r → r < length q → nth qm l ≡ r
+  -- The row inside the arc (l, r), if that is the kept arc.
+  pub kept-row : {l r kept : ℕ} {work : List ℕ} → KeptRow p pm q qm from to kept work → l ≡ kept → l < r → r < length q → nth qm l ≡ r
       → IsRow (lettersFit p q) (nth pm) (nth qm) from to (l + 1) r (nth work)
-  box-row B e lr rn arc = rw (← arc, e) (B .row (omega arith))
+  kept-row B e lr rn arc = rw (← arc, e) (B .row (omega arith))
 
 -- The entries of a row in a part, and of a row before a part.
 module _ {fit : ℕ → ℕ → Bool} {f g : ℕ → ℕ} {from to : ℕ} where
@@ -154,13 +159,13 @@ module _ {fit : ℕ → ℕ → Bool} {f g : ℕ → ℕ} {from to : ℕ} where
   range-over w xs ys le F j a b = rw (back-over w xs le ys j) (row-from F j a b)
 
   pub range-under : {s e : ℕ} (w : ℕ) (xs ys : List ℕ) → w ≤ length xs → to < w → IsRow fit f g from to s e (nth xs)
-      → (j : ℕ) → from ≤ j → j ≤ to → nth (back w xs ys) j ≤ to
-  range-under w xs ys le tw F j a b = rw (back-under w xs le ys j (omega arith)) (row-from F j a b .1)
+      → (j : ℕ) → from ≤ j → j ≤ to → (j ≤ nth (back w xs ys) (0 + j)) × (nth (back w xs ys) (0 + j) ≤ to)
+  range-under w xs ys le tw F j a b = let z : 0 + j ≡ j = omega arith in rw (z, back-under w xs le ys j (omega arith)) (row-from F j a b)
 
--- The known row, cut to a narrower window and written past it, is the known row of the part.
-pub cut-box : {p pm q qm : List ℕ} {lo z from to stop : ℕ} (w : ℕ) (old new : List ℕ) → lo ≤ from → to ≤ z → Closed (nth pm) from to → w ≤ length new
-    → Boxed p pm q qm lo z stop old → Written (λ k. min (nth old (k - w)) to) old new (w + from) (w + to + 1) → Boxed p pm q qm from to stop (part w new)
-cut-box {p} {pm} {q} {qm} {lo} {z} {from} {to} {stop} w old new la zb C le B W = record { row = λ h. narrow-row la zb C (B .row h) entry } where
+-- The kept row, cut to a narrower window and written past it, is the kept row of the part.
+pub cut-kept-row : {p pm q qm : List ℕ} {lo z from to kept : ℕ} (w : ℕ) (old new : List ℕ) → lo ≤ from → to ≤ z → Closed (nth pm) from to → w ≤ length new
+    → KeptRow p pm q qm lo z kept old → Written (λ k. min (nth old (k - w)) to) old new (w + from) (w + to + 1) → KeptRow p pm q qm from to kept (part w new)
+cut-kept-row {p} {pm} {q} {qm} {lo} {z} {from} {to} {kept} w old new la zb C le B W = record { row = λ h. narrow-row la zb C (B .row h) entry } where
   entry : (j : ℕ) → from ≤ j → j ≤ to → nth (part w new) j ≡ min (nth old j) to
   entry j a b =
       let i : w + j - w ≡ j = omega arith in

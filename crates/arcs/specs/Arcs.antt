@@ -1,11 +1,12 @@
--- Only the contracts of this crate, turns, trace and the matcher need this file: what the walk over the arcs of the molecule asks and leaves. Assumes nothing.
+-- Only the contracts and laws of this crate, placing, trace and matcher need this file: what the walk over the arcs of the molecule asks and leaves.
 use Prim.Native.Nat.{ℕ, _+_, _-_, _*_, _^_, _≤_, _<_}
 use mathlib.Core.Path.{_≡_}
 use mathlib.Core.Bool.{true}
 use mathlib.Core.List.{List}
 use lib.ListN.{length}
-use Rattle.strand.specs.Vocabulary.{nth, all}
-use Rattle.strand.specs.Strands.{Nested, isLetter, moleculeSide}
+use Rattle.lists.specs.Vocabulary.{nth, all}
+use Rattle.strand.specs.Strands.{Nested, isLetter}
+use Rattle.refusals.specs.Rules.{moleculeSide}
 use Rattle.embedding.specs.Embedding.{lettersFit}
 use Rattle.embedding.specs.Row.{IsRow}
 use Rattle.rows.specs.Rows.{Window}
@@ -25,12 +26,12 @@ pub record Sealed (qm : List ℕ) (lo hi : ℕ) : Type 0 where
   pub high : (u : ℕ) → lo ≤ u → u < hi → nth qm u < hi
 
 -- The left end of the first longest arc in Q[lo..hi), or hi where there is none.
-pub record Heavy (qm : List ℕ) (lo hi r : ℕ) : Type 0 where
-  pub low : lo ≤ r
-  pub high : r ≤ hi
-  pub arc : r < hi → r < nth qm r
-  pub most : (c : ℕ) → lo ≤ c → c < hi → c < nth qm c → (r < hi) × (nth qm c - c ≤ nth qm r - r)
-  pub first : (c : ℕ) → lo ≤ c → c < r → r < hi → c < nth qm c → nth qm c - c < nth qm r - r
+pub record Heavy (qm : List ℕ) (lo hi l : ℕ) : Type 0 where
+  pub low : lo ≤ l
+  pub high : l ≤ hi
+  pub arc : l < hi → l < nth qm l
+  pub most : (c : ℕ) → lo ≤ c → c < hi → c < nth qm c → (l < hi) × (nth qm c - c ≤ nth qm l - l)
+  pub first : (c : ℕ) → lo ≤ c → c < l → l < hi → c < nth qm c → nth qm c - c < nth qm l - l
 
 -- Room for the inner row of an arc that is `size` long, in rows of w entries: two for each light edge below it, and two.
 pub record Room (w size room : ℕ) : Type 0 where
@@ -50,6 +51,6 @@ pub record Prepended (p pm q qm : List ℕ) (from to lo hi : ℕ) (old new : Lis
   pub is : IsRow (lettersFit p q) (nth pm) (nth qm) from to lo hi row
   pub entry : (j : ℕ) → from ≤ j → j ≤ to → nth new j ≡ nth old (row j)
 
--- The first row of the work slice is the row inside the arc of Q from `stop`, if that is a position of Q.
-pub record Boxed (p pm q qm : List ℕ) (from to stop : ℕ) (work : List ℕ) : Type 0 where
-  pub row : stop < length q → IsRow (lettersFit p q) (nth pm) (nth qm) from to (stop + 1) (nth qm stop) (nth work)
+-- The first row of the work slice is the row inside the arc of Q whose left end is `kept`, if that is a position of Q.
+pub record KeptRow (p pm q qm : List ℕ) (from to kept : ℕ) (work : List ℕ) : Type 0 where
+  pub row : kept < length q → IsRow (lettersFit p q) (nth pm) (nth qm) from to (kept + 1) (nth qm kept) (nth work)

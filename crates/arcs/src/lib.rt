@@ -3,12 +3,12 @@ use rows::row;
 ghost use mathlib.Core.Path.{_≡_};
 ghost use Prim.Native.Nat.{ℕ, _+_, _-_, _≤_, _<_, min};
 ghost use lib.ListN.{length};
-ghost use Rattle.strand.specs.Vocabulary.{nth};
+ghost use Rattle.lists.specs.Vocabulary.{nth};
 ghost use Rattle.strand.specs.Strands.{Nested};
 ghost use Rattle.embedding.specs.Embedding.{lettersFit};
 ghost use Rattle.embedding.specs.Row.{IsRow};
 ghost use Rattle.rows.specs.Rows.{Tables};
-ghost use Rattle.arcs.specs.Arcs.{Setting, Sealed, Heavy, Room, LightRoom, Prepended, Boxed};
+ghost use Rattle.arcs.specs.Arcs.{Setting, Sealed, Heavy, Room, LightRoom, Prepended, KeptRow};
 
 // The smaller of two numbers.
 pub fn smaller(a: usize, b: usize) -> usize
@@ -30,21 +30,21 @@ pub fn heaviest(qm: &[u16], lo: usize, hi: usize) -> usize
     requires { ⌜ Nested (nth (now qm)) (length (now qm)) ⌝ }
     requires { ⌜ (lo ≤ hi) × (hi ≤ length (now qm)) ⌝ }
     requires { ⌜ Sealed (now qm) lo hi ⌝ }
-    ensures { λ r. ⌜ Heavy (now (qm .entry)) lo hi r ⌝ }
+    ensures { λ l. ⌜ Heavy (now (qm .entry)) lo hi l ⌝ }
 {
     let mut best = hi;
     let mut size = 0;
-    let mut i = lo;
-    while i < hi {
-        let k = mate(qm, i);
-        if i < k {
-            if size < k - i {
-                best = i;
-                size = k - i;
+    let mut l = lo;
+    while l < hi {
+        let r = mate(qm, l);
+        if l < r {
+            if size < r - l {
+                best = l;
+                size = r - l;
             }
-            i = k;
+            l = r;
         }
-        i += 1;
+        l += 1;
     }
     best
 }
@@ -53,14 +53,14 @@ pub fn heaviest(qm: &[u16], lo: usize, hi: usize) -> usize
 fn flat_row(
     p: &[u8],
     pm: &[u16],
-    from: usize,
-    to: usize,
+    tables: &[u16],
     q: &[u8],
     qm: &[u16],
+    from: usize,
+    to: usize,
     lo: usize,
     hi: usize,
     work: &mut [u16],
-    tables: &[u16],
 )
     requires { ⌜ Setting (now p) (now pm) (now q) (now qm) from to ⌝ }
     requires { ⌜ (lo ≤ hi) × (hi ≤ length (now q)) ⌝ }
@@ -70,58 +70,59 @@ fn flat_row(
     ensures { λ _. ⌜ IsRow (lettersFit (now (p .entry)) (now (q .entry))) (nth (now (pm .entry))) (nth (now (qm .entry))) from to lo hi (nth (now (work .exit))) ⌝ }
 {
     if hi <= lo {
-        row::identity(work, from, to);
+        row::identity(from, to, work);
         return;
     }
     let mut i = hi - 1;
-    row::single(work, p, pm, tables, from, to, q[i]);
+    row::single(p, pm, tables, from, to, q[i], work);
     while lo < i {
         i -= 1;
-        row::extend(work, p, pm, tables, from, to, q[i]);
+        row::extend(p, pm, tables, from, to, q[i], work);
     }
 }
 
-// Leaves the row of l + 1..r, inside the arc l, r, as the first row of work. Before, the row inside the arc from `stop` is there, or stop is q.len().
+// Leaves the row of l + 1..r, inside the arc l, r, as the first row of work. Before, the row inside the arc whose left end is `kept` is there, or kept is
+// q.len().
 pub fn inner_row(
     p: &[u8],
     pm: &[u16],
-    from: usize,
-    to: usize,
+    tables: &[u16],
     q: &[u8],
     qm: &[u16],
+    from: usize,
+    to: usize,
     l: usize,
     r: usize,
-    stop: usize,
+    kept: usize,
     work: &mut [u16],
-    tables: &[u16],
 )
     requires { ⌜ Setting (now p) (now pm) (now q) (now qm) from to ⌝ }
     requires { ⌜ (l < r) × ((r < length (now q)) × (nth (now qm) l ≡ r)) ⌝ }
     requires { ⌜ Room (length (now p) + 1) (r - l) (length (now work)) ⌝ }
     requires { ⌜ Tables (now p) (now pm) (now tables) ⌝ }
-    requires { ⌜ Boxed (now p) (now pm) (now q) (now qm) from to stop (now work) ⌝ }
+    requires { ⌜ KeptRow (now p) (now pm) (now q) (now qm) from to kept (now work) ⌝ }
     ensures { λ _. ⌜ IsRow (lettersFit (now (p .entry)) (now (q .entry))) (nth (now (pm .entry))) (nth (now (qm .entry))) from to (l + 1) r (nth (now (work .exit))) ⌝ }
 {
-    if l == stop {
+    if l == kept {
         return;
     }
     let w = p.len() + 1;
-    let heavy = heaviest(qm, l + 1, r);
-    if r <= heavy {
-        flat_row(p, pm, from, to, q, qm, l + 1, r, work, tables);
+    let heavy_l = heaviest(qm, l + 1, r);
+    if r <= heavy_l {
+        flat_row(p, pm, tables, q, qm, from, to, l + 1, r, work);
         return;
     }
-    let e = mate(qm, heavy);
-    inner_row(p, pm, from, to, q, qm, heavy, e, stop, work, tables);
-    row::close_arc(work, p, pm, tables, from, to, q[heavy], q[e]);
-    if e + 1 < r {
-        let part = &mut work[w..];
-        row::identity(part, from, to);
-        prepend(p, pm, from, to, q, qm, e + 1, r, part, tables);
-        row::combine_into(work, from, to, w);
+    let heavy_r = mate(qm, heavy_l);
+    inner_row(p, pm, tables, q, qm, from, to, heavy_l, heavy_r, kept, work);
+    row::close_arc(p, pm, tables, from, to, q[heavy_l], q[heavy_r], work);
+    if heavy_r + 1 < r {
+        let rest = &mut work[w..];
+        row::identity(from, to, rest);
+        prepend(p, pm, tables, q, qm, from, to, heavy_r + 1, r, rest);
+        row::combine(from, to, 0, w, work);
     }
-    if l + 1 < heavy {
-        prepend(p, pm, from, to, q, qm, l + 1, heavy, work, tables);
+    if l + 1 < heavy_l {
+        prepend(p, pm, tables, q, qm, from, to, l + 1, heavy_l, work);
     }
 }
 
@@ -129,14 +130,14 @@ pub fn inner_row(
 fn prepend(
     p: &[u8],
     pm: &[u16],
-    from: usize,
-    to: usize,
+    tables: &[u16],
     q: &[u8],
     qm: &[u16],
+    from: usize,
+    to: usize,
     lo: usize,
     hi: usize,
     work: &mut [u16],
-    tables: &[u16],
 )
     requires { ⌜ Setting (now p) (now pm) (now q) (now qm) from to ⌝ }
     requires { ⌜ (lo ≤ hi) × (hi ≤ length (now q)) ⌝ }
@@ -148,16 +149,16 @@ fn prepend(
     let w = p.len() + 1;
     let mut i = hi;
     while lo < i {
-        let k = i - 1;
-        let c = mate(qm, k);
-        if c == k {
-            row::extend(work, p, pm, tables, from, to, q[k]);
+        let r = i - 1;
+        let l = mate(qm, r);
+        if l == r {
+            row::extend(p, pm, tables, from, to, q[r], work);
         } else {
-            let part = &mut work[w..];
-            inner_row(p, pm, from, to, q, qm, c, k, q.len(), part, tables);
-            row::close_arc(part, p, pm, tables, from, to, q[c], q[k]);
-            row::combine(work, from, to, w);
+            let rest = &mut work[w..];
+            inner_row(p, pm, tables, q, qm, from, to, l, r, q.len(), rest);
+            row::close_arc(p, pm, tables, from, to, q[l], q[r], rest);
+            row::combine(from, to, w, 0, work);
         }
-        i = c;
+        i = l;
     }
 }

@@ -1,5 +1,4 @@
 -- A block that passes the rules is the encoding of what it holds.
--- Assumes nothing.
 use mathlib.Core.Path.{_≡_, refl, sym, ap, ap₂, _∙_}
 use mathlib.Core.Bool.{true}
 use mathlib.Core.List.{List, [], _∷_, _++_}
@@ -8,17 +7,17 @@ use native.Mathlib.Omega.{arith}
 use lib.ListN.{length, take, drop, replicate, length-drop, take-append-drop, drop-of-length-le}
 use lib.Seq.{take-add, drop-cons, drop-drop, length-take-le, getD-take, getD-drop}
 use borrow.Author.Tests.{eqb-true}
-use Rattle.strand.specs.Vocabulary.{nth, between, all, tab}
+use Rattle.lists.specs.Vocabulary.{nth, between, all, tab}
 use Rattle.strand.specs.Strands.{Proper}
-use Rattle.strand.proofs.ListLaws.{length-tab, zeros-are}
+use Rattle.lists.proofs.ListLaws.{length-tab, zeros-are}
 use Rattle.strand.proofs.VerdictLaws.{nested-yes}
 use Rattle.octets.specs.Numbers.{Bytes, isZero, word16, word32, bytes32, words, bytesOf}
-use Rattle.octets.specs.Checksum.{sumTo, checksumOf, checksumOk, checked}
+use Rattle.block.specs.Checksum.{sumTo, checksumOf, checksumOk, withChecksum}
 use Rattle.octets.specs.Bits.{bitOf, mapBit}
 use Rattle.octets.specs.Maps.{mapBytes}
-use Rattle.block.specs.Content.{Kind, moleculeKind, entryKind, matesAt, matesEnd, lengthIn, strandIn, padded, headOf, contentOf, moleculeBlock, entryBlock}
+use Rattle.block.specs.Content.{Kind, entryKind, matesAt, matesEnd, lengthIn, ownIn, strandIn, padded, headOf, contentOf, strandBlock, entryWith}
 use Rattle.octets.proofs.ByteLaws.{small-drop, small-between}
-use Rattle.octets.proofs.SumLaws.{sum-append}
+use Rattle.block.proofs.SumLaws.{sum-append}
 use Rattle.octets.proofs.MapLaws.{map-is, map-ext}
 use Rattle.octets.proofs.ScanLaws.{bytes-append, length-bytes}
 use Rattle.block.proofs.SoundLaws.{Content}
@@ -88,7 +87,7 @@ bytes-words (suc n) l small h =
 
 -- ---- the content
 
-module _ (k : Kind) (s : List ℕ) (ha : 2 ≤ k .start) (he : matesEnd k ≤ length s) (c : Content k s) where
+module _ (k : Kind) (s : List ℕ) (h2 : 2 ≤ k .blank) (ha : k .blank ≤ k .start) (he : matesEnd k ≤ length s) (c : Content k s) where
   n : ℕ
   n = lengthIn s
 
@@ -100,39 +99,45 @@ module _ (k : Kind) (s : List ℕ) (ha : 2 ≤ k .start) (he : matesEnd k ≤ le
 
   len-B : length B ≡ n
   unfolding B n
-  len-B = length-between (k .start) (k .start + lengthIn s) s (omega (arith, c .fits)) ∙ omega arith
+  len-B = length-between (k .start) (k .start + lengthIn s) s (omega (arith, c .bytes .fits)) ∙ omega arith
 
   len-W : length W ≡ n
   unfolding W
   len-W = length-tab _ n
 
-  head-part : headOf (k .start) (k .mark) (length B) ≡ take (k .start) s
+  head-part : headOf (k .start) (k .mark) (length B) (ownIn k s) ≡ take (k .start) s
   unfolding n
   head-part =
-      ap₂ (λ (x y : ℕ). headOf (k .start) x y) (sym (c .marked)) len-B
-      ∙ ap₂ (λ (x y : List ℕ). x ++ y) (sym (take-two s (omega arith))) (zeros-between 2 (k .start) s (omega arith) (c .blank))
-      ∙ front-cut 2 (k .start) s ha
+      ap₂ (λ (x y : ℕ). headOf (k .start) x y (ownIn k s)) (sym (c .bytes .marked)) len-B
+      ∙ ap₂ (λ (x y : List ℕ). x ++ y) (sym (take-two s (omega arith)))
+      (ap (λ (x : ℕ). ownIn k s ++ replicate x 0) rest
+      ∙ ap (λ (x : List ℕ). ownIn k s ++ x) (zeros-between (k .blank) (k .start) s (omega arith) (c .bytes .blank))
+      ∙ cut 2 (k .blank) (k .start) s h2 ha)
+      ∙ front-cut 2 (k .start) s (omega arith)
+    where
+      rest : k .start - 2 - length (ownIn k s) ≡ k .start - k .blank
+      rest = omega (arith, length-between 2 (k .blank) s (omega arith))
 
   bases-part : padded (k .most) B ≡ between (k .start) (matesAt k) s
   unfolding n B
   bases-part =
       ap (λ (x : ℕ). B ++ replicate (k .most - x) 0) len-B
       ∙ ap (λ (x : ℕ). B ++ replicate x 0) rest
-      ∙ ap (λ (x : List ℕ). B ++ x) (zeros-between (k .start + n) (matesAt k) s (omega arith) (c .unused))
-      ∙ cut (k .start) (k .start + n) (matesAt k) s (omega arith) (omega (arith, c .fits))
+      ∙ ap (λ (x : List ℕ). B ++ x) (zeros-between (k .start + n) (matesAt k) s (omega arith) (c .bytes .unused))
+      ∙ cut (k .start) (k .start + n) (matesAt k) s (omega arith) (omega (arith, c .bytes .fits))
     where
       rest : k .most - n ≡ matesAt k - (k .start + n)
       rest = omega arith
 
   -- What a block of its kind holds is a proper strand.
-  pub strand-proper : Proper (k .side) 1 (k .most) (strandIn k s .bases) (strandIn k s .mates)
+  pub strand-proper : Proper (k .side) (k .least) (k .most) (strandIn k s .bases) (strandIn k s .mates)
   unfolding strandIn n B W
   strand-proper =
       record {
         same = len-W ∙ sym len-B;
-        enough = omega (arith, c .enough, len-B);
-        small = omega (arith, c .fits, len-B);
-        letters = c .letters;
+        enough = omega (arith, c .bytes .enough, len-B);
+        small = omega (arith, c .bytes .fits, len-B);
+        letters = c .bytes .letters;
         nested = rw (len-W ∙ sym len-B) at (nested-yes (words n (drop (matesAt k) s)) (c .nested));
       }
 
@@ -142,8 +147,9 @@ module _ (k : Kind) (s : List ℕ) (ha : 2 ≤ k .start) (he : matesEnd k ≤ le
     mates-part =
         ap₂ (λ (x : List ℕ) (y : ℕ). x ++ replicate (2 * k .most - y) 0) bytes (length-bytes W ∙ ap (λ (x : ℕ). 2 * x) len-W)
         ∙ ap (λ (x : ℕ). between (matesAt k) (matesAt k + 2 * n) s ++ replicate x 0) rest
-        ∙ ap (λ (x : List ℕ). between (matesAt k) (matesAt k + 2 * n) s ++ x) (zeros-between (matesAt k + 2 * n) (matesEnd k) s (omega arith) (c .unused₂))
-        ∙ cut (matesAt k) (matesAt k + 2 * n) (matesEnd k) s (omega arith) (omega (arith, c .fits))
+        ∙ ap (λ (x : List ℕ). between (matesAt k) (matesAt k + 2 * n) s ++ x) (zeros-between (matesAt k + 2 * n) (matesEnd k) s (omega arith)
+        (c .bytes .unused₂))
+        ∙ cut (matesAt k) (matesAt k + 2 * n) (matesEnd k) s (omega arith) (omega (arith, c .bytes .fits))
       where
         rest : 2 * k .most - 2 * n ≡ matesEnd k - (matesAt k + 2 * n)
         rest = omega arith
@@ -153,10 +159,10 @@ module _ (k : Kind) (s : List ℕ) (ha : 2 ≤ k .start) (he : matesEnd k ≤ le
 
         bytes : bytesOf W ≡ between (matesAt k) (matesAt k + 2 * n) s
         bytes =
-            bytes-words n (drop (matesAt k) s) (small-drop (matesAt k) s small) (omega (arith, c .fits, length-drop (matesAt k) s))
+            bytes-words n (drop (matesAt k) s) (small-drop (matesAt k) s small) (omega (arith, c .bytes .fits, length-drop (matesAt k) s))
             ∙ ap (λ (x : ℕ). take x (drop (matesAt k) s)) width
 
-    pub content-again : contentOf k (strandIn k s .bases) (strandIn k s .mates) ≡ take (matesEnd k) s
+    pub content-again : contentOf k (ownIn k s) (strandIn k s .bases) (strandIn k s .mates) ≡ take (matesEnd k) s
     unfolding contentOf strandIn n B W
     content-again =
         ap₂ (λ (x y : List ℕ). x ++ y) (ap₂ (λ (x y : List ℕ). x ++ y) head-part bases-part ∙ front-cut (k .start) (matesAt k) s (omega arith)) mates-part
@@ -201,12 +207,13 @@ module _ (s : List ℕ) (small : Bytes s) (hs : length s ≡ 512) (ok : checksum
       ∙ ap (λ (l : List ℕ). nth s 510 ∷ l) (drop-cons s 511 0 (omega arith)
       ∙ ap (λ (l : List ℕ). nth s 511 ∷ l) (drop-of-length-le s {i = 512} (omega arith))))))
 
-  pub checked-again : checked (take 508 s) ≡ s
-  unfolding checked
-  checked-again = ap (λ (x : ℕ). take 508 s ++ bytes32 x) same ∙ ap (λ (l : List ℕ). take 508 s ++ l) tail-again ∙ take-append-drop 508 s
+  pub checksum-again : withChecksum (take 508 s) ≡ s
+  unfolding withChecksum
+  checksum-again = ap (λ (x : ℕ). take 508 s ++ bytes32 x) same ∙ ap (λ (l : List ℕ). take 508 s ++ l) tail-again ∙ take-append-drop 508 s
     where
       same : checksumOf (take 508 s) ≡ checksumOf s
-      same = unfold checksumOf in (sym (sum-append (take 508 s) (drop 508 s) 508 (omega (arith, length-take-le 508 s (omega arith)))) ∙ ap (λ (l : List ℕ). sumTo l 508) (take-append-drop 508 s))
+      same = unfold checksumOf in (sym (sum-append (take 508 s) (drop 508 s) 508 (omega (arith, length-take-le 508 s (omega arith))))
+          ∙ ap (λ (l : List ℕ). sumTo l 508) (take-append-drop 508 s))
 
 -- ---- a map
 
@@ -233,17 +240,21 @@ map-again at s small h = sym (map-is m len (small-between at (at + 64) s small) 
 
 -- ---- the whole block
 
+-- A block of a strand with the bytes of its own that stand in it.
 module _ (s : List ℕ) (small : Bytes s) (hs : length s ≡ 512) (ok : checksumOk s ≡ true) where
-  pub molecule-same : Content moleculeKind s → moleculeBlock (strandIn moleculeKind s .bases) (strandIn moleculeKind s .mates) ≡ s
-  unfolding moleculeBlock
-  molecule-same c = ap checked (content-again moleculeKind s (omega arith) (omega arith) c small) ∙ checked-again s small hs ok
+  pub strand-same : (k : Kind) → 2 ≤ k .blank → k .blank ≤ k .start → matesEnd k ≡ 508 → Content k s
+      → strandBlock k (ownIn k s) (strandIn k s .bases) (strandIn k s .mates) ≡ s
+  unfolding strandBlock
+  strand-same k h2 ha he c =
+      ap withChecksum (content-again k s h2 ha (omega arith) c small ∙ ap (λ (n : ℕ). take n s) he) ∙ checksum-again s small hs ok
 
   pub entry-same : Content entryKind s
-      → entryBlock (strandIn entryKind s .bases) (strandIn entryKind s .mates) (mapBytes (mapBit s 380)) (mapBytes (mapBit s 444)) ≡ s
-  unfolding entryBlock
+      → entryWith (ownIn entryKind s) (strandIn entryKind s .bases) (strandIn entryKind s .mates) (mapBytes (mapBit s 380)) (mapBytes (mapBit s 444)) ≡ s
+  unfolding entryWith
   entry-same c =
-      ap₂ (λ (x y : List ℕ). checked (x ++ y))
-      (ap₂ (λ (x y : List ℕ). x ++ y) (content-again entryKind s (omega arith) (omega arith) c small) (map-again 380 s small (omega arith)) ∙ front-cut 380 444 s (omega arith))
+      ap₂ (λ (x y : List ℕ). withChecksum (x ++ y))
+      (ap₂ (λ (x y : List ℕ). x ++ y) (content-again entryKind s (omega arith) (omega arith) (omega arith) c small) (map-again 380 s small (omega arith))
+      ∙ front-cut 380 444 s (omega arith))
       (map-again 444 s small (omega arith))
-      ∙ ap checked (front-cut 444 508 s (omega arith))
-      ∙ checked-again s small hs ok
+      ∙ ap withChecksum (front-cut 444 508 s (omega arith))
+      ∙ checksum-again s small hs ok

@@ -1,5 +1,4 @@
 -- The block of a motif with its two maps: it is sound, gives back what it keeps, and a number is taken out of it.
--- Assumes nothing.
 use mathlib.Core.Path.{_≡_, refl, sym, ap, ap₂, _∙_}
 use mathlib.Core.Bool.{Bool, true, not, _||_}
 use mathlib.Core.List.{List, _++_, append-assoc}
@@ -7,14 +6,14 @@ use Prim.Native.Nat.{ℕ, _+_, _<_}
 use native.Mathlib.Omega.{arith}
 use lib.ListN.{length, length-append}
 use borrow.Author.Tests.{eq-eqb}
-use Rattle.strand.specs.Vocabulary.{nth, choose}
+use Rattle.lists.specs.Vocabulary.{nth, choose}
 use Rattle.strand.specs.Strands.{strandOf, Proper}
-use Rattle.strand.proofs.ListLaws.{every-true}
-use Rattle.octets.specs.Numbers.{bytes32}
-use Rattle.octets.specs.Checksum.{checksumOf, checksumOk, checked}
+use Rattle.lists.proofs.ListLaws.{every-true}
+use Rattle.octets.specs.Numbers.{Bytes, bytes32}
+use Rattle.block.specs.Checksum.{checksumOf, checksumOk, withChecksum}
 use Rattle.octets.specs.Bits.{mapBit, clearMap}
 use Rattle.octets.specs.Maps.{mapBytes, without}
-use Rattle.block.specs.Content.{entryKind, strandIn, contentOf, entryBlock}
+use Rattle.block.specs.Content.{entryKind, strandIn, contentOf, entryWith}
 use Rattle.block.specs.Block.{contentOk, hitOk, hitsOk, soundEntry, forgot}
 use Rattle.block.proofs.PartLaws.{length-content, check-put}
 use Rattle.octets.proofs.MapLaws.{length-map, map-in, map-bit, clear-in, map-clear, map-small, length-clear}
@@ -28,13 +27,13 @@ regroup a b c d = simp append-assoc
 regroup₂ : (a b c d : List ℕ) → a ++ b ++ c ++ d ≡ a ++ b ++ (c ++ d)
 regroup₂ a b c d = append-assoc (a ++ b) c d
 
-module _ (bases mates : List ℕ) (P : Proper 0 1 120 bases mates) (S H : ℕ → Bool) where
+module _ (own bases mates : List ℕ) (ho : 2 + length own ≡ entryKind .blank) (P : Proper 0 (entryKind .least) 120 bases mates) (S H : ℕ → Bool) where
   C : List ℕ
-  C = contentOf entryKind bases mates
+  C = contentOf entryKind own bases mates
 
   lC : length C ≡ 380
   unfolding C
-  lC = length-content entryKind bases mates (omega arith) (P .small) (P .same)
+  lC = length-content entryKind own bases mates (omega arith) (P .small) (P .same)
 
   body : length (C ++ mapBytes S ++ mapBytes H) ≡ 508
   body =
@@ -45,20 +44,20 @@ module _ (bases mates : List ℕ) (P : Proper 0 1 120 bases mates) (S H : ℕ �
   lCS = length-append C (mapBytes S) ∙ ap₂ (λ (x y : ℕ). x + y) lC (length-map S)
 
   unfoldable pub kept : List ℕ
-  kept = entryBlock bases mates (mapBytes S) (mapBytes H)
+  kept = entryWith own bases mates (mapBytes S) (mapBytes H)
 
   pub entry-length : length kept ≡ 512
-  unfolding kept entryBlock checked C
+  unfolding kept entryWith withChecksum C
   entry-length = length-append (C ++ mapBytes S ++ mapBytes H) (bytes32 (checksumOf (C ++ mapBytes S ++ mapBytes H))) ∙ ap (λ (k : ℕ). k + 4) body
 
   pub entry-searched : (d : ℕ) → d < 512 → mapBit kept 380 d ≡ S d
-  unfolding kept entryBlock checked C
+  unfolding kept entryWith withChecksum C
   entry-searched d h =
       ap (λ (l : List ℕ). mapBit l 380 d) (regroup C (mapBytes S) (mapBytes H) _)
       ∙ map-in 380 C (mapBytes S) _ lC (length-map S) d h ∙ map-bit S d h
 
   pub entry-hit : (d : ℕ) → d < 512 → mapBit kept 444 d ≡ H d
-  unfolding kept entryBlock checked C
+  unfolding kept entryWith withChecksum C
   entry-hit d h =
       ap (λ (l : List ℕ). mapBit l 444 d) (regroup₂ C (mapBytes S) (mapBytes H) _)
       ∙ map-in 444 (C ++ mapBytes S) (mapBytes H) _ lCS (length-map H) d h ∙ map-bit H d h
@@ -67,16 +66,16 @@ module _ (bases mates : List ℕ) (P : Proper 0 1 120 bases mates) (S H : ℕ �
   tail = bytes32 (checksumOf (C ++ mapBytes S ++ mapBytes H))
 
   cut : kept ≡ C ++ (mapBytes S ++ (mapBytes H ++ tail))
-  unfolding kept entryBlock checked C tail
+  unfolding kept entryWith withChecksum C tail
   cut = regroup C (mapBytes S) (mapBytes H) tail
 
   kind-is : nth kept 0 ≡ 2
   unfolding C
-  kind-is = ap (λ (l : List ℕ). nth l 0) cut ∙ kind-byte entryKind bases mates (mapBytes S ++ (mapBytes H ++ tail)) (omega arith) (omega arith) P
+  kind-is = ap (λ (l : List ℕ). nth l 0) cut ∙ kind-byte entryKind own bases mates (mapBytes S ++ (mapBytes H ++ tail)) ho (omega arith) (omega arith) P
 
   pub entry-back : strandIn entryKind kept ≡ strandOf bases mates
   unfolding C
-  entry-back = ap (strandIn entryKind) cut ∙ strand-back entryKind bases mates (mapBytes S ++ (mapBytes H ++ tail)) (omega arith) (omega arith) P
+  entry-back = ap (strandIn entryKind) cut ∙ strand-back entryKind own bases mates (mapBytes S ++ (mapBytes H ++ tail)) ho (omega arith) (omega arith) P
 
   module _ (d : ℕ) (hd : d < 512) where
     cleared : clearMap (clearMap kept 380 d) 444 d ≡ C ++ mapBytes (without d S) ++ mapBytes (without d H) ++ tail
@@ -92,41 +91,44 @@ module _ (bases mates : List ℕ) (P : Proper 0 1 120 bases mates) (S H : ℕ �
         ∙ sym (append-assoc (C ++ mapBytes (without d S)) (mapBytes (without d H)) tail)
 
 -- Number d taken out of a cache entry: the block of the two sets without d.
-pub entry-forget : (bases mates : List ℕ) (P : Proper 0 1 120 bases mates) (S H : ℕ → Bool) (d : ℕ) → d < 512
-    → forgot d (entryBlock bases mates (mapBytes S) (mapBytes H)) ≡ entryBlock bases mates (mapBytes (without d S)) (mapBytes (without d H))
-unfolding forgot kept entryBlock C choose
-entry-forget bases mates P S H d hd =
-    rw (eq-eqb _ 512 (entry-length bases mates P S H), kind-is bases mates P S H)
-    (check-put (contentOf entryKind bases mates ++ mapBytes (without d S) ++ mapBytes (without d H))
-    (tail bases mates P S H) _ _ (body bases mates P (without d S) (without d H))
-    (length-clear _ 444 d ∙ length-clear _ 380 d ∙ entry-length bases mates P S H) (cleared bases mates P S H d hd) refl)
+pub entry-forget : (own bases mates : List ℕ) (ho : 2 + length own ≡ entryKind .blank) (P : Proper 0 (entryKind .least) 120 bases mates) (S H : ℕ
+    → Bool) (d : ℕ)
+    → d < 512
+    → forgot d (entryWith own bases mates (mapBytes S) (mapBytes H)) ≡ entryWith own bases mates (mapBytes (without d S)) (mapBytes (without d H))
+unfolding forgot kept entryWith C choose
+entry-forget own bases mates ho P S H d hd =
+    rw (eq-eqb _ 512 (entry-length own bases mates ho P S H), kind-is own bases mates ho P S H)
+    (check-put (contentOf entryKind own bases mates ++ mapBytes (without d S) ++ mapBytes (without d H))
+    (tail own bases mates ho P S H) _ _ (body own bases mates ho P (without d S) (without d H))
+    (length-clear _ 444 d ∙ length-clear _ 380 d ∙ entry-length own bases mates ho P S H) (cleared own bases mates ho P S H d hd) refl)
 
 -- The block of a motif and two sets is sound, where each hit was searched.
-module _ (bases mates : List ℕ) (P : Proper 0 1 120 bases mates) (S H : ℕ → Bool) (needs : (d : ℕ) → d < 512 → not (H d) || S d ≡ true) where
+module _ (own bases mates : List ℕ) (ho : 2 + length own ≡ entryKind .blank) (P : Proper 0 (entryKind .least) 120 bases mates) (S H : ℕ → Bool)
+    (needs : (d : ℕ) → d < 512 → not (H d) || S d ≡ true) (small : Bytes own) where
   block : List ℕ
-  block = entryBlock bases mates (mapBytes S) (mapBytes H)
+  block = entryWith own bases mates (mapBytes S) (mapBytes H)
 
   content-part : contentOk entryKind block ≡ true
   unfolding block kept C
   content-part =
-      ap (contentOk entryKind) (cut bases mates P S H)
-      ∙ content-sound entryKind bases mates _ (omega arith) (omega arith) P
+      ap (contentOk entryKind) (cut own bases mates ho P S H)
+      ∙ content-sound entryKind own bases mates _ ho (omega arith) (omega arith) P
 
   hits-part : hitsOk block ≡ true
   unfolding block kept hitsOk hitOk
   hits-part =
       every-true (hitOk block) 512
-      (λ d l. ap₂ (λ (a b : Bool). not a || b) (entry-hit bases mates P S H d l) (entry-searched bases mates P S H d l) ∙ needs d l)
+      (λ d l. ap₂ (λ (a b : Bool). not a || b) (entry-hit own bases mates ho P S H d l) (entry-searched own bases mates ho P S H d l) ∙ needs d l)
 
   check-part : checksumOk block ≡ true
-  unfolding block entryBlock C
+  unfolding block entryWith C
   check-part =
-      check-sound (contentOf entryKind bases mates ++ mapBytes S ++ mapBytes H) (body bases mates P S H)
-      (small-append (contentOf entryKind bases mates ++ mapBytes S) (mapBytes H)
-      (small-append (contentOf entryKind bases mates) (mapBytes S)
-      (small-content entryKind bases mates (omega arith) (omega (arith, P .small)) (P .letters)) (map-small S))
+      check-sound (contentOf entryKind own bases mates ++ mapBytes S ++ mapBytes H) (body own bases mates ho P S H)
+      (small-append (contentOf entryKind own bases mates ++ mapBytes S) (mapBytes H)
+      (small-append (contentOf entryKind own bases mates) (mapBytes S)
+      (small-content entryKind own bases mates (omega arith) small (omega (arith, P .small)) (P .letters)) (map-small S))
       (map-small H))
 
-  pub entry-sound : soundEntry (entryBlock bases mates (mapBytes S) (mapBytes H)) ≡ true
+  pub entry-sound : soundEntry (entryWith own bases mates (mapBytes S) (mapBytes H)) ≡ true
   unfolding block kept
-  entry-sound = entry-rules block (entry-length bases mates P S H) content-part hits-part check-part
+  entry-sound = entry-rules block (entry-length own bases mates ho P S H) content-part hits-part check-part

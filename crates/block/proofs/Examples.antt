@@ -1,5 +1,4 @@
 -- The settled example of a checksum: the block of A, 0 has 1888. And where the bases and mates of GC lie, in a molecule block and in an entry.
--- Assumes nothing.
 use mathlib.Core.Path.{_≡_, refl, sym, ap, _∙_}
 use mathlib.Core.Bool.{Bool, true}
 use mathlib.Core.List.{List, [], _∷_, _++_, append-assoc}
@@ -8,22 +7,22 @@ use native.Mathlib.Omega.{arith}
 use lib.ListN.{length, replicate, replicate-append-replicate}
 use lib.Seq.{getD-append-add}
 use borrow.Author.Tests.{eqb-true}
-use Rattle.strand.specs.Vocabulary.{nth, between, every}
+use Rattle.lists.specs.Vocabulary.{nth, between, every}
 use Rattle.strand.specs.Strands.{Strand, strandOf, isLetter}
 use Rattle.octets.specs.Numbers.{word32, bytesOf}
-use Rattle.octets.specs.Checksum.{sumTo, checksumOf, checksumOk, checked}
-use Rattle.block.specs.Content.{moleculeKind, contentOf, moleculeBlock, entryBlock, encodeMolecule, encodeEntry}
-use Rattle.strand.proofs.ListLaws.{zeros-at, zeros-zero}
-use Rattle.octets.proofs.SumLaws.{sum-append, sum-blank}
+use Rattle.block.specs.Checksum.{sumTo, checksumOf, checksumOk, withChecksum}
+use Rattle.block.specs.Content.{moleculeKind, contentOf, strandBlock, moleculeBlock, entryWith, entryBlock, encodeMolecule, encodeEntry}
+use Rattle.lists.proofs.ListLaws.{zeros-at, zeros-zero}
+use Rattle.block.proofs.SumLaws.{sum-append, sum-blank}
 use Rattle.block.proofs.PartLaws.{length-content}
-use Rattle.block.proofs.RoundTrip.{small-content, check-sound}
+use Rattle.block.proofs.RoundTrip.{small-content, small-none, check-sound}
 
 -- Its first 29 bytes; the rest up to the checksum is zero.
 front : List ℕ
 front = (1 ∷ 1 ∷ replicate 26 0) ++ (65 ∷ [])
 
 body : List ℕ
-body = contentOf moleculeKind (65 ∷ []) (0 ∷ [])
+body = contentOf moleculeKind [] (65 ∷ []) (0 ∷ [])
 
 body-is : body ≡ front ++ replicate 479 0
 unfolding body front contentOf bytesOf
@@ -50,17 +49,17 @@ body-sum =
     ∙ sum-append front (replicate 479 0) 29 (unfold front in (omega arith))
     ∙ front-sum
 
-right : checksumOk (checked body) ≡ true
+right : checksumOk (withChecksum body) ≡ true
 unfolding body
 right =
-    check-sound (contentOf moleculeKind (65 ∷ []) (0 ∷ [])) (length-content moleculeKind (65 ∷ []) (0 ∷ []) (omega arith) (omega arith) refl)
-    (small-content moleculeKind (65 ∷ []) (0 ∷ []) (omega arith) (omega arith) (unfold every isLetter in refl))
+    check-sound (contentOf moleculeKind [] (65 ∷ []) (0 ∷ [])) (length-content moleculeKind [] (65 ∷ []) (0 ∷ []) (omega arith) (omega arith) refl)
+    (small-content moleculeKind [] (65 ∷ []) (0 ∷ []) (omega arith) small-none (omega arith) (unfold every isLetter in refl))
 
 pub checksum-of-A : word32 (encodeMolecule (strandOf (65 ∷ []) (0 ∷ []))) 508 ≡ 1888
-unfolding encodeMolecule moleculeBlock body checksumOk checksumOf checked
+unfolding encodeMolecule moleculeBlock strandBlock body checksumOk checksumOf withChecksum
 checksum-of-A =
-    sym (eqb-true (sumTo (checked body) 508) (word32 (checked body) 508) right)
-    ∙ sum-append body _ 508 (omega (arith, length-content moleculeKind (65 ∷ []) (0 ∷ []) (omega arith) (omega arith) refl))
+    sym (eqb-true (sumTo (withChecksum body) 508) (word32 (withChecksum body) 508) right)
+    ∙ sum-append body _ 508 (omega (arith, length-content moleculeKind [] (65 ∷ []) (0 ∷ []) (omega arith) (omega arith) refl))
     ∙ body-sum
 
 -- ---- where bases and mates lie: 28 and 188 in a molecule block, 20 and 140 in an entry
@@ -69,18 +68,18 @@ abbrev GC : Strand
 GC = strandOf (71 ∷ 67 ∷ []) (1 ∷ 0 ∷ [])
 
 pub molecule-bases : between 28 30 (encodeMolecule GC) ≡ 71 ∷ 67 ∷ []
-unfolding encodeMolecule moleculeBlock checked contentOf bytesOf
+unfolding encodeMolecule moleculeBlock strandBlock withChecksum contentOf bytesOf
 molecule-bases = refl
 
 pub molecule-mates : between 188 192 (encodeMolecule GC) ≡ 1 ∷ 0 ∷ 0 ∷ 0 ∷ []
-unfolding encodeMolecule moleculeBlock checked contentOf bytesOf
+unfolding encodeMolecule moleculeBlock strandBlock withChecksum contentOf bytesOf
 molecule-mates = refl
 
 module _ (searched hits : ℕ → Bool) where
   pub entry-bases : between 20 22 (encodeEntry GC searched hits) ≡ 71 ∷ 67 ∷ []
-  unfolding encodeEntry entryBlock checked contentOf bytesOf
+  unfolding encodeEntry entryBlock entryWith withChecksum contentOf bytesOf
   entry-bases = refl
 
   pub entry-mates : between 140 144 (encodeEntry GC searched hits) ≡ 1 ∷ 0 ∷ 0 ∷ 0 ∷ []
-  unfolding encodeEntry entryBlock checked contentOf bytesOf
+  unfolding encodeEntry entryBlock entryWith withChecksum contentOf bytesOf
   entry-mates = refl

@@ -1,9 +1,10 @@
-pub mod SoundLaws
+pub mod SumLaws
+mod SoundLaws
 pub mod PartLaws
-pub mod Altered
-pub mod RoundTrip
-pub mod EntryLaws
-pub mod EncodedLaws
+mod Altered
+mod RoundTrip
+mod EntryLaws
+mod EncodedLaws
 pub mod ContentLaws
 pub mod Examples
 pub mod Claims

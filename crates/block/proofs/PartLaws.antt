@@ -1,15 +1,14 @@
 -- Laws of the parts of a block: their lengths, and the checksum behind them.
--- Assumes nothing.
 use mathlib.Core.Path.{_≡_, ap, ap₂, _∙_}
 use mathlib.Core.List.{List, _++_, append-nil, append-assoc}
-use Prim.Native.Nat.{ℕ, _+_, _-_, _*_, _≤_}
+use Prim.Native.Nat.{ℕ, suc, _+_, _-_, _*_, _≤_}
 use native.Mathlib.Omega.{arith}
 use lib.ListN.{length, take, replicate, length-append, length-replicate, drop-of-length-le}
 use lib.Seq.{take-at, sets-eq}
 use Rattle.octets.specs.Numbers.{bytes32, bytesOf}
-use Rattle.octets.specs.Checksum.{checksumOf, checked, rechecked}
+use Rattle.block.specs.Checksum.{checksumOf, withChecksum, rechecked}
 use Rattle.block.specs.Content.{Kind, padded, headOf, contentOf}
-use Rattle.octets.proofs.SumLaws.{sum-append}
+use Rattle.block.proofs.SumLaws.{sum-append}
 use Rattle.octets.proofs.ScanLaws.{length-bytes}
 
 pub regroup : (a b c e : List ℕ) → a ++ (b ++ c) ++ e ≡ a ++ (b ++ (c ++ e))
@@ -20,17 +19,17 @@ regroup a b c e = simp append-assoc
 pub length-padded : (n : ℕ) (l : List ℕ) → length l ≤ n → length (padded n l) ≡ n
 length-padded n l h = length-append l (replicate (n - length l) 0) ∙ rw length-replicate (omega arith)
 
-pub length-head : (at mark n : ℕ) → 2 ≤ at → length (headOf at mark n) ≡ at
-length-head at mark n h = rw length-replicate (omega arith)
+pub length-head : (start mark n : ℕ) (own : List ℕ) → 2 + length own ≤ start → length (headOf start mark n own) ≡ start
+length-head start mark n own h = ap (λ (m : ℕ). suc (suc m)) (length-padded (start - 2) own (omega arith)) ∙ omega arith
 
-module _ (k : Kind) (bases mates : List ℕ) (ha : 2 ≤ k .start) (hb : length bases ≤ k .most) (hm : length mates ≡ length bases) where
-  pub length-content : length (contentOf k bases mates) ≡ k .start + 3 * k .most
+module _ (k : Kind) (own bases mates : List ℕ) (ha : 2 + length own ≤ k .start) (hb : length bases ≤ k .most) (hm : length mates ≡ length bases) where
+  pub length-content : length (contentOf k own bases mates) ≡ k .start + 3 * k .most
   unfolding contentOf
   length-content =
-      length-append (headOf (k .start) (k .mark) (length bases) ++ padded (k .most) bases) (padded (2 * k .most) (bytesOf mates))
+      length-append (headOf (k .start) (k .mark) (length bases) own ++ padded (k .most) bases) (padded (2 * k .most) (bytesOf mates))
       ∙ ap₂ (λ (x y : ℕ). x + y)
-      (length-append (headOf (k .start) (k .mark) (length bases)) (padded (k .most) bases)
-      ∙ ap₂ (λ (x y : ℕ). x + y) (length-head (k .start) (k .mark) (length bases) ha) (length-padded (k .most) bases hb))
+      (length-append (headOf (k .start) (k .mark) (length bases) own) (padded (k .most) bases)
+      ∙ ap₂ (λ (x y : ℕ). x + y) (length-head (k .start) (k .mark) (length bases) own ha) (length-padded (k .most) bases hb))
       (length-padded (2 * k .most) (bytesOf mates) (omega (arith, length-bytes mates)))
       ∙ total
     where
@@ -40,8 +39,8 @@ module _ (k : Kind) (bases mates : List ℕ) (ha : 2 ≤ k .start) (hb : length 
 -- ---- the checksum
 
 -- Written after a front of 508 bytes.
-pub check-put : (p q s r : List ℕ) → length p ≡ 508 → length s ≡ 512 → s ≡ p ++ q → r ≡ rechecked s → r ≡ checked p
-unfolding checked rechecked checksumOf
+pub check-put : (p q s r : List ℕ) → length p ≡ 508 → length s ≡ 512 → s ≡ p ++ q → r ≡ rechecked s → r ≡ withChecksum p
+unfolding withChecksum rechecked checksumOf
 check-put p q s r hp hs e er =
     er
     ∙ sets-eq (bytes32 (checksumOf s)) s 508 (omega arith)

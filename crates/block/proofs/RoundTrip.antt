@@ -1,5 +1,4 @@
 -- What is decoded from an encoded block is what was encoded, and an encoded block is sound.
--- Assumes nothing.
 use mathlib.Core.Path.{_≡_, refl, sym, ap, ap₂, _∙_}
 use mathlib.Core.Bool.{true, false}
 use mathlib.Core.List.{List, [], _∷_, _++_, append-assoc}
@@ -12,19 +11,19 @@ use lib.Seq.{take-at, drop-at, ext-getD, getD-append-add}
 use lib.Dec.{lit<}
 use lib.Pow.{shr-shr}
 use borrow.Author.Tests.{eq-eqb, ne-eqb}
-use Rattle.strand.specs.Vocabulary.{nth, all, between}
+use Rattle.lists.specs.Vocabulary.{nth, all, between}
 use Rattle.strand.specs.Strands.{strandOf, isLetter, isNested, Proper}
-use Rattle.strand.proofs.ListLaws.{length-tab, nth-tab, every-at, never, zeros-zero}
+use Rattle.lists.proofs.ListLaws.{length-tab, nth-tab, every-at, never, zeros-zero}
 use Rattle.strand.proofs.VerdictLaws.{nested-test}
 use Rattle.octets.specs.Numbers.{Bytes, isZero, word16, word32, bytes32, words, bytesOf}
-use Rattle.octets.specs.Checksum.{sumTo, checksumOf, checksumOk, checked}
-use Rattle.block.specs.Content.{Kind, moleculeKind, matesAt, matesEnd, lengthIn, strandIn, padded, headOf, contentOf, moleculeBlock}
-use Rattle.block.specs.Block.{contentWith, contentOk, soundMolecule}
+use Rattle.block.specs.Checksum.{sumTo, checksumOf, checksumOk, withChecksum}
+use Rattle.block.specs.Content.{Kind, matesAt, matesEnd, lengthIn, ownIn, matesIn, strandIn, padded, headOf, contentOf, strandBlock}
+use Rattle.block.specs.Block.{bytesWith, bytesOk, contentOk, soundStrand}
 use Rattle.octets.proofs.ByteLaws.{small-append, small-zeros, small-bytes}
-use Rattle.octets.proofs.SumLaws.{sum-append, sum-small}
+use Rattle.block.proofs.SumLaws.{sum-append, sum-small}
 use Rattle.octets.proofs.ScanLaws.{length-bytes}
 use Rattle.block.proofs.PartLaws.{regroup, length-content, length-padded, length-head}
-use Rattle.block.proofs.SoundLaws.{bases-3, mates-2, content-5, molecule-rules}
+use Rattle.block.proofs.SoundLaws.{all-but-unused, unused-mates, all-but-mates, all-but-nested, strand-rules}
 
 -- ---- two-byte numbers
 
@@ -63,14 +62,15 @@ word-check x h =
     (join x (x / 256) (x / 256 / 256) (x / 256 / 256 / 256) (x % 256) (x / 256 % 256) (x / 256 / 256 % 256) (x / 256 / 256 / 256 % 256)
     (omega arith) (omega arith) (omega arith) (omega arith))
 
-regroup₀ : (a z b m t : List ℕ) → a ++ z ++ b ++ m ++ t ≡ a ++ (z ++ (b ++ (m ++ t)))
-regroup₀ a z b m t = simp append-assoc
+regroup₀ : (a b z p m t : List ℕ) → a ++ (b ++ z) ++ p ++ m ++ t ≡ a ++ b ++ (z ++ (p ++ (m ++ t)))
+regroup₀ a b z p m t = simp append-assoc
 
 regroup₁ : (h b z m t : List ℕ) → h ++ (b ++ z) ++ m ++ t ≡ h ++ (b ++ (z ++ (m ++ t)))
 regroup₁ h b z m t = simp append-assoc
 
-module _ (k : Kind) (bases mates t : List ℕ) (ha : 2 ≤ k .start) (hk : k .most ≤ 160)
-    (P : Proper (k .side) 1 (k .most) bases mates) where
+-- A content of any kind with any bytes of its own, followed by t.
+module _ (k : Kind) (own bases mates t : List ℕ) (ho : 2 + length own ≡ k .blank) (ha : k .blank ≤ k .start) (hk : k .most ≤ 160)
+    (P : Proper (k .side) (k .least) (k .most) bases mates) where
   hb : length bases ≤ k .most
   hb = P .small
 
@@ -82,10 +82,13 @@ module _ (k : Kind) (bases mates t : List ℕ) (ha : 2 ≤ k .start) (hk : k .mo
   mate-small i l = omega (arith, P .nested .inside i (omega arith))
 
   abbrev pub block : List ℕ
-  block = contentOf k bases mates ++ t
+  block = contentOf k own bases mates ++ t
+
+  H : List ℕ
+  H = headOf (k .start) (k .mark) (length bases) own
 
   Z₀ : List ℕ
-  Z₀ = replicate ((k .start) - 2) 0
+  Z₀ = replicate (k .start - 2 - length own) 0
 
   Z₁ : List ℕ
   Z₁ = replicate (k .most - length bases) 0
@@ -93,24 +96,27 @@ module _ (k : Kind) (bases mates t : List ℕ) (ha : 2 ≤ k .start) (hk : k .mo
   Z₂ : List ℕ
   Z₂ = replicate (2 * k .most - length (bytesOf mates)) 0
 
-  -- The block, cut (k .start) each part.
-  cut-0 : block ≡ (k .mark ∷ length bases ∷ []) ++ (Z₀ ++ (padded (k .most) bases ++ (padded (2 * k .most) (bytesOf mates) ++ t)))
-  unfolding contentOf Z₀
-  cut-0 = regroup₀ (k .mark ∷ length bases ∷ []) (replicate ((k .start) - 2) 0) (padded (k .most) bases) (padded (2 * k .most) (bytesOf mates)) t
+  M : List ℕ
+  M = padded (2 * k .most) (bytesOf mates)
 
-  cut-1 : block ≡ headOf (k .start) (k .mark) (length bases) ++ (bases ++ (Z₁ ++ (padded (2 * k .most) (bytesOf mates) ++ t)))
-  unfolding contentOf Z₁
-  cut-1 = regroup₁ (headOf (k .start) (k .mark) (length bases)) bases _ (padded (2 * k .most) (bytesOf mates)) t
+  -- The block, cut at each part.
+  cut-0 : block ≡ (k .mark ∷ length bases ∷ []) ++ own ++ (Z₀ ++ (padded (k .most) bases ++ (M ++ t)))
+  unfolding contentOf Z₀ M
+  cut-0 = regroup₀ (k .mark ∷ length bases ∷ []) own (replicate (k .start - 2 - length own) 0) (padded (k .most) bases) (padded (2 * k .most) (bytesOf mates)) t
 
-  cut-2 : block ≡ headOf (k .start) (k .mark) (length bases) ++ bases ++ (Z₁ ++ (padded (2 * k .most) (bytesOf mates) ++ t))
-  cut-2 = cut-1 ∙ sym (append-assoc (headOf (k .start) (k .mark) (length bases)) bases _)
+  cut-1 : block ≡ H ++ (bases ++ (Z₁ ++ (M ++ t)))
+  unfolding contentOf H Z₁ M
+  cut-1 = regroup₁ (headOf (k .start) (k .mark) (length bases) own) bases _ (padded (2 * k .most) (bytesOf mates)) t
 
-  cut-3 : block ≡ headOf (k .start) (k .mark) (length bases) ++ padded (k .most) bases ++ (bytesOf mates ++ (Z₂ ++ t))
-  unfolding contentOf Z₂
-  cut-3 = regroup (headOf (k .start) (k .mark) (length bases) ++ padded (k .most) bases) (bytesOf mates) _ t
+  cut-2 : block ≡ H ++ bases ++ (Z₁ ++ (M ++ t))
+  cut-2 = cut-1 ∙ sym (append-assoc H bases _)
 
-  cut-4 : block ≡ headOf (k .start) (k .mark) (length bases) ++ padded (k .most) bases ++ bytesOf mates ++ (Z₂ ++ t)
-  cut-4 = cut-3 ∙ sym (append-assoc (headOf (k .start) (k .mark) (length bases) ++ padded (k .most) bases) (bytesOf mates) _)
+  cut-3 : block ≡ H ++ padded (k .most) bases ++ (bytesOf mates ++ (Z₂ ++ t))
+  unfolding contentOf H Z₂
+  cut-3 = regroup (headOf (k .start) (k .mark) (length bases) own ++ padded (k .most) bases) (bytesOf mates) _ t
+
+  cut-4 : block ≡ H ++ padded (k .most) bases ++ bytesOf mates ++ (Z₂ ++ t)
+  cut-4 = cut-3 ∙ sym (append-assoc (H ++ padded (k .most) bases) (bytesOf mates) _)
 
   pub kind-byte : nth block 0 ≡ k .mark
   unfolding contentOf
@@ -120,19 +126,15 @@ module _ (k : Kind) (bases mates t : List ℕ) (ha : 2 ≤ k .start) (hk : k .mo
   unfolding contentOf
   length-byte = refl
 
-  H : List ℕ
-  H = headOf (k .start) (k .mark) (length bases)
-
-  lH : length H ≡ (k .start)
+  lH : length H ≡ k .start
   unfolding H
-  lH = length-head (k .start) (k .mark) (length bases) ha
+  lH = length-head (k .start) (k .mark) (length bases) own (omega arith)
 
-  M : List ℕ
-  M = padded (2 * k .most) (bytesOf mates)
+  front : length (H ++ padded (k .most) bases) ≡ matesAt k
+  front = length-append H (padded (k .most) bases) ∙ ap₂ (λ (x y : ℕ). x + y) lH (length-padded (k .most) bases hb)
 
-  bases-part : between (k .start) ((k .start) + length bases) block ≡ bases
-  unfolding H M
-  bases-part = part-at (k .start) ((k .start) + length bases) block H bases (Z₁ ++ (M ++ t)) cut-1 lH (omega arith)
+  bases-part : between (k .start) (k .start + length bases) block ≡ bases
+  bases-part = part-at (k .start) (k .start + length bases) block H bases (Z₁ ++ (M ++ t)) cut-1 lH (omega arith)
 
   pub bases-back : between (k .start) (k .start + lengthIn block) block ≡ bases
   bases-back = ap (λ (n : ℕ). between (k .start) (k .start + n) block) length-byte ∙ bases-part
@@ -140,51 +142,57 @@ module _ (k : Kind) (bases mates t : List ℕ) (ha : 2 ≤ k .start) (hk : k .mo
   mates-part : words (length bases) (drop (matesAt k) block) ≡ mates
   mates-part =
       ap (λ (l : List ℕ). words (length bases) (drop (matesAt k) l)) cut-3
-      ∙ ap (words (length bases)) (drop-at (headOf (k .start) (k .mark) (length bases) ++ padded (k .most) bases) (bytesOf mates ++ (Z₂ ++ t)) (matesAt k) front)
+      ∙ ap (words (length bases)) (drop-at (H ++ padded (k .most) bases) (bytesOf mates ++ (Z₂ ++ t)) (matesAt k) front)
       ∙ ap (λ (n : ℕ). words n (bytesOf mates ++ (Z₂ ++ t))) (sym hm)
       ∙ words-bytes mates (Z₂ ++ t) mate-small
-    where
-      front : length (headOf (k .start) (k .mark) (length bases) ++ padded (k .most) bases) ≡ matesAt k
-      front = length-append (headOf (k .start) (k .mark) (length bases)) (padded (k .most) bases) ∙ ap₂ (λ (x y : ℕ). x + y) (length-head (k .start) (k .mark) (length bases) ha) (length-padded (k .most) bases hb)
 
-  pub mates-back : words (lengthIn block) (drop (matesAt k) block) ≡ mates
+  pub mates-back : matesIn k block ≡ mates
   mates-back = ap (λ (n : ℕ). words n (drop (matesAt k) block)) length-byte ∙ mates-part
 
-  blank-part : between 2 (k .start) block ≡ replicate ((k .start) - 2) 0
-  unfolding M Z₀
-  blank-part = part-at 2 (k .start) block (k .mark ∷ length bases ∷ []) Z₀ (padded (k .most) bases ++ (M ++ t)) cut-0 refl (length-replicate ((k .start) - 2) 0)
+  blank-part : between (k .blank) (k .start) block ≡ replicate (k .start - 2 - length own) 0
+  unfolding Z₀
+  blank-part =
+      part-at (k .blank) (k .start) block ((k .mark ∷ length bases ∷ []) ++ own) Z₀ (padded (k .most) bases ++ (M ++ t)) cut-0 (omega arith)
+      (length-replicate (k .start - 2 - length own) 0 ∙ omega arith)
 
-  unused-part : between ((k .start) + length bases) (matesAt k) block ≡ replicate (k .most - length bases) 0
-  unfolding H M Z₁
+  unused-part : between (k .start + length bases) (matesAt k) block ≡ replicate (k .most - length bases) 0
+  unfolding Z₁
   unused-part =
-      part-at ((k .start) + length bases) (matesAt k) block (H ++ bases) Z₁ (M ++ t) cut-2
+      part-at (k .start + length bases) (matesAt k) block (H ++ bases) Z₁ (M ++ t) cut-2
       (length-append H bases ∙ ap (λ (n : ℕ). n + length bases) lH) (length-replicate (k .most - length bases) 0 ∙ omega arith)
 
   unused₂-part : between (matesAt k + 2 * length bases) (matesEnd k) block ≡ replicate (2 * k .most - length (bytesOf mates)) 0
-  unfolding H Z₂
+  unfolding Z₂
   unused₂-part =
       part-at (matesAt k + 2 * length bases) (matesEnd k) block (H ++ padded (k .most) bases ++ bytesOf mates) Z₂ t cut-4
       (length-append (H ++ padded (k .most) bases) (bytesOf mates)
-      ∙ ap₂ (λ (x y : ℕ). x + y) (length-append H (padded (k .most) bases) ∙ ap₂ (λ (x y : ℕ). x + y) lH (length-padded (k .most) bases hb)) (length-bytes mates ∙ ap (λ (n : ℕ). 2 * n) hm))
+      ∙ ap₂ (λ (x y : ℕ). x + y) front (length-bytes mates ∙ ap (λ (n : ℕ). 2 * n) hm))
       (length-replicate (2 * k .most - length (bytesOf mates)) 0 ∙ omega (arith, length-bytes mates))
+
+  -- The kind's own bytes come back too.
+  pub own-back : ownIn k block ≡ own
+  own-back = part-at 2 (k .blank) block (k .mark ∷ length bases ∷ []) own (Z₀ ++ (padded (k .most) bases ++ (M ++ t))) cut-0 refl (omega arith)
 
   pub strand-back : strandIn k block ≡ strandOf bases mates
   unfolding strandIn
   strand-back =
       let x : between (k .start) (k .start + lengthIn block) block ≡ bases = bases-back in
-      let y : words (lengthIn block) (drop (matesAt k) block) ≡ mates = mates-back in
+      let y : matesIn k block ≡ mates = mates-back in
       λ i. record { bases = x i; mates = y i }
 
-  pub content-sound : contentOk k block ≡ true
-  content-sound =
-      ap (λ (n : ℕ). contentWith k n block) length-byte
-      ∙ sym (mates-2 (matesAt k) (k .most) (length bases) block (ap (all isZero) unused₂-part ∙ zeros-zero (2 * k .most - length (bytesOf mates)))
-      ∙ content-5 k (length bases) block kind-byte (P .enough) hb
-      (sym (bases-3 (k .side) (k .start) (k .most) (length bases) block
-      (ap (all isZero) blank-part ∙ zeros-zero (k .start - 2))
+  bytes-sound : bytesOk k block ≡ true
+  bytes-sound =
+      ap (λ (n : ℕ). bytesWith k n block) length-byte
+      ∙ sym (unused-mates (matesAt k) (k .most) (length bases) block
+      ∙ all-but-mates k (length bases) block kind-byte (P .enough) hb
+      (sym (all-but-unused (k .side) (k .blank) (k .start) (k .most) (length bases) block
+      (ap (all isZero) blank-part ∙ zeros-zero (k .start - 2 - length own))
       (ap (all (isLetter (k .side))) bases-part ∙ P .letters))
       ∙ ap (all isZero) unused-part ∙ zeros-zero (k .most - length bases)))
-      ∙ ap isNested mates-part ∙ nested-test mates (rw (← hm) at (P .nested))
+      ∙ ap (all isZero) unused₂-part ∙ zeros-zero (2 * k .most - length (bytesOf mates))
+
+  pub content-sound : contentOk k block ≡ true
+  content-sound = sym (all-but-nested k block bytes-sound) ∙ ap isNested mates-back ∙ nested-test mates (rw (← hm) at (P .nested))
 
 -- ---- bytes
 
@@ -202,27 +210,31 @@ small-letters side l e i =
       | no h ↦ rw (List·getD-eq-default l 0 {n = i} (omega arith)) (lit< tt)
     ]
 
-pub small-content : (k : Kind) (bases mates : List ℕ) → k .mark < 256 → length bases < 256 → all (isLetter (k .side)) bases ≡ true
-    → Bytes (contentOf k bases mates)
+pub small-content : (k : Kind) (own bases mates : List ℕ) → k .mark < 256 → Bytes own → length bases < 256 → all (isLetter (k .side)) bases ≡ true
+    → Bytes (contentOf k own bases mates)
 unfolding contentOf
-small-content k bases mates hk hn letters =
-    small-append (headOf (k .start) (k .mark) (length bases) ++ padded (k .most) bases) (padded (2 * k .most) (bytesOf mates))
-    (small-append (headOf (k .start) (k .mark) (length bases)) (padded (k .most) bases) head
+small-content k own bases mates hk ho hn letters =
+    small-append (headOf (k .start) (k .mark) (length bases) own ++ padded (k .most) bases) (padded (2 * k .most) (bytesOf mates))
+    (small-append (headOf (k .start) (k .mark) (length bases) own) (padded (k .most) bases) head
     (small-append bases _ (small-letters (k .side) bases letters) (small-zeros (k .most - length bases))))
     (small-append (bytesOf mates) _ (small-bytes mates) (small-zeros (2 * k .most - length (bytesOf mates))))
   where
-    head : Bytes (headOf (k .start) (k .mark) (length bases))
+    head : Bytes (headOf (k .start) (k .mark) (length bases) own)
     head zero = hk
     head (suc zero) = hn
-    head (suc (suc i)) = small-zeros (k .start - 2) i
+    head (suc (suc i)) = small-append own _ ho (small-zeros (k .start - 2 - length own)) i
+
+-- No bytes of its own.
+pub small-none : Bytes []
+small-none i = lit< tt
 
 -- ---- the checksum
 
 getD-after : (p q : List ℕ) (j k : ℕ) → j ≡ length p + k → nth (p ++ q) j ≡ nth q k
 getD-after p q j k e = rw e (getD-append-add p q k 0)
 
-pub check-sound : (p : List ℕ) → length p ≡ 508 → Bytes p → checksumOk (checked p) ≡ true
-unfolding checksumOk checked checksumOf word32
+pub check-sound : (p : List ℕ) → length p ≡ 508 → Bytes p → checksumOk (withChecksum p) ≡ true
+unfolding checksumOk withChecksum checksumOf word32
 check-sound p hp small =
     eq-eqb _ _ (sum-append p _ 508 (omega arith)
     ∙ sym (word-check (sumTo p 508) (omega (arith, sum-small p 508 small (omega arith))))
@@ -231,30 +243,31 @@ check-sound p hp small =
     q : List ℕ
     q = bytes32 (sumTo p 508)
 
--- ---- the block of a molecule is sound, and gives the molecule back
+-- ---- the block of a strand is sound, and gives the strand back
 
-module _ (bases mates : List ℕ) (P : Proper 1 1 160 bases mates) where
-  body : length (contentOf moleculeKind bases mates) ≡ 508
-  body = length-content moleculeKind bases mates (omega arith) (P .small) (P .same)
+-- A kind of strand block: its content fills the bytes before the checksum.
+module _ (k : Kind) (own bases mates : List ℕ) (ho : 2 + length own ≡ k .blank) (ha : k .blank ≤ k .start) (hk : k .most ≤ 160)
+    (P : Proper (k .side) (k .least) (k .most) bases mates) (he : k .start + 3 * k .most ≡ 508) where
+  body : length (contentOf k own bases mates) ≡ 508
+  body = length-content k own bases mates (omega arith) (P .small) (P .same) ∙ he
 
-  pub molecule-length : length (moleculeBlock bases mates) ≡ 512
-  unfolding moleculeBlock checked
-  molecule-length =
-      length-append (contentOf moleculeKind bases mates) (bytes32 (checksumOf (contentOf moleculeKind bases mates))) ∙ ap (λ (k : ℕ). k + 4) body
+  pub block-length : length (strandBlock k own bases mates) ≡ 512
+  unfolding strandBlock withChecksum
+  block-length =
+      length-append (contentOf k own bases mates) (bytes32 (checksumOf (contentOf k own bases mates))) ∙ ap (λ (n : ℕ). n + 4) body
 
-  pub molecule-back : strandIn moleculeKind (moleculeBlock bases mates) ≡ strandOf bases mates
-  unfolding moleculeBlock checked
-  molecule-back = strand-back moleculeKind bases mates _ (omega arith) (omega arith) P
+  pub block-back : strandIn k (strandBlock k own bases mates) ≡ strandOf bases mates
+  unfolding strandBlock withChecksum
+  block-back = strand-back k own bases mates _ ho ha hk P
 
-  content-part : contentOk moleculeKind (moleculeBlock bases mates) ≡ true
-  unfolding moleculeBlock checked
-  content-part = content-sound moleculeKind bases mates _ (omega arith) (omega arith) P
+  content-part : contentOk k (strandBlock k own bases mates) ≡ true
+  unfolding strandBlock withChecksum
+  content-part = content-sound k own bases mates _ ho ha hk P
 
-  check-part : checksumOk (moleculeBlock bases mates) ≡ true
-  unfolding moleculeBlock
-  check-part =
-      check-sound (contentOf moleculeKind bases mates) body
-      (small-content moleculeKind bases mates (omega arith) (omega (arith, P .small)) (P .letters))
-
-  pub molecule-sound : soundMolecule (moleculeBlock bases mates) ≡ true
-  molecule-sound = molecule-rules (moleculeBlock bases mates) molecule-length content-part check-part
+  pub block-sound : k .mark < 256 → Bytes own → soundStrand k (strandBlock k own bases mates) ≡ true
+  block-sound h small = strand-rules k (strandBlock k own bases mates) block-length content-part check-part
+    where
+      check-part : checksumOk (strandBlock k own bases mates) ≡ true
+      check-part =
+          unfold strandBlock in
+          (check-sound (contentOf k own bases mates) body (small-content k own bases mates h small (omega (arith, P .small)) (P .letters)))

@@ -1,5 +1,4 @@
 -- What each test of the soundness test decides.
--- Assumes nothing.
 use mathlib.Core.Path.{_≡_, refl, sym, ap, _∙_}
 use mathlib.Core.Bool.{Bool, true, false, not, _&&_, _||_, or-true}
 use mathlib.Core.List.{List, _++_}
@@ -8,117 +7,128 @@ use native.Mathlib.Omega.{arith}
 use native.Mathlib.Decide.{ℕ-discrete, decLt}
 use lib.ListN.{length, take, drop, length-take, length-drop}
 use lib.Dec.{eqb}
-use borrow.Author.Tests.{eq-eqb, ne-eqb, lt-leb, le-leb, eqb-true}
+use borrow.Author.Tests.{eq-eqb, ne-eqb, lt-leb, le-leb, eqb-true, not-true}
 use lib.Seq.{take-at, length-take-le, take-all}
-use Rattle.strand.specs.Vocabulary.{nth, every, all, between, lowest}
+use Rattle.lists.specs.Vocabulary.{nth, every, all, between, lowest}
 use Rattle.strand.specs.Strands.{isLetter, notLetter, isNested}
-use Rattle.strand.proofs.ListLaws.{length-tab, every-at, every-true, and-left, and-right, never, is-true, both-ways, every-lowest}
+use Rattle.lists.proofs.ListLaws.{length-tab, every-at, every-true, and-left, and-right, never, is-true, both-ways, every-lowest}
 use Rattle.octets.specs.Numbers.{isZero, words}
-use Rattle.octets.specs.Checksum.{checksumOk}
+use Rattle.block.specs.Checksum.{checksumOk}
 use Rattle.octets.specs.Bits.{bitOf, mapBit, bitsWithin}
-use Rattle.block.specs.Content.{Kind, moleculeKind, entryKind, matesAt, matesEnd, isEmpty, lengthIn}
-use Rattle.block.specs.Block.{blockOf, baseBytesOk, mateBytesOk, contentWith, contentOk, hitOk, hitsOk, moleculeRules, entryRules, soundMolecule, soundEntry, blockCount}
+use Rattle.block.specs.Content.{Kind, moleculeKind, entryKind, matesAt, matesEnd, isEmpty, lengthIn, matesIn}
+use Rattle.block.specs.Block.{blockOf, blockCount, baseBytesOk, mateBytesOk, bytesWith, bytesOk, contentOk, hitOk, hitsOk, strandRules}
+use Rattle.block.specs.Block.{entryRules, soundStrand, soundMolecule, soundMotif, soundEntry, holdsMotif}
 
 -- ---- the content, rule by rule
 
-module _ (side start most n : ℕ) (s : List ℕ) where
-  pub bases-1 : all isZero (between 2 start s) ≡ false → false ≡ baseBytesOk side start most n s
+module _ (side blank start most n : ℕ) (s : List ℕ) where
+  pub head-not-blank : all isZero (between blank start s) ≡ false → false ≡ baseBytesOk side blank start most n s
   unfolding baseBytesOk
-  bases-1 h = rw h
+  head-not-blank h = rw h
 
-  module _ (h1 : all isZero (between 2 start s) ≡ true) where
-    pub bases-2 : all (isLetter side) (between start (start + n) s) ≡ false → false ≡ baseBytesOk side start most n s
+  module _ (h1 : all isZero (between blank start s) ≡ true) where
+    pub not-all-letters : all (isLetter side) (between start (start + n) s) ≡ false → false ≡ baseBytesOk side blank start most n s
     unfolding baseBytesOk
-    bases-2 h = rw (h1, h)
+    not-all-letters h = rw (h1, h)
 
-    pub bases-3 : all (isLetter side) (between start (start + n) s) ≡ true
-        → all isZero (between (start + n) (start + most) s) ≡ baseBytesOk side start most n s
+    pub all-but-unused : all (isLetter side) (between start (start + n) s) ≡ true
+        → all isZero (between (start + n) (start + most) s) ≡ baseBytesOk side blank start most n s
     unfolding baseBytesOk
-    bases-3 h = rw (h1, h)
+    all-but-unused h = rw (h1, h)
 
-module _ (at most n : ℕ) (s : List ℕ) where
-  pub mates-1 : all isZero (between (at + 2 * n) (at + 2 * most) s) ≡ false → false ≡ mateBytesOk at most n s
-  unfolding mateBytesOk
-  mates-1 h = rw h
-
-  pub mates-2 : all isZero (between (at + 2 * n) (at + 2 * most) s) ≡ true → isNested (words n (drop at s)) ≡ mateBytesOk at most n s
-  unfolding mateBytesOk
-  mates-2 h = rw h
+pub unused-mates : (at most n : ℕ) (s : List ℕ) → all isZero (between (at + 2 * n) (at + 2 * most) s) ≡ mateBytesOk at most n s
+unfolding mateBytesOk
+unused-mates at most n s = refl
 
 module _ (k : Kind) (n : ℕ) (s : List ℕ) where
-  pub content-1 : (nth s 0 ≡ k .mark → ⊥) → false ≡ contentWith k n s
-  unfolding contentWith
-  content-1 h = rw (ne-eqb (nth s 0) (k .mark) h)
+  pub other-mark : (nth s 0 ≡ k .mark → ⊥) → false ≡ bytesWith k n s
+  unfolding bytesWith
+  other-mark h = rw (ne-eqb (nth s 0) (k .mark) h)
 
   module _ (h1 : nth s 0 ≡ k .mark) where
-    pub content-2 : n < 1 → false ≡ contentWith k n s
-    unfolding contentWith
-    content-2 h = rw (eq-eqb (nth s 0) (k .mark) h1, lt-leb 1 n h)
+    pub too-few-bases : n < k .least → false ≡ bytesWith k n s
+    unfolding bytesWith
+    too-few-bases h = rw (eq-eqb (nth s 0) (k .mark) h1, lt-leb (k .least) n h)
 
-    module _ (h2 : 1 ≤ n) where
-      pub content-3 : k .most < n → false ≡ contentWith k n s
-      unfolding contentWith
-      content-3 h = rw (eq-eqb (nth s 0) (k .mark) h1, le-leb 1 n h2, lt-leb n (k .most) h)
+    module _ (h2 : k .least ≤ n) where
+      pub too-many-bases : k .most < n → false ≡ bytesWith k n s
+      unfolding bytesWith
+      too-many-bases h = rw (eq-eqb (nth s 0) (k .mark) h1, le-leb (k .least) n h2, lt-leb n (k .most) h)
 
       module _ (h3 : n ≤ k .most) where
-        pub content-4 : baseBytesOk (k .side) (k .start) (k .most) n s ≡ false → false ≡ contentWith k n s
-        unfolding contentWith
-        content-4 h = rw (eq-eqb (nth s 0) (k .mark) h1, le-leb 1 n h2, le-leb n (k .most) h3, h)
+        pub bases-wrong : baseBytesOk (k .side) (k .blank) (k .start) (k .most) n s ≡ false → false ≡ bytesWith k n s
+        unfolding bytesWith
+        bases-wrong h = rw (eq-eqb (nth s 0) (k .mark) h1, le-leb (k .least) n h2, le-leb n (k .most) h3, h)
 
-        pub content-5 : baseBytesOk (k .side) (k .start) (k .most) n s ≡ true → mateBytesOk (matesAt k) (k .most) n s ≡ contentWith k n s
-        unfolding contentWith
-        content-5 h = rw (eq-eqb (nth s 0) (k .mark) h1, le-leb 1 n h2, le-leb n (k .most) h3, h)
+        pub all-but-mates : baseBytesOk (k .side) (k .blank) (k .start) (k .most) n s ≡ true
+            → mateBytesOk (matesAt k) (k .most) n s ≡ bytesWith k n s
+        unfolding bytesWith
+        all-but-mates h = rw (eq-eqb (nth s 0) (k .mark) h1, le-leb (k .least) n h2, le-leb n (k .most) h3, h)
 
--- What a content that passes says, fact by fact.
-pub record Content (k : Kind) (s : List ℕ) : Type 0 where
+module _ (k : Kind) (s : List ℕ) where
+  pub bytes-wrong : bytesOk k s ≡ false → false ≡ contentOk k s
+  unfolding contentOk
+  bytes-wrong h = rw h
+
+  pub all-but-nested : bytesOk k s ≡ true → isNested (matesIn k s) ≡ contentOk k s
+  unfolding contentOk
+  all-but-nested h = rw h
+
+-- What bytes that pass say, fact by fact.
+pub record RightBytes (k : Kind) (s : List ℕ) : Type 0 where
   pub marked : nth s 0 ≡ k .mark
-  pub enough : 1 ≤ lengthIn s
+  pub enough : k .least ≤ lengthIn s
   pub fits : lengthIn s ≤ k .most
-  pub blank : all isZero (between 2 (k .start) s) ≡ true
+  pub blank : all isZero (between (k .blank) (k .start) s) ≡ true
   pub letters : all (isLetter (k .side)) (between (k .start) (k .start + lengthIn s) s) ≡ true
   pub unused : all isZero (between (k .start + lengthIn s) (matesAt k) s) ≡ true
   pub unused₂ : all isZero (between (matesAt k + 2 * lengthIn s) (matesEnd k) s) ≡ true
-  pub nested : isNested (words (lengthIn s) (drop (matesAt k) s)) ≡ true
 
-pub facts : (k : Kind) (s : List ℕ) → contentOk k s ≡ true → Content k s
-facts k s e =
+pub right-bytes : (k : Kind) (s : List ℕ) → bytesOk k s ≡ true → RightBytes k s
+right-bytes k s e =
     record {
       marked = h1;
       enough = h2;
       fits = h3;
       blank = b1;
       letters = b2;
-      unused = bases-3 (k .side) (k .start) (k .most) n s b1 b2 ∙ h4;
-      unused₂ = m1;
-      nested = mates-2 (matesAt k) (k .most) n s m1 ∙ h5;
+      unused = all-but-unused (k .side) (k .blank) (k .start) (k .most) n s b1 b2 ∙ h4;
+      unused₂ = unused-mates (matesAt k) (k .most) n s ∙ all-but-mates k n s h1 h2 h3 h4 ∙ e;
     }
   where
     n : ℕ
     n = lengthIn s
 
     h1 : nth s 0 ≡ k .mark
-    h1 = elim (ℕ-discrete (nth s 0) (k .mark)) [ yes q ↦ q | no q ↦ never (content-1 k n s q ∙ e) ]
+    h1 = elim (ℕ-discrete (nth s 0) (k .mark)) [ yes q ↦ q | no q ↦ never (other-mark k n s q ∙ e) ]
 
-    h2 : 1 ≤ n
-    h2 = elim (decLt n 1) [ yes q ↦ never (content-2 k n s h1 q ∙ e) | no q ↦ omega arith ]
+    h2 : k .least ≤ n
+    h2 = elim (decLt n (k .least)) [ yes q ↦ never (too-few-bases k n s h1 q ∙ e) | no q ↦ omega arith ]
 
     h3 : n ≤ k .most
-    h3 = elim (decLt (k .most) n) [ yes q ↦ never (content-3 k n s h1 h2 q ∙ e) | no q ↦ omega arith ]
+    h3 = elim (decLt (k .most) n) [ yes q ↦ never (too-many-bases k n s h1 h2 q ∙ e) | no q ↦ omega arith ]
 
-    h4 : baseBytesOk (k .side) (k .start) (k .most) n s ≡ true
-    h4 = is-true _ (λ q. never (content-4 k n s h1 h2 h3 q ∙ e))
+    h4 : baseBytesOk (k .side) (k .blank) (k .start) (k .most) n s ≡ true
+    h4 = is-true _ (λ q. never (bases-wrong k n s h1 h2 h3 q ∙ e))
 
-    h5 : mateBytesOk (matesAt k) (k .most) n s ≡ true
-    h5 = content-5 k n s h1 h2 h3 h4 ∙ e
-
-    b1 : all isZero (between 2 (k .start) s) ≡ true
-    b1 = is-true _ (λ q. never (bases-1 (k .side) (k .start) (k .most) n s q ∙ h4))
+    b1 : all isZero (between (k .blank) (k .start) s) ≡ true
+    b1 = is-true _ (λ q. never (head-not-blank (k .side) (k .blank) (k .start) (k .most) n s q ∙ h4))
 
     b2 : all (isLetter (k .side)) (between (k .start) (k .start + n) s) ≡ true
-    b2 = is-true _ (λ q. never (bases-2 (k .side) (k .start) (k .most) n s b1 q ∙ h4))
+    b2 = is-true _ (λ q. never (not-all-letters (k .side) (k .blank) (k .start) (k .most) n s b1 q ∙ h4))
 
-    m1 : all isZero (between (matesAt k + 2 * n) (matesEnd k) s) ≡ true
-    m1 = is-true _ (λ q. never (mates-1 (matesAt k) (k .most) n s q ∙ h5))
+-- What a content that passes says.
+pub record Content (k : Kind) (s : List ℕ) : Type 0 where
+  pub bytes : RightBytes k s
+  pub nested : isNested (matesIn k s) ≡ true
+
+pub facts : (k : Kind) (s : List ℕ) → contentOk k s ≡ true → Content k s
+unfolding contentOk
+facts k s e = record {
+  bytes = right-bytes k s (and-left (bytesOk k s) (isNested (matesIn k s)) e);
+  nested = and-right (bytesOk k s) (isNested
+      (matesIn k s)) e;
+}
 
 -- ---- letters, hit bits
 
@@ -150,35 +160,42 @@ hits-bytes s = both-ways (every 64 (hitByte s)) (every 512 (hitOk s)) to from
             let y : (8 * j + k) % 8 ≡ k = omega arith in
             rw (x, y) at q
 
--- ---- the whole block
+-- ---- the whole block: of a strand, and of a cache
+
+module _ (k : Kind) (s : List ℕ) where
+  pub strand-length : (length s ≡ 512 → ⊥) → false ≡ soundStrand k s
+  unfolding soundStrand
+  strand-length h = rw (ne-eqb (length s) 512 h)
+
+  module _ (hl : length s ≡ 512) where
+    pub strand-zero : all isZero s ≡ true → true ≡ soundStrand k s
+    unfolding soundStrand isEmpty
+    strand-zero h = rw (eq-eqb (length s) 512 hl, h)
+
+    module _ (hz : all isZero s ≡ false) where
+      pub strand-content : contentOk k s ≡ false → false ≡ soundStrand k s
+      unfolding soundStrand strandRules isEmpty
+      strand-content h = rw (eq-eqb (length s) 512 hl, hz, h)
+
+      pub strand-check : contentOk k s ≡ true → checksumOk s ≡ soundStrand k s
+      unfolding soundStrand strandRules isEmpty
+      strand-check h = rw (eq-eqb (length s) 512 hl, hz, h)
+
+    pub strand-rules : contentOk k s ≡ true → checksumOk s ≡ true → soundStrand k s ≡ true
+    unfolding soundStrand strandRules
+    strand-rules h c = rw (eq-eqb (length s) 512 hl, h, c) (or-true (isEmpty s))
 
 module _ (s : List ℕ) where
-  pub molecule-length : (length s ≡ 512 → ⊥) → false ≡ soundMolecule s
-  unfolding soundMolecule
-  molecule-length h = rw (ne-eqb (length s) 512 h)
-
   pub entry-length : (length s ≡ 512 → ⊥) → false ≡ soundEntry s
   unfolding soundEntry
   entry-length h = rw (ne-eqb (length s) 512 h)
 
   module _ (hl : length s ≡ 512) where
-    pub molecule-zero : all isZero s ≡ true → true ≡ soundMolecule s
-    unfolding soundMolecule isEmpty
-    molecule-zero h = rw (eq-eqb (length s) 512 hl, h)
-
     pub entry-zero : all isZero s ≡ true → true ≡ soundEntry s
     unfolding soundEntry isEmpty
     entry-zero h = rw (eq-eqb (length s) 512 hl, h)
 
     module _ (hz : all isZero s ≡ false) where
-      pub molecule-content : contentOk moleculeKind s ≡ false → false ≡ soundMolecule s
-      unfolding soundMolecule moleculeRules isEmpty
-      molecule-content h = rw (eq-eqb (length s) 512 hl, hz, h)
-
-      pub molecule-check : contentOk moleculeKind s ≡ true → checksumOk s ≡ soundMolecule s
-      unfolding soundMolecule moleculeRules isEmpty
-      molecule-check h = rw (eq-eqb (length s) 512 hl, hz, h)
-
       pub entry-content : contentOk entryKind s ≡ false → false ≡ soundEntry s
       unfolding soundEntry entryRules isEmpty
       entry-content h = rw (eq-eqb (length s) 512 hl, hz, h)
@@ -191,17 +208,13 @@ module _ (s : List ℕ) where
       unfolding soundEntry entryRules isEmpty
       entry-check h k = rw (eq-eqb (length s) 512 hl, hz, h, k)
 
--- ---- from the rules to soundness, and back
+    pub entry-rules : contentOk entryKind s ≡ true → hitsOk s ≡ true → checksumOk s ≡ true → soundEntry s ≡ true
+    unfolding soundEntry entryRules
+    entry-rules h j k = rw (eq-eqb (length s) 512 hl, h, j, k) (or-true (isEmpty s))
 
-pub molecule-rules : (s : List ℕ) → length s ≡ 512 → contentOk moleculeKind s ≡ true → checksumOk s ≡ true → soundMolecule s ≡ true
-unfolding soundMolecule moleculeRules
-molecule-rules s hl h k = rw (eq-eqb (length s) 512 hl, h, k) (or-true (isEmpty s))
+-- ---- what soundness gives
 
-pub entry-rules : (s : List ℕ) → length s ≡ 512 → contentOk entryKind s ≡ true → hitsOk s ≡ true → checksumOk s ≡ true → soundEntry s ≡ true
-unfolding soundEntry entryRules
-entry-rules s hl h j k = rw (eq-eqb (length s) 512 hl, h, j, k) (or-true (isEmpty s))
-
--- What a sound block of either kind is: empty, or of the rules that both kinds share.
+-- What a sound block of either buffer is: empty, or of the rules that all kinds share.
 pub data Sound (k : Kind) (s : List ℕ) : Type 0 where
   blank : isEmpty s ≡ true → Sound k s
   filled : isEmpty s ≡ false → Content k s → checksumOk s ≡ true → Sound k s
@@ -213,19 +226,26 @@ split {P} s f g = go (isEmpty s) refl
     go true e = f e
     go false e = g e
 
+module _ (k : Kind) (s : List ℕ) (ok : soundStrand k s ≡ true) where
+  pub strand-size : length s ≡ 512
+  unfolding soundStrand
+  strand-size = eqb-true (length s) 512 (and-left (eqb (length s) 512) _ ok)
+
+  filled-strand : isEmpty s ≡ false → contentOk k s && checksumOk s ≡ true
+  unfolding soundStrand strandRules
+  filled-strand e = rw e at (and-right (eqb (length s) 512) _ ok)
+
+  pub strand-is : Sound k s
+  strand-is =
+      split s blank
+      (λ e. filled e (facts k s (and-left (contentOk k s) (checksumOk s) (filled-strand e))) (and-right (contentOk k s) (checksumOk s) (filled-strand e)))
+
 module _ (s : List ℕ) (ok : soundMolecule s ≡ true) where
   pub molecule-size : length s ≡ 512
-  unfolding soundMolecule
-  molecule-size = eqb-true (length s) 512 (and-left (eqb (length s) 512) _ ok)
-
-  filled-molecule : isEmpty s ≡ false → contentOk moleculeKind s && checksumOk s ≡ true
-  unfolding soundMolecule moleculeRules
-  filled-molecule e = rw e at (and-right (eqb (length s) 512) _ ok)
+  molecule-size = strand-size moleculeKind s (unfold soundMolecule in ok)
 
   pub molecule-is : Sound moleculeKind s
-  molecule-is =
-      split s blank
-      (λ e. filled e (facts moleculeKind s (and-left (contentOk moleculeKind s) (checksumOk s) (filled-molecule e))) (and-right (contentOk moleculeKind s) (checksumOk s) (filled-molecule e)))
+  molecule-is = strand-is moleculeKind s (unfold soundMolecule in ok)
 
 module _ (s : List ℕ) (ok : soundEntry s ≡ true) where
   pub entry-size : length s ≡ 512
@@ -245,6 +265,24 @@ module _ (s : List ℕ) (ok : soundEntry s ≡ true) where
 
   pub entry-hits-ok : isEmpty s ≡ false → hitsOk s ≡ true
   entry-hits-ok e = and-right (contentOk entryKind s) (hitsOk s) (and-left (contentOk entryKind s && hitsOk s) (checksumOk s) (filled-rules e))
+
+-- A block that holds a motif: sound, and not empty.
+module _ (s : List ℕ) where
+  pub motif-unsound : soundMotif s ≡ false → false ≡ holdsMotif s
+  unfolding holdsMotif
+  motif-unsound h = rw h
+
+  pub motif-empty-not : (z : Bool) → soundMotif s ≡ true → z ≡ all isZero s → not z ≡ holdsMotif s
+  unfolding holdsMotif isEmpty
+  motif-empty-not z h e = rw (h, e)
+
+  pub held-sound : holdsMotif s ≡ true → (soundMotif s ≡ true) × (isEmpty s ≡ false)
+  unfolding holdsMotif
+  held-sound h = (and-left (soundMotif s) (not (isEmpty s)) h, not-true (isEmpty s) (and-right (soundMotif s) (not (isEmpty s)) h))
+
+  pub sound-held : soundMotif s ≡ true → isEmpty s ≡ false → holdsMotif s ≡ true
+  unfolding holdsMotif
+  sound-held h e = rw (h, e)
 
 -- A buffer that ends before block d has no such block.
 pub no-block : (buf : List ℕ) (d : ℕ) → blockCount buf ≤ d → length (blockOf d buf) ≡ 512 → ⊥

@@ -1,31 +1,47 @@
--- What a block holds, and the block that holds it: molecule blocks and cache entries (01: kept blocks). Assumes nothing.
+-- What a block holds, and the block that holds it: molecule blocks, blocks handed in as a motif, and cache entries (01: kept blocks).
 use Prim.Native.Nat.{ℕ, _+_, _-_, _*_}
-use mathlib.Core.List.{List, _∷_, _++_}
+use mathlib.Core.List.{List, [], _∷_, _++_}
 use mathlib.Core.Bool.{Bool, not, _&&_}
 use lib.ListN.{length, drop, replicate}
-use Rattle.strand.specs.Vocabulary.{nth, between, all}
-use Rattle.strand.specs.Strands.{Strand, sameStrand, motifSide, moleculeSide}
+use Rattle.lists.specs.Vocabulary.{nth, between, all}
+use Rattle.strand.specs.Strands.{Strand, sameStrand}
+use Rattle.refusals.specs.Rules.{motifSide, moleculeSide}
+use Rattle.strand.specs.StrandRules.{leastMotif, leastMolecule}
 use Rattle.octets.specs.Numbers.{isZero, words, bytesOf}
-use Rattle.octets.specs.Checksum.{blockSize, checked}
+use Rattle.block.specs.Checksum.{blockSize, withChecksum}
 use Rattle.octets.specs.Bits.{mapBit}
 use Rattle.octets.specs.Maps.{mapBytes}
 
--- The numbers of a kind of block: its byte 0, the side whose letters its bases are (01 has one alphabet for both sides), where its bases begin, and its greatest length.
+-- The numbers of a kind of block: its byte 0; the side whose letters its bases are (01 has one alphabet for both sides); its least and its
+-- greatest length; where its zero bytes begin, the bytes from 2 up to there being the kind's own; and where its bases begin.
 pub record Kind : Type 0 where
   pub mark : ℕ
   pub side : ℕ
-  pub start : ℕ
+  pub least : ℕ
   pub most : ℕ
+  pub blank : ℕ
+  pub start : ℕ
 
-abbrev pub kindOf : ℕ → ℕ → ℕ → ℕ → Kind
-kindOf mark side start most = record { mark = mark; side = side; start = start; most = most }
+abbrev pub kindOf : ℕ → ℕ → ℕ → ℕ → ℕ → ℕ → Kind
+kindOf mark side least most blank start = record { mark = mark; side = side; least = least; most = most; blank = blank; start = start }
 
--- Molecule block: byte 0 is 1, bases from 28, up to 160 of them. Cache entry: byte 0 is 2, bases from 20, up to 120 of them.
+-- A molecule block has places for 160 bases, a cache entry for 120.
+abbrev pub blockBases : ℕ
+blockBases = 160
+
+abbrev pub entryBases : ℕ
+entryBases = 120
+
+-- Molecule block: byte 0 is 1, bases from 28. A block handed in as a motif is laid out alike; its letters and its least length are a motif's.
+-- Cache entry: byte 0 is 2, bases from 20. None has bytes of its own.
 abbrev pub moleculeKind : Kind
-moleculeKind = kindOf 1 moleculeSide 28 160
+moleculeKind = kindOf 1 moleculeSide leastMolecule blockBases 2 28
+
+abbrev pub motifKind : Kind
+motifKind = kindOf 1 motifSide leastMotif blockBases 2 28
 
 abbrev pub entryKind : Kind
-entryKind = kindOf 2 motifSide 20 120
+entryKind = kindOf 2 motifSide leastMotif entryBases 2 20
 
 -- The mates follow the places for bases, two bytes each: from 188 and from 140. They end at 508 and at 380.
 abbrev pub matesAt : Kind → ℕ
@@ -50,16 +66,25 @@ isEmpty s = all isZero s
 
 -- ---- decode
 
--- Byte 1 is the length. The strand of a block.
+-- Byte 1 is the length. The kind's own bytes, the mates, and the strand of a block.
 abbrev pub lengthIn : List ℕ → ℕ
 lengthIn s = nth s 1
 
-unfoldable pub strandIn : Kind → List ℕ → Strand
-strandIn k s = record { bases = between (k .start) (k .start + lengthIn s) s; mates = words (lengthIn s) (drop (matesAt k) s) }
+abbrev pub ownIn : Kind → List ℕ → List ℕ
+ownIn k s = between 2 (k .blank) s
 
--- The molecule of a molecule block; the motif of a cache entry, its searched bits and its hit bits.
+abbrev pub matesIn : Kind → List ℕ → List ℕ
+matesIn k s = words (lengthIn s) (drop (matesAt k) s)
+
+unfoldable pub strandIn : Kind → List ℕ → Strand
+strandIn k s = record { bases = between (k .start) (k .start + lengthIn s) s; mates = matesIn k s }
+
+-- The molecule of a molecule block; the motif of a block handed in as one; the motif of a cache entry, its searched bits and its hit bits.
 unfoldable pub moleculeIn : List ℕ → Strand
 moleculeIn s = strandIn moleculeKind s
+
+unfoldable pub motifHandedIn : List ℕ → Strand
+motifHandedIn s = strandIn motifKind s
 
 unfoldable pub motifIn : List ℕ → Strand
 motifIn s = strandIn entryKind s
@@ -80,25 +105,35 @@ keepsMotif s q = not (isEmpty s) && sameStrand (motifIn s) q
 abbrev pub padded : ℕ → List ℕ → List ℕ
 padded n l = l ++ replicate (n - length l) 0
 
--- Byte 0, the length, and zeros up to where the bases begin.
-abbrev pub headOf : ℕ → ℕ → ℕ → List ℕ
-headOf start mark n = mark ∷ n ∷ replicate (start - 2) 0
+-- Byte 0, the length, the kind's own bytes, and zeros up to where the bases begin.
+abbrev pub headOf : ℕ → ℕ → ℕ → List ℕ → List ℕ
+headOf start mark n own = mark ∷ n ∷ padded (start - 2) own
 
 -- The bytes before the maps or the checksum; unused base and mate places are zero.
-unfoldable pub contentOf : Kind → List ℕ → List ℕ → List ℕ
-contentOf k bases mates =
-    headOf (k .start) (k .mark) (length bases) ++ padded (k .most) bases ++ padded (2 * k .most) (bytesOf mates)
+unfoldable pub contentOf : Kind → List ℕ → List ℕ → List ℕ → List ℕ
+contentOf k own bases mates =
+    headOf (k .start) (k .mark) (length bases) own ++ padded (k .most) bases ++ padded (2 * k .most) (bytesOf mates)
 
--- The block of a molecule, and the entry of a motif with its searched and its hit map as 64 bytes each.
+-- The block of a strand; that of a motif with its searched and its hit map as 64 bytes each.
+unfoldable pub strandBlock : Kind → List ℕ → List ℕ → List ℕ → List ℕ
+strandBlock k own bases mates = withChecksum (contentOf k own bases mates)
+
+unfoldable pub entryWith : List ℕ → List ℕ → List ℕ → List ℕ → List ℕ → List ℕ
+entryWith own bases mates searched hits = withChecksum (contentOf entryKind own bases mates ++ searched ++ hits)
+
+-- Molecule block and cache entry, neither with bytes of its own.
 unfoldable pub moleculeBlock : List ℕ → List ℕ → List ℕ
-moleculeBlock bases mates = checked (contentOf moleculeKind bases mates)
+moleculeBlock bases mates = strandBlock moleculeKind [] bases mates
 
 unfoldable pub entryBlock : List ℕ → List ℕ → List ℕ → List ℕ → List ℕ
-entryBlock bases mates searched hits = checked (contentOf entryKind bases mates ++ searched ++ hits)
+entryBlock bases mates searched hits = entryWith [] bases mates searched hits
 
--- The same of strands, with the maps as sets of numbers.
+-- The same of strands, with the maps as sets of numbers; and the block that hands a motif in.
 unfoldable pub encodeMolecule : Strand → List ℕ
 encodeMolecule q = moleculeBlock (q .bases) (q .mates)
+
+unfoldable pub encodeMotif : Strand → List ℕ
+encodeMotif q = strandBlock motifKind [] (q .bases) (q .mates)
 
 unfoldable pub encodeEntry : Strand → (ℕ → Bool) → (ℕ → Bool) → List ℕ
 encodeEntry q searched hits = entryBlock (q .bases) (q .mates) (mapBytes searched) (mapBytes hits)

@@ -1,3 +1,4 @@
+pub mod Checksum
 pub mod Content
 pub mod Block
 pub mod Statements

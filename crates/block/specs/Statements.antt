@@ -1,29 +1,45 @@
--- What is claimed of blocks (01: Blocks): sound blocks for all lists of bytes, decode and encode for all proper strands; `claims`, in proofs/Claims, proves it. Assumes nothing.
+-- What is claimed of blocks (01: Blocks): sound blocks for all lists of bytes, decode and encode for all proper strands; `claims`, in proofs/Claims,
+-- proves it.
 use Prim.Native.Nat.{ℕ, _<_}
 use mathlib.Core.Path.{_≡_}
 use mathlib.Core.Bool.{Bool, true}
 use mathlib.Core.Logic.{_⊎_, _↔_}
 use mathlib.Core.List.{List}
-use Rattle.strand.specs.Strands.{Strand, motifSide, moleculeSide, Proper}
+use Rattle.strand.specs.Strands.{Strand, Proper}
+use Rattle.refusals.specs.Rules.{motifSide, moleculeSide}
+use Rattle.strand.specs.StrandRules.{leastMotif, leastMolecule}
 use Rattle.octets.specs.Numbers.{Bytes}
 use Rattle.octets.specs.Maps.{mapBits, without}
-use Rattle.block.specs.Content.{emptyBlock, moleculeIn, motifIn, searchedIn, hitIn, encodeMolecule, encodeEntry}
-use Rattle.block.specs.Block.{soundMolecule, soundEntry, forgot}
+use Rattle.block.specs.Content.{blockBases, entryBases, emptyBlock, moleculeIn, motifHandedIn, motifIn, searchedIn, hitIn, encodeMolecule}
+use Rattle.block.specs.Content.{encodeMotif, encodeEntry}
+use Rattle.block.specs.Block.{soundMolecule, soundMotif, soundEntry, holdsMotif, forgot}
 
 -- The block holds a proper molecule of 1 to 160 bases, and is its encoding.
 pub record HoldsMolecule (s : List ℕ) (q : Strand) : Type 0 where
-  pub proper : Proper moleculeSide 1 160 (q .bases) (q .mates)
+  pub proper : Proper moleculeSide leastMolecule blockBases (q .bases) (q .mates)
   pub encoded : s ≡ encodeMolecule q
+
+-- The same of a block handed in as a motif.
+pub record HoldsMotif (s : List ℕ) (q : Strand) : Type 0 where
+  pub proper : Proper motifSide leastMotif blockBases (q .bases) (q .mates)
+  pub encoded : s ≡ encodeMotif q
 
 -- The block holds a proper motif of 1 to 120 bases with its searched numbers and its hits, each of them searched, and is their encoding.
 pub record HoldsEntry (s : List ℕ) (q : Strand) (searched hits : ℕ → Bool) : Type 0 where
-  pub proper : Proper motifSide 1 120 (q .bases) (q .mates)
+  pub proper : Proper motifSide leastMotif entryBases (q .bases) (q .mates)
   pub within : (d : ℕ) → d < mapBits → hits d ≡ true → searched d ≡ true
   pub encoded : s ≡ encodeEntry q searched hits
 
 -- A block is sound exactly when it is empty, or is the encoding of what a block of its buffer may hold.
 abbrev pub MoleculeSound : List ℕ → Type 0
 MoleculeSound s = (soundMolecule s ≡ true) ↔ ((s ≡ emptyBlock) ⊎ ((q : Strand) × HoldsMolecule s q))
+
+abbrev pub MotifSound : List ℕ → Type 0
+MotifSound s = (soundMotif s ≡ true) ↔ ((s ≡ emptyBlock) ⊎ ((q : Strand) × HoldsMotif s q))
+
+-- A block hands a motif in exactly when it is the encoding of one.
+abbrev pub MotifHeld : List ℕ → Type 0
+MotifHeld s = (holdsMotif s ≡ true) ↔ ((q : Strand) × HoldsMotif s q)
 
 abbrev pub EntrySound : List ℕ → Type 0
 EntrySound s =
@@ -33,6 +49,9 @@ EntrySound s =
 -- 01, Molecule block: the block gives back its molecule.
 abbrev pub MoleculeBack : Strand → Type 0
 MoleculeBack q = moleculeIn (encodeMolecule q) ≡ q
+
+abbrev pub MotifBack : Strand → Type 0
+MotifBack q = motifHandedIn (encodeMotif q) ≡ q
 
 -- 01, Kept block: the entry gives back its motif, and of each number whether it was searched and whether it is a hit. 01, Remove: with bit d
 -- cleared in both maps it is the entry of the two sets without d.
@@ -45,6 +64,9 @@ pub record EntryBack (q : Strand) (searched hits : ℕ → Bool) : Type 0 where
 -- All the claims.
 pub record Claims : Type 0 where
   pub molecule-sound : (s : List ℕ) → Bytes s → MoleculeSound s
+  pub motif-sound : (s : List ℕ) → Bytes s → MotifSound s
+  pub motif-held : (s : List ℕ) → Bytes s → MotifHeld s
   pub entry-sound : (s : List ℕ) → Bytes s → EntrySound s
-  pub molecule-back : (q : Strand) → Proper moleculeSide 1 160 (q .bases) (q .mates) → MoleculeBack q
-  pub entry-back : (q : Strand) → Proper motifSide 1 120 (q .bases) (q .mates) → (searched hits : ℕ → Bool) → EntryBack q searched hits
+  pub molecule-back : (q : Strand) → Proper moleculeSide leastMolecule blockBases (q .bases) (q .mates) → MoleculeBack q
+  pub motif-back : (q : Strand) → Proper motifSide leastMotif blockBases (q .bases) (q .mates) → MotifBack q
+  pub entry-back : (q : Strand) → Proper motifSide leastMotif entryBases (q .bases) (q .mates) → (searched hits : ℕ → Bool) → EntryBack q searched hits

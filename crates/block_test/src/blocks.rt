@@ -17,7 +17,7 @@ fn sound(kind: usize, s: &[u8]) -> usize {
 fn change(s: &mut [u8], a: usize, b: usize, kind: usize) -> usize {
     set_byte(s, a, b);
     let old = sound(kind, s) % 2;
-    octets::checksum::put_checksum(s);
+    block::checksum::put_checksum(s);
     10 * old + sound(kind, s) % 2
 }
 
@@ -43,11 +43,11 @@ fn of_block(kind: u8, s: &mut [u8], a: usize, b: usize, c: usize) -> usize {
         b'Q' => bits(s, a),
         b'X' => damage(s, a, b, c / 1000),
         b'R' => {
-            octets::checksum::put_checksum(s);
-            octets::checksum::checksum_ok(s) as usize
+            block::checksum::put_checksum(s);
+            block::checksum::checksum_ok(s) as usize
         }
         _ => {
-            buffer::forget(s, a);
+            codec::entry::forget(s, a);
             sound(2, s)
         }
     }
@@ -66,7 +66,7 @@ fn first(kind: u8, image: &mut [u8], a: usize, b: usize, c: usize) -> usize {
     let from = 0;
     let n = block_length(kind, a, b);
     if image.len() < n {
-        return 9;
+        return parts::WRONG;
     }
     of_block(kind, &mut image[from..n], a, b, c)
 }

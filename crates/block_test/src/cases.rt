@@ -76,18 +76,18 @@ fn decoded(s: &[u8], bytes: &mut [u8], end: usize, words: &mut [u16], m: usize) 
     let from = 0;
     let begin = 48;
     if end < begin {
-        return 999;
+        return parts::WRONG;
     }
     if bytes.len() < end {
-        return 999;
+        return parts::WRONG;
     }
     if words.len() < m {
-        return 999;
+        return parts::WRONG;
     }
     codec::molecule::decode_molecule(s, &mut bytes[begin..end], &mut words[from..m])
 }
 
-// `D a b c`: the first block decoded into a bases and b mates of the strand. `d` lends it a byte less than a block.
+// `D a b c`: the first block decoded into a bases and b mates of the strand. `d` gives it a byte less than a block.
 fn decode(image: &[u8], size: usize, bytes: &mut [u8], words: &mut [u16]) -> usize {
     let end = 48 + number(bytes, 2, 5) % 1000;
     let m = number(bytes, 8, 5);

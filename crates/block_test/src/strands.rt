@@ -1,4 +1,5 @@
 // Commands that take the strand and the maps: the parts of `bytes` and `words` that hold them, as long as `words` says.
+use super::parts;
 use testing::input::number;
 use testing::slices::entry_at;
 use testing::slices::first;
@@ -33,7 +34,7 @@ pub fn answer(kind: u8, image: &mut [u8], bytes: &[u8], words: &[u16]) -> usize 
     let from = 0;
     let n = number(bytes, 8, 5);
     if image.len() < n {
-        return 9;
+        return parts::WRONG;
     }
     if kind == b'K' {
         return entry(&mut image[from..n], bytes, words);

@@ -1,5 +1,4 @@
 -- The blocks of a buffer after a call: each block mapped, one block written.
--- Assumes nothing.
 use mathlib.Core.Path.{_≡_, sym, ap, ap₂, _∙_}
 use mathlib.Core.Logic.{⊎-elim}
 use mathlib.Core.List.{List, [], _++_, append-nil, append-assoc}
@@ -9,7 +8,7 @@ use native.Mathlib.Nat.{not-suc-le-zero, le-of-suc-le-suc, eq-or-lt-of-le}
 use native.Mathlib.Decide.{decLt}
 use lib.ListN.{length, take, drop, length-append, length-drop, List·getD-append}
 use lib.Seq.{take-at, drop-at, length-take-le, ext-getD, getD-take, getD-drop, getD-append-add}
-use Rattle.strand.specs.Vocabulary.{nth}
+use Rattle.lists.specs.Vocabulary.{nth}
 use Rattle.block.specs.Block.{blockOf, blockCount}
 use Rattle.buffer.specs.Buffer.{blocksTo, eachBlock, putBlock}
 use Rattle.buffer.proofs.BufferLaws.{length-blocks, blocks-length}

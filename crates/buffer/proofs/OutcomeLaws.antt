@@ -1,5 +1,4 @@
 -- The outcomes of the writers of one block of a buffer: each return of their code, and what a caller whose input fits may cite.
--- Assumes nothing.
 use mathlib.Core.Path.{_≡_, refl, ap, _∙_}
 use mathlib.Core.Bool.{Bool, true, false}
 use mathlib.Core.List.{List, _++_}
@@ -8,7 +7,7 @@ use native.Mathlib.Omega.{arith}
 use borrow.Author.Tests.{lt-ltb, le-ltb}
 use borrow.Rule.Slice.PartMut.{putMid}
 use lib.ListN.{length, take, drop, take-append-drop, replicate}
-use Rattle.strand.specs.Vocabulary.{choose}
+use Rattle.lists.specs.Vocabulary.{choose}
 use Rattle.strand.specs.Strands.{strandOf}
 use Rattle.block.specs.Content.{emptyBlock, moleculeBlock, encodeMolecule}
 use Rattle.block.specs.Block.{blockOf, blockCount}

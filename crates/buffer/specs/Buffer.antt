@@ -1,11 +1,11 @@
--- What the calls do to the blocks of a buffer, and what the writers of one block answer and leave for any input. Assumes nothing.
+-- What the calls do to the blocks of a buffer, and what the writers of one block answer and leave for any input.
 use Prim.Native.Nat.{ℕ, zero, suc, _+_, _*_}
 use mathlib.Core.List.{List, [], _++_}
 use mathlib.Core.Bool.{Bool, _&&_}
 use lib.ListN.{length, take, drop}
 use lib.Dec.{ltb}
 use Rattle.strand.specs.Strands.{Strand}
-use Rattle.octets.specs.Checksum.{blockSize}
+use Rattle.block.specs.Checksum.{blockSize}
 use Rattle.block.specs.Content.{moleculeKind, emptyBlock, encodeMolecule}
 use Rattle.block.specs.Block.{blockOf, blockCount}
 use Rattle.codec.specs.Outcomes.{Wrote, wroteIf, strandFits}

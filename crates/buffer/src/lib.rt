@@ -1,59 +1,35 @@
 // The blocks of a buffer, one after the other.
+use block::layout;
 ghost use mathlib.Core.Path.{_≡_};
 ghost use Rattle.strand.specs.Strands.{strandOf};
 ghost use Rattle.buffer.specs.Buffer.{eachBlock, moleculePut, zeroPut};
 ghost use Rattle.block.specs.Block.{cleaned, forgot};
 ghost use Rattle.codec.specs.Outcomes.{wrote};
 
-// Zero a cache block that is not sound.
-fn clean(s: &mut [u8])
-    ensures { λ _. ⌜ now (s .exit) ≡ cleaned (now (s .entry)) ⌝ }
-{
-    if !block::sound::sound_entry(s) {
-        octets::scan::zero(s);
-    }
-}
-
 // Zero each cache block that is not sound.
 pub fn clean_all(s: &mut [u8])
     ensures { λ _. ⌜ now (s .exit) ≡ eachBlock cleaned (now (s .entry)) ⌝ }
 {
-    let n = s.len() / 512;
+    let n = s.len() / layout::BLOCK_SIZE;
     let mut d = 0;
     while d < n {
-        let a = 512 * d;
-        let e = a + 512;
-        clean(&mut s[a..e]);
+        let a = layout::BLOCK_SIZE * d;
+        let e = a + layout::BLOCK_SIZE;
+        codec::entry::clean(&mut s[a..e]);
         d += 1;
     }
-}
-
-// Take number d out of both maps of a cache entry, whose byte 0 is 2; any other block stays.
-pub fn forget(s: &mut [u8], d: usize)
-    ensures { λ _. ⌜ now (s .exit) ≡ forgot d (now (s .entry)) ⌝ }
-{
-    if s.len() != 512 {
-        return;
-    }
-    let k = s[0];
-    if k != 2 {
-        return;
-    }
-    octets::bits::clear(s, 380, d);
-    octets::bits::clear(s, 444, d);
-    octets::checksum::put_checksum(s);
 }
 
 // Take number d out of each cache entry.
 pub fn forget_all(s: &mut [u8], d: usize)
     ensures { λ _. ⌜ now (s .exit) ≡ eachBlock (forgot d) (now (s .entry)) ⌝ }
 {
-    let n = s.len() / 512;
+    let n = s.len() / layout::BLOCK_SIZE;
     let mut k = 0;
     while k < n {
-        let a = 512 * k;
-        let e = a + 512;
-        forget(&mut s[a..e], d);
+        let a = layout::BLOCK_SIZE * k;
+        let e = a + layout::BLOCK_SIZE;
+        codec::entry::forget(&mut s[a..e], d);
         k += 1;
     }
 }
@@ -62,11 +38,11 @@ pub fn forget_all(s: &mut [u8], d: usize)
 pub fn put_molecule(buf: &mut [u8], d: usize, bases: &[u8], mates: &[u16]) -> bool
     ensures { λ r. ⌜ wrote r (now (buf .exit)) ≡ moleculePut d (strandOf (now (bases .entry)) (now (mates .entry))) (now (buf .entry)) ⌝ }
 {
-    if buf.len() / 512 <= d {
+    if buf.len() / layout::BLOCK_SIZE <= d {
         return false;
     }
-    let a = 512 * d;
-    let e = a + 512;
+    let a = layout::BLOCK_SIZE * d;
+    let e = a + layout::BLOCK_SIZE;
     codec::molecule::encode_molecule(&mut buf[a..e], bases, mates)
 }
 
@@ -74,11 +50,11 @@ pub fn put_molecule(buf: &mut [u8], d: usize, bases: &[u8], mates: &[u16]) -> bo
 pub fn zero_at(buf: &mut [u8], d: usize) -> bool
     ensures { λ r. ⌜ wrote r (now (buf .exit)) ≡ zeroPut d (now (buf .entry)) ⌝ }
 {
-    if buf.len() / 512 <= d {
+    if buf.len() / layout::BLOCK_SIZE <= d {
         return false;
     }
-    let a = 512 * d;
-    let e = a + 512;
+    let a = layout::BLOCK_SIZE * d;
+    let e = a + layout::BLOCK_SIZE;
     octets::scan::zero(&mut buf[a..e]);
     true
 }

@@ -1,26 +1,27 @@
 -- What the catalog and its histories take from crate block: laws of empty blocks, of encoded molecules and of cache entries,
--- with the rows of a molecule or a motif in place of the facts that they give. Assumes nothing.
+-- with the rules of a molecule or a motif in place of the facts that they give.
 use Prim.Native.Nat.{ℕ, _<_}
 use mathlib.Core.Path.{_≡_, sym, _∙_, ap}
 use mathlib.Core.Bool.{Bool, true, false}
 use mathlib.Core.List.{List}
 use lib.ListN.{length, replicate}
-use Rattle.strand.specs.Strands.{Strand, motifSide, moleculeSide, Proper}
-use Rattle.strand.specs.Refusals.{leastLength}
+use Rattle.strand.specs.Strands.{Strand, sameStrand, Proper}
+use Rattle.refusals.specs.Rules.{motifSide, moleculeSide}
+use Rattle.strand.specs.StrandRules.{leastMotif, leastMolecule}
 use Rattle.strand.proofs.VerdictLaws.{accepted-proper}
-use Rattle.octets.specs.Checksum.{blockSize}
+use Rattle.block.specs.Checksum.{blockSize}
 use Rattle.block.specs.Block.{soundMolecule, soundEntry, cleaned, forgot}
 use Rattle.octets.specs.Maps.{without}
-use Rattle.block.specs.Content.{emptyBlock, isEmpty, moleculeIn, encodeMolecule, encodeEntry, motifIn, searchedIn, hitIn}
-use Rattle.strand.specs.declared.Verdict.the-variants.{Accepted}
+use Rattle.block.specs.Content.{emptyBlock, isEmpty, moleculeIn, encodeMolecule, encodeEntry, motifIn, searchedIn, hitIn, keepsMotif}
+use Rattle.refusals.specs.declared.Verdict.the-variants.{Accepted}
 use Rattle.block.proofs.ContentLaws as law
-pub use Rattle.block.proofs.ContentLaws.{empty-length, empty-empty, empty-molecule, empty-entry, empty-forgot, entry-changed}
+pub use Rattle.block.proofs.ContentLaws.{empty-length, empty-empty, empty-molecule, empty-entry, empty-forgot, entry-changed, molecule-first}
 use Rattle.calls.specs.Limits.{mostMoleculeBases, mostMotifBases, mostCatalogBlocks, moleculeVerdict, motifVerdict}
 
 module _ (q : Strand) (ok : moleculeVerdict q ≡ Accepted) where
-  good : Proper moleculeSide leastLength mostMoleculeBases (q .bases) (q .mates)
+  good : Proper moleculeSide leastMolecule mostMoleculeBases (q .bases) (q .mates)
   unfolding moleculeVerdict
-  good = accepted-proper moleculeSide leastLength mostMoleculeBases (q .bases) (q .mates) ok
+  good = accepted-proper moleculeSide leastMolecule mostMoleculeBases (q .bases) (q .mates) ok
 
   pub molecule-length : length (encodeMolecule q) ≡ blockSize
   molecule-length = law.molecule-length q good
@@ -35,9 +36,9 @@ module _ (q : Strand) (ok : moleculeVerdict q ≡ Accepted) where
   molecule-full = law.molecule-full q good
 
 module _ (p : Strand) (ok : motifVerdict p ≡ Accepted) (searched hits : ℕ → Bool) where
-  good′ : Proper motifSide leastLength mostMotifBases (p .bases) (p .mates)
+  good′ : Proper motifSide leastMotif mostMotifBases (p .bases) (p .mates)
   unfolding motifVerdict
-  good′ = accepted-proper motifSide leastLength mostMotifBases (p .bases) (p .mates) ok
+  good′ = accepted-proper motifSide leastMotif mostMotifBases (p .bases) (p .mates) ok
 
   pub entry-length : length (encodeEntry p searched hits) ≡ blockSize
   entry-length = law.entry-length p good′ searched hits
@@ -59,6 +60,14 @@ module _ (p : Strand) (ok : motifVerdict p ≡ Accepted) (searched hits : ℕ �
 
   pub entry-forgot : (d : ℕ) → d < mostCatalogBlocks → forgot d (encodeEntry p searched hits) ≡ encodeEntry p (without d searched) (without d hits)
   entry-forgot = law.entry-forgot p good′ searched hits
+
+  pub entry-keeps : (q : Strand) → keepsMotif (encodeEntry p searched hits) q ≡ sameStrand p q
+  unfolding keepsMotif
+  entry-keeps q = rw (entry-full, entry-motif)
+
+pub empty-keeps : (q : Strand) → keepsMotif emptyBlock q ≡ false
+unfolding keepsMotif
+empty-keeps q = rw empty-empty
 
 -- A sound block stays when the cache is cleaned; an unsound one becomes empty.
 pub sound-clean : (b : List ℕ) → soundEntry b ≡ true → cleaned b ≡ b

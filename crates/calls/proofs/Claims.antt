@@ -1,4 +1,4 @@
--- The claims about add, remove and query for all inputs and all contents of the buffers. Assumes nothing.
+-- The claims about add, remove and query for all inputs and all contents of the buffers.
 use Prim.Native.Nat.{ℕ, _+_, _*_, _/_, _%_, _<_}
 use native.Mathlib.Omega.{arith}
 use native.Mathlib.Nat.{mod-lt}
@@ -11,11 +11,12 @@ use lib.Dec.{ltb, eqb}
 use lib.ListN.{length, drop, getD-replicate}
 use lib.Seq.{take-at, drop-at}
 use borrow.Author.Tests.{eq-eqb, lt-ltb}
-use Rattle.strand.specs.Vocabulary.{choose, select}
-use Rattle.strand.specs.Strands.{Strand, key, sameStrand, motifSide, Proper}
-use Rattle.strand.specs.Refusals.{leastLength}
-use Rattle.strand.proofs.ListLaws.{and-true, by-bool, same-refl}
-use Rattle.octets.specs.Checksum.{blockSize}
+use Rattle.lists.specs.Vocabulary.{select}
+use Rattle.strand.specs.Strands.{Strand, key, sameStrand, Proper}
+use Rattle.refusals.specs.Rules.{motifSide}
+use Rattle.strand.specs.StrandRules.{leastMotif}
+use Rattle.lists.proofs.ListLaws.{and-true, by-bool, same-refl, choose-yes, choose-no}
+use Rattle.block.specs.Checksum.{blockSize}
 use Rattle.octets.specs.Maps.{without}
 use Rattle.octets.specs.Bits.{mapBit}
 use Rattle.octets.specs.Numbers.{Bytes}
@@ -23,17 +24,22 @@ use Rattle.octets.proofs.ByteLaws.{small-zeros, small-between}
 use Rattle.octets.proofs.BitLaws.{zero-bit}
 use Rattle.block.specs.Block.{blockOf, soundMolecule, soundEntry, cleaned, forgot, blockCount}
 use Rattle.buffer.specs.Buffer.{eachBlock, putBlock}
-use Rattle.block.specs.Content.{searchedAt, hitAt, emptyBlock, isEmpty, moleculeIn, motifIn, searchedIn, hitIn, keepsMotif, encodeMolecule, encodeEntry}
+use Rattle.block.specs.Content.{searchedAt, hitAt, emptyBlock, isEmpty, moleculeIn, motifIn, searchedIn, hitIn, keepsMotif, encodeMolecule}
+use Rattle.block.specs.Content.{encodeEntry}
 use Rattle.buffer.proofs.BlockLaws.{length-block, length-put, block-put, block-other}
 use Rattle.block.proofs.ContentLaws as law
-use Rattle.strand.specs.declared.Refusal.{Refusal}
-use Rattle.strand.specs.declared.Verdict.the-variants.{Accepted, Refused}
-use Rattle.calls.specs.declared.Updated.the-variants.{Refused as NotUpdated}
+use Rattle.refusals.specs.declared.Verdict.the-variants.{Accepted, Refused}
+use Rattle.refusals.specs.declared.Refusal.{Refusal}
+use Rattle.refusals.proofs.RuleLaws.{by-accepted, by-refused}
+use Rattle.calls.specs.declared.Added.the-variants.{Refused as NotAdded}
+use Rattle.calls.specs.declared.Removed.the-variants.{Refused as NotRemoved}
 use Rattle.calls.specs.declared.Queried.the-variants.{Refused as NotQueried}
 use Rattle.calls.specs.Limits.{mostCatalogBlocks, mostMotifBases}
 use Rattle.calls.specs.Buffers.{held, moleculeAt, slotOf, cleanCache}
-use Rattle.calls.specs.Calls.{updated, updateUnless, addVerdict, addOutcome, removeVerdict, removeOutcome, queried, queryUnless, queryVerdict, isKnown, toSearch, isHit, queryAccepted, queryOutcome}
-use Rattle.calls.specs.Statements.{AllSound, OnlyAt, Added, Removed, Answered, slotIn, entryFor, Claims}
+use Rattle.calls.specs.Calls.{effect, addVerdict, addOutcome, removeVerdict, removeOutcome, queried, queryVerdict, isKnown, toSearch, isHit}
+use Rattle.calls.specs.Calls.{queryAccepted, queryOutcome}
+use Rattle.calls.specs.Results.{found, queryResult}
+use Rattle.calls.specs.Statements.{AllSound, OnlyAt, AddLeaves, RemoveLeaves, QueryLeaves, slotIn, entryFor, Claims}
 use Rattle.calls.proofs.BlockUse as leaf
 use Rattle.calls.proofs.ReadingLaws as read
 use Rattle.calls.proofs.FactLaws.{Sized, add-facts, remove-facts, query-facts}
@@ -74,15 +80,15 @@ module _ (cache : List ℕ) (n : ℕ) (len : length cache ≡ blockSize * n) whe
 -- Add
 
 module _ (catalog cache : List ℕ) (d : ℕ) (q : Strand) (e : addVerdict catalog cache d q ≡ Accepted) where
-  add-accepted : Added catalog cache d q (addOutcome catalog cache d q)
-  unfolding addOutcome updateUnless
+  pub add-accepted : AddLeaves catalog cache d q (addOutcome catalog cache d q)
+  unfolding addOutcome
   add-accepted =
       let f = add-facts catalog cache d q e in
       let z = f .2 in
       let lb = law.molecule-length q (f .1) in
       let only = put-only catalog (blockCount catalog) (z .filled) d (f .0) (encodeMolecule q) lb in
       let at = put-at catalog (blockCount catalog) (z .filled) d (f .0) (encodeMolecule q) lb in
-      rw e (record {
+      rw (by-accepted (addVerdict catalog cache d q) _ _ e) (record {
         answer = refl;
         block-sound = ap soundMolecule at ∙ law.molecule-sound q (f .1);
         is-held = held-yes _ d (omega (arith, f .0, only .size)) (ap isEmpty at ∙ law.molecule-full q (f .1));
@@ -90,7 +96,10 @@ module _ (catalog cache : List ℕ) (d : ℕ) (q : Strand) (e : addVerdict catal
         only = only;
         cache-sound = clean-all cache (blockCount cache) (z .whole);
         cache-each =
-            record { size = read.clean-length cache (blockCount cache) (z .whole) ∙ sym (z .whole); each = read.clean-block cache (blockCount cache) (z .whole) };
+            record {
+              size = read.clean-length cache (blockCount cache) (z .whole) ∙ sym (z .whole);
+              each = read.clean-block cache (blockCount cache) (z .whole);
+            };
       })
 
 -- Remove
@@ -154,19 +163,21 @@ module _ (catalog cache : List ℕ) (d : ℕ) (e : removeVerdict catalog cache d
   remove-each P holds small s l =
       let f = remove-facts catalog cache d e in
       let len = f .1 .whole in
-      let k : s < blockCount cache = omega (arith, read.count-is (eachBlock (forgot d) (cleanCache cache)) (blockCount cache) (read.forgot-length cache (blockCount cache) len d)) in
+      let count = read.count-is (eachBlock (forgot d) (cleanCache cache)) (blockCount cache) (read.forgot-length cache (blockCount cache) len d) in
+      let k : s < blockCount cache = omega (arith, count) in
       let n : length (blockOf s cache) ≡ blockSize = length-block s cache (omega arith) in
       let i : d < mostCatalogBlocks = omega (arith, f .0, f .1 .most) in
       rw (read.forgot-block cache (blockCount cache) len d s k)
-      (holds (cleaned (blockOf s cache)) (read.cleaned-sound (blockOf s cache) n) (clean-bytes (blockOf s cache) n (small-between (blockSize * s) (blockSize * s + blockSize) cache small)) i)
+      (holds (cleaned (blockOf s cache)) (read.cleaned-sound (blockOf s cache) n)
+      (clean-bytes (blockOf s cache) n (small-between (blockSize * s) (blockSize * s + blockSize) cache small)) i)
 
-  remove-accepted : Removed catalog cache d (removeOutcome catalog cache d)
-  unfolding removeOutcome updateUnless
+  pub remove-accepted : RemoveLeaves catalog cache d (removeOutcome catalog cache d)
+  unfolding removeOutcome
   remove-accepted =
       let f = remove-facts catalog cache d e in
       let z = f .1 in
       let at = put-at catalog (blockCount catalog) (z .filled) d (f .0) emptyBlock leaf.empty-length in
-      rw e (record {
+      rw (by-accepted (removeVerdict catalog cache d) _ _ e) (record {
         answer = refl;
         block-empty = at;
         not-held = held-no _ d (ap isEmpty at ∙ leaf.empty-empty);
@@ -174,33 +185,45 @@ module _ (catalog cache : List ℕ) (d : ℕ) (e : removeVerdict catalog cache d
         cache-forgets = remove-each (λ b. (searchedIn b d ≡ false) × (hitIn b d ≡ false)) (λ b ok bs l. forgot-bits b d ok bs l);
         cache-sound = remove-each (λ b. soundEntry b ≡ true) (λ b ok bs l. forgot-sound b d ok bs l);
         cache-each =
-            record { size = read.forgot-length cache (blockCount cache) (z .whole) d ∙ sym (z .whole); each = read.forgot-block cache (blockCount cache) (z .whole) d };
+            record {
+              size = read.forgot-length cache (blockCount cache) (z .whole) d ∙ sym (z .whole);
+              each = read.forgot-block cache (blockCount cache) (z .whole) d;
+            };
       })
 
 -- Query
 
-module _ (p : Strand) (good : Proper motifSide leastLength mostMotifBases (p .bases) (p .mates)) (searched hits : ℕ → Bool) where
+module _ (p : Strand) (good : Proper motifSide leastMotif mostMotifBases (p .bases) (p .mates)) (searched hits : ℕ → Bool) where
   entry-keeps : keepsMotif (encodeEntry p searched hits) p ≡ true
   unfolding keepsMotif sameStrand
   entry-keeps = rw (law.entry-full p good searched hits, law.entry-motif p good searched hits, same-refl (p .bases), same-refl (p .mates))
 
 module _ (embeds : Strand → Strand → Bool) where
+  pub hit-known : (catalog entry : List ℕ) (p : Strand) (d : ℕ) → isKnown entry p d ≡ true → isHit embeds catalog entry p d ≡ (held catalog d && hitIn entry d)
+  unfolding isHit
+  hit-known catalog entry p d e = ap (λ (t : Bool). held catalog d && t) (choose-yes (isKnown entry p d) (hitIn entry d) (embeds p (moleculeAt catalog d)) e)
+
+  pub hit-unknown : (catalog entry : List ℕ) (p : Strand) (d : ℕ) → isKnown entry p d ≡ false
+      → isHit embeds catalog entry p d ≡ (held catalog d && embeds p (moleculeAt catalog d))
+  unfolding isHit
+  hit-unknown catalog entry p d e = ap (λ (t : Bool). held catalog d && t) (choose-no (isKnown entry p d) (hitIn entry d) (embeds p (moleculeAt catalog d)) e)
+
   hit-held : (catalog entry : List ℕ) (p : Strand) (d : ℕ) → isHit embeds catalog entry p d ≡ true → held catalog d ≡ true
   unfolding isHit
   hit-held catalog entry p d e = and-true (held catalog d) _ e .0
 
   other-motif : (catalog entry : List ℕ) (p : Strand) → keepsMotif entry p ≡ false → (d : ℕ)
       → (isHit embeds catalog entry p d ≡ (held catalog d && embeds p (moleculeAt catalog d))) × (toSearch catalog entry p d ≡ held catalog d)
-  unfolding isHit toSearch isKnown choose
+  unfolding toSearch isKnown
   other-motif catalog entry p e d = (
-    ap (λ (t : Bool). held catalog d && choose (t && searchedIn entry d) (hitIn entry d) (embeds p (moleculeAt catalog d))) e,
+    hit-unknown catalog entry p d (unfold isKnown in (rw e)),
     ap (λ (t : Bool). held catalog d && not (t && searchedIn entry d)) e ∙ and-true-right (held catalog d),
   )
 
   same-motif : (catalog entry : List ℕ) (p : Strand) (d : ℕ) → keepsMotif entry p ≡ true → searchedIn entry d ≡ true
       → (isHit embeds catalog entry p d ≡ (held catalog d && hitIn entry d)) × (toSearch catalog entry p d ≡ false)
-  unfolding isHit toSearch isKnown choose
-  same-motif catalog entry p d e h = (rw (e, h), rw (e, h) (and-false (held catalog d)))
+  unfolding toSearch isKnown
+  same-motif catalog entry p d e h = (hit-known catalog entry p d (unfold isKnown in (rw (e, h))), rw (e, h) (and-false (held catalog d)))
 
   module _ (catalog cache : List ℕ) (p : Strand) (work : ℕ) (hits : List ℕ) (e : queryVerdict catalog cache p work (length hits) ≡ Accepted) where
     abbrev hit : ℕ → Bool
@@ -215,7 +238,7 @@ module _ (embeds : Strand → Strand → Bool) where
     sizes : Sized catalog cache
     sizes = query-facts catalog cache p work (length hits) e .0
 
-    good : Proper motifSide leastLength mostMotifBases (p .bases) (p .mates)
+    good : Proper motifSide leastMotif mostMotifBases (p .bases) (p .mates)
     good = query-facts catalog cache p work (length hits) e .1
 
     slot-below : slotIn cache p < blockCount cache
@@ -239,14 +262,16 @@ module _ (embeds : Strand → Strand → Bool) where
           | no q ↦ rw (only (held catalog) hit .others s (omega (arith, clean-length)) q) (clean-sound cache (blockCount cache) (sizes .whole) s k)
         ]
 
-    query-accepted : Answered catalog cache (slotIn cache p) p hits hit (toSearch catalog (entryFor cache p) p) (queryOutcome embeds catalog cache p work hits)
-    unfolding queryOutcome queryUnless queryAccepted
+    pub query-accepted : QueryLeaves catalog cache (slotIn cache p) p hits hit
+        (toSearch catalog (entryFor cache p) p) (queryOutcome embeds catalog cache p work hits)
+    unfolding queryOutcome queryAccepted
     query-accepted =
-        rw e (record {
+        rw (by-accepted (queryVerdict catalog cache p work (length hits)) _ _ e) (record {
           answer = refl;
           listed = take-at list (drop (length list) hits) (length list) refl;
           later = drop-at list (drop (length list) hits) (length list) refl;
           only = only _ _;
+          entry = at _ _;
           keeps = ap (λ (b : List ℕ). keepsMotif b p) (at _ _) ∙ entry-keeps p good _ _;
           searched = λ d l. ap (λ (b : List ℕ). searchedIn b d) (at _ _) ∙ law.entry-searched p good _ _ d l;
           hit-bits = λ d l. ap (λ (b : List ℕ). hitIn b d) (at _ _) ∙ law.entry-hit p good _ _ d l;
@@ -256,19 +281,32 @@ module _ (embeds : Strand → Strand → Bool) where
 -- Refused calls
 
 pub add-refused : (catalog cache : List ℕ) (d : ℕ) (q : Strand) (r : Refusal) → addVerdict catalog cache d q ≡ Refused r
-    → addOutcome catalog cache d q ≡ updated (NotUpdated r) catalog cache
-unfolding addOutcome updateUnless
-add-refused catalog cache d q r e = rw e
+    → addOutcome catalog cache d q ≡ effect (NotAdded r) catalog cache
+unfolding addOutcome
+add-refused catalog cache d q r e = by-refused (addVerdict catalog cache d q) _ _ r e
 
 pub remove-refused : (catalog cache : List ℕ) (d : ℕ) (r : Refusal) → removeVerdict catalog cache d ≡ Refused r
-    → removeOutcome catalog cache d ≡ updated (NotUpdated r) catalog cache
-unfolding removeOutcome updateUnless
-remove-refused catalog cache d r e = rw e
+    → removeOutcome catalog cache d ≡ effect (NotRemoved r) catalog cache
+unfolding removeOutcome
+remove-refused catalog cache d r e = by-refused (removeVerdict catalog cache d) _ _ r e
 
 pub query-refused : (embeds : Strand → Strand → Bool) (catalog cache : List ℕ) (p : Strand) (work : ℕ) (hits : List ℕ) (r : Refusal)
     → queryVerdict catalog cache p work (length hits) ≡ Refused r → queryOutcome embeds catalog cache p work hits ≡ queried (NotQueried r) cache hits
-unfolding queryOutcome queryUnless
-query-refused embeds catalog cache p work hits r e = rw e
+unfolding queryOutcome
+query-refused embeds catalog cache p work hits r e = by-refused (queryVerdict catalog cache p work (length hits)) _ _ r e
+
+-- What an accepted query comes to.
+pub query-found : (embeds : Strand → Strand → Bool) (catalog cache : List ℕ) (p : Strand) (work : ℕ) (hits : List ℕ)
+    → queryVerdict catalog cache p work (length hits) ≡ Accepted
+    → queryResult (queryOutcome embeds catalog cache p work hits .answer) (queryOutcome embeds catalog cache p work hits .hits)
+    ≡ found
+    (length (select (blockCount catalog) (isHit embeds catalog (entryFor cache p) p)))
+    (select (blockCount catalog) (isHit embeds catalog (entryFor cache p) p))
+    (length (select (blockCount catalog) (toSearch catalog (entryFor cache p) p)))
+unfolding queryResult
+query-found embeds catalog cache p work hits e =
+    let new = query-accepted embeds catalog cache p work hits e in
+    rw (new .answer, new .listed)
 
 pub claims : (embeds : Strand → Strand → Bool) → Claims embeds
 claims embeds =

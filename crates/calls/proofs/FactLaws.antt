@@ -1,56 +1,60 @@
--- What is known of a call that its rows let pass. Assumes nothing.
+-- What is known of a call that its rules let pass.
 use mathlib.Core.Path.{_≡_}
 use mathlib.Core.Bool.{true, false, not, _&&_}
 use mathlib.Core.List.{List, []}
-use Prim.Native.Nat.{ℕ, _+_, _*_, _%_, _<_, _≤_}
+use Prim.Native.Nat.{ℕ, _*_, _%_, _<_, _≤_}
 use native.Mathlib.Omega.{arith}
 use lib.ListN.{length}
 use lib.Dec.{eqb, ltb, leb}
 use borrow.Author.Tests.{eqb-true, leb-true, leb-false, ltb-false, ltb-true}
-use Rattle.strand.specs.Strands.{Strand, motifSide, moleculeSide, Proper}
-use Rattle.strand.specs.Refusals.{leastLength, refuseIf, refuseAtLowest, strandVerdict}
-use Rattle.strand.proofs.ListLaws.{and-true, not-not, true-not}
-use Rattle.strand.proofs.VerdictLaws.{first-pass, row-pass, row-at-pass, accepted-proper}
-use Rattle.rows.specs.Rows.{workSize}
+use Rattle.strand.specs.Strands.{Strand, Proper}
+use Rattle.refusals.specs.Rules.{motifSide, moleculeSide, noSide, wrongSlice, notWholeBlocks, unsoundBlock, numberTooLarge, alreadyHeld, workTooShort}
+use Rattle.refusals.specs.Rules.{refuseIf, refuseAtLowest}
+use Rattle.strand.specs.StrandRules.{leastMotif, leastMolecule, strandVerdict}
+use Rattle.lists.proofs.ListLaws.{and-true, not-not, true-not}
+use Rattle.refusals.proofs.RuleLaws.{first-pass, rule-pass, rule-at-pass}
+use Rattle.strand.proofs.VerdictLaws.{accepted-proper}
+use Rattle.refusals.specs.Work.{workSize}
+use Rattle.block.specs.Checksum.{blockSize}
 use Rattle.block.specs.Block.{soundMolecule, blockOf, blockCount}
 use Rattle.block.specs.Content.{isEmpty}
-use Rattle.strand.specs.declared.Verdict.the-variants.{Accepted}
-use Rattle.calls.specs.Limits.{mostCatalogBlocks, mostMoleculeBases, mostMotifBases, moleculeVerdict, motifVerdict, workVerdict}
+use Rattle.refusals.specs.declared.Verdict.the-variants.{Accepted}
+use Rattle.calls.specs.Limits.{mostCatalogBlocks, mostCacheBlocks, mostMoleculeBases, mostMotifBases, moleculeVerdict, motifVerdict, workVerdict}
 use Rattle.calls.specs.Buffers.{isWhole, areWhole, unsoundAt, held, buffersVerdict}
 use Rattle.calls.specs.Calls.{addVerdict, removeVerdict, queryVerdict}
 
-whole-facts : (most : ℕ) (s : List ℕ) → isWhole most s ≡ true → (length s ≡ 512 * blockCount s) × (1 ≤ blockCount s) × (blockCount s ≤ most)
+whole-facts : (most : ℕ) (s : List ℕ) → isWhole most s ≡ true → (length s ≡ blockSize * blockCount s) × (1 ≤ blockCount s) × (blockCount s ≤ most)
 unfolding isWhole
 whole-facts most s e =
     let x = and-true _ (leb (blockCount s) most) e in
-    let y = and-true (eqb (length s % 512) 0) (leb 1 (blockCount s)) (x .0) in
-    let z : length s % 512 ≡ 0 = eqb-true _ 0 (y .0) in
+    let y = and-true (eqb (length s % blockSize) 0) (leb 1 (blockCount s)) (x .0) in
+    let z : length s % blockSize ≡ 0 = eqb-true _ 0 (y .0) in
     (omega arith, leb-true 1 _ (y .1), leb-true _ most (x .1))
 
 sound-block : (cat : List ℕ) (d : ℕ) → unsoundAt cat d ≡ false → soundMolecule (blockOf d cat) ≡ true
 unfolding unsoundAt
 sound-block cat d e = not-not _ e
 
--- Buffers that rows 10 and 11 let pass.
+-- Buffers that rules 10 and 11 let pass.
 pub record Sized (cat cache : List ℕ) : Type 0 where
-  pub filled : length cat ≡ 512 * blockCount cat
+  pub filled : length cat ≡ blockSize * blockCount cat
   pub most : blockCount cat ≤ mostCatalogBlocks
-  pub whole : length cache ≡ 512 * blockCount cache
+  pub whole : length cache ≡ blockSize * blockCount cache
   pub slots : 1 ≤ blockCount cache
   pub blocks : (d : ℕ) → d < blockCount cat → soundMolecule (blockOf d cat) ≡ true
 
 pub sized : (cat cache : List ℕ) → buffersVerdict cat cache ≡ Accepted → Sized cat cache
 unfolding buffersVerdict areWhole
 sized cat cache e =
-    let a = first-pass (refuseIf 10 2 (not (isWhole 512 cat && isWhole 64 cache))) _ e in
-    let b = first-pass (refuseAtLowest 11 2 (blockCount cat) (unsoundAt cat)) [] (a .1) in
-    let w = and-true (isWhole 512 cat) (isWhole 64 cache) (not-not _ (row-pass 10 2 _ (a .0))) in
+    let a = first-pass (refuseIf notWholeBlocks noSide (not (isWhole mostCatalogBlocks cat && isWhole mostCacheBlocks cache))) _ e in
+    let b = first-pass (refuseAtLowest unsoundBlock noSide (blockCount cat) (unsoundAt cat)) [] (a .1) in
+    let w = and-true (isWhole mostCatalogBlocks cat) (isWhole mostCacheBlocks cache) (not-not _ (rule-pass notWholeBlocks noSide _ (a .0))) in
     record {
-      filled = whole-facts 512 cat (w .0) .0;
-      most = whole-facts 512 cat (w .0) .2;
-      whole = whole-facts 64 cache (w .1) .0;
-      slots = whole-facts 64 cache (w .1) .1;
-      blocks = λ d l. sound-block cat d (row-at-pass 11 2 (blockCount cat) (unsoundAt cat) (b .0) d l);
+      filled = whole-facts mostCatalogBlocks cat (w .0) .0;
+      most = whole-facts mostCatalogBlocks cat (w .0) .2;
+      whole = whole-facts mostCacheBlocks cache (w .1) .0;
+      slots = whole-facts mostCacheBlocks cache (w .1) .1;
+      blocks = λ d l. sound-block cat d (rule-at-pass unsoundBlock noSide (blockCount cat) (unsoundAt cat) (b .0) d l);
     }
 
 pub held-facts : (cat : List ℕ) (d : ℕ) → held cat d ≡ true → (d < blockCount cat) × (isEmpty (blockOf d cat) ≡ false)
@@ -61,29 +65,36 @@ held-facts cat d e =
 
 module _ (cat cache : List ℕ) (d : ℕ) where
   pub add-facts : (q : Strand) → addVerdict cat cache d q ≡ Accepted
-      → (d < blockCount cat) × Proper moleculeSide leastLength mostMoleculeBases (q .bases) (q .mates) × Sized cat cache
+      → (d < blockCount cat) × Proper moleculeSide leastMolecule mostMoleculeBases (q .bases) (q .mates) × Sized cat cache
   unfolding addVerdict moleculeVerdict
   add-facts q e =
       let a = first-pass (buffersVerdict cat cache) _ e in
-      let b = first-pass (refuseIf 12 2 (leb (blockCount cat) d)) _ (a .1) in
-      let c = first-pass (refuseIf 13 2 (held cat d)) _ (b .1) in
-      let f = first-pass (strandVerdict 1 1 160 (q .bases) (q .mates)) [] (c .1) in
-      (leb-false _ d (row-pass 12 2 _ (b .0)), accepted-proper 1 1 160 (q .bases) (q .mates) (f .0), sized cat cache (a .0))
+      let b = first-pass (refuseIf numberTooLarge noSide (leb (blockCount cat) d)) _ (a .1) in
+      let c = first-pass (refuseIf alreadyHeld noSide (held cat d)) _ (b .1) in
+      let f = first-pass (strandVerdict moleculeSide leastMolecule mostMoleculeBases (q .bases) (q .mates)) [] (c .1) in (
+        leb-false _ d (rule-pass numberTooLarge noSide _ (b .0)),
+        accepted-proper moleculeSide leastMolecule mostMoleculeBases (q .bases) (q .mates) (f .0),
+        sized cat cache (a .0),
+      )
 
   pub remove-facts : removeVerdict cat cache d ≡ Accepted → (d < blockCount cat) × Sized cat cache
   unfolding removeVerdict
   remove-facts e =
       let a = first-pass (buffersVerdict cat cache) _ e in
-      let b = first-pass (refuseIf 12 2 (leb (blockCount cat) d)) _ (a .1) in
-      (leb-false _ d (row-pass 12 2 _ (b .0)), sized cat cache (a .0))
+      let b = first-pass (refuseIf numberTooLarge noSide (leb (blockCount cat) d)) _ (a .1) in
+      (leb-false _ d (rule-pass numberTooLarge noSide _ (b .0)), sized cat cache (a .0))
 
 pub query-facts : (cat cache : List ℕ) (p : Strand) (work room : ℕ) → queryVerdict cat cache p work room ≡ Accepted
-    → Sized cat cache × Proper motifSide leastLength mostMotifBases (p .bases) (p .mates) × (workSize (length (p .bases)) mostMoleculeBases ≤ work)
+    → Sized cat cache × Proper motifSide leastMotif mostMotifBases (p .bases) (p .mates) × (workSize (length (p .bases)) mostMoleculeBases ≤ work)
     × (blockCount cat ≤ room)
 unfolding queryVerdict motifVerdict workVerdict
 query-facts cat cache p work room e =
     let a = first-pass (buffersVerdict cat cache) _ e in
-    let b = first-pass (strandVerdict 0 1 120 (p .bases) (p .mates)) _ (a .1) in
-    let c = first-pass (refuseIf 9 2 (ltb room (blockCount cat))) _ (b .1) in
-    let f = first-pass (refuseIf 8 2 (ltb work (64 * (length (p .bases) + 1) + 8 * 160))) [] (c .1) in
-    (sized cat cache (a .0), accepted-proper 0 1 120 (p .bases) (p .mates) (b .0), ltb-false work _ (row-pass 8 2 _ (f .0)), ltb-false room _ (row-pass 9 2 _ (c .0)))
+    let b = first-pass (strandVerdict motifSide leastMotif mostMotifBases (p .bases) (p .mates)) _ (a .1) in
+    let c = first-pass (refuseIf wrongSlice noSide (ltb room (blockCount cat))) _ (b .1) in
+    let f = first-pass (refuseIf workTooShort noSide (ltb work (workSize (length (p .bases)) mostMoleculeBases))) [] (c .1) in (
+      sized cat cache (a .0),
+      accepted-proper motifSide leastMotif mostMotifBases (p .bases) (p .mates) (b .0),
+      ltb-false work _ (rule-pass workTooShort noSide _ (f .0)),
+      ltb-false room _ (rule-pass wrongSlice noSide _ (c .0)),
+    )

@@ -2,3 +2,8 @@ pub mod BlockUse
 pub mod ReadingLaws
 pub mod FactLaws
 pub mod Claims
+pub mod CallLaws
+pub mod JudgeLaws
+pub mod ResultLaws
+pub mod HoldingLaws
+pub mod Stores

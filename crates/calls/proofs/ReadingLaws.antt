@@ -1,27 +1,27 @@
 -- What the calls read of catalog and cache after a block of the catalog is written, and after each block of the cache is cleaned.
--- Assumes nothing.
-use Prim.Native.Nat.{ℕ, _+_, _*_, _%_, _<_, _≤_}
+use Prim.Native.Nat.{ℕ, _+_, _*_, _-_, _%_, _<_, _≤_}
 use native.Mathlib.Omega.{arith}
-use native.Mathlib.Decide.{ℕ-discrete}
+use native.Mathlib.Decide.{ℕ-discrete, decLt}
 use mathlib.Core.Path.{_≡_, refl, sym, _∙_, ap}
-use mathlib.Core.Bool.{Bool, true, false, not, _&&_}
+use mathlib.Core.Bool.{Bool, true, false, _&&_}
 use mathlib.Core.Logic.{⊎-elim}
 use mathlib.Core.List.{List}
 use lib.Dec.{leb, eqb}
-use lib.ListN.{length}
-use borrow.Author.Tests.{eq-eqb, ne-eqb, lt-ltb}
-use Rattle.strand.specs.Vocabulary.{choose}
-use Rattle.strand.specs.Refusals.{refuseAtLowest}
-use Rattle.strand.proofs.ListLaws.{by-bool, lowest-all}
-use Rattle.strand.proofs.VerdictLaws.{row-at-no}
-use Rattle.octets.specs.Checksum.{blockSize}
-use Rattle.block.specs.Block.{blockOf, soundMolecule, soundEntry, cleaned, forgot, blockCount}
+use lib.ListN.{length, take, drop, set, replicate, length-take, length-drop, length-replicate, getD-replicate}
+use lib.Seq.{drop-set-add, take-set-lt, drop-set-lt, take-set-le, ext-getD, getD-take, getD-drop}
+use borrow.Author.Tests.{eq-eqb, ne-eqb}
+use Rattle.lists.specs.Vocabulary.{choose}
+use Rattle.refusals.specs.Rules.{refuseAtLowest}
+use Rattle.lists.proofs.ListLaws.{by-bool, lowest-all, choose-yes, choose-no}
+use Rattle.refusals.proofs.RuleLaws.{rule-at-no}
+use Rattle.block.specs.Checksum.{blockSize}
+use Rattle.block.specs.Block.{blockOf, soundEntry, cleaned, forgot, blockCount}
 use Rattle.buffer.specs.Buffer.{eachBlock, putBlock}
-use Rattle.block.specs.Content.{isEmpty, moleculeIn}
+use Rattle.block.specs.Content.{emptyBlock}
 use Rattle.block.proofs.ContentLaws.{length-cleaned, length-forgot}
 use Rattle.buffer.proofs.BlockLaws.{block-each, length-each, length-put, block-put, block-other}
-use Rattle.strand.specs.declared.Verdict.the-variants.{Accepted}
-use Rattle.calls.specs.Buffers.{isWhole, unsoundAt, held, moleculeAt, cleanCache}
+use Rattle.refusals.specs.declared.Verdict.the-variants.{Accepted}
+use Rattle.calls.specs.Buffers.{isWhole, cleanCache}
 use Rattle.calls.proofs.BlockUse as leaf
 
 -- Buffers of n blocks
@@ -29,7 +29,7 @@ use Rattle.calls.proofs.BlockUse as leaf
 pub count-is : (buf : List ℕ) (n : ℕ) → length buf ≡ blockSize * n → blockCount buf ≡ n
 count-is buf n e = rw e (omega arith)
 
--- row 10 reads the length only
+-- rule 10 reads the length only
 pub whole-is : (most n : ℕ) (buf : List ℕ) → length buf ≡ blockSize * n → isWhole most buf ≡ (leb 1 n && leb n most)
 unfolding isWhole
 whole-is most n buf e =
@@ -41,10 +41,10 @@ pub not-whole : (most : ℕ) (buf : List ℕ) → (length buf % blockSize ≡ 0 
 unfolding isWhole
 not-whole most buf h = rw (ne-eqb (length buf % blockSize) 0 h)
 
--- A row that names a place, where none is
+-- A rule that names a place, where none is
 
 pub no-place : (number side n : ℕ) (p : ℕ → Bool) → ((d : ℕ) → d < n → p d ≡ false) → refuseAtLowest number side n p ≡ Accepted
-no-place number side n p h = row-at-no number side n p n (sym (lowest-all p n h)) (omega arith)
+no-place number side n p h = rule-at-no number side n p n (sym (lowest-all p n h)) (omega arith)
 
 -- One block of the catalog written
 
@@ -56,36 +56,11 @@ module _ (cat : List ℕ) (n : ℕ) (len : length cat ≡ blockSize * n) (d : �
   put-length = length-put d b cat lb (fits d l) ∙ len
 
   pub put-block : (e : ℕ) → e < n → blockOf e (putBlock d b cat) ≡ choose (eqb e d) b (blockOf e cat)
-  unfolding choose
   put-block e k =
       elim (ℕ-discrete e d) [
-        | yes q ↦ rw (q, eq-eqb d d refl) (block-put d b cat lb (fits d l))
-        | no q ↦ rw (ne-eqb e d q) (block-other d b cat lb (fits d l) e q (fits e k))
+        | yes q ↦ rw q (block-put d b cat lb (fits d l) ∙ sym (choose-yes (eqb d d) b (blockOf d cat) (eq-eqb d d refl)))
+        | no q ↦ block-other d b cat lb (fits d l) e q (fits e k) ∙ sym (choose-no (eqb e d) b (blockOf e cat) (ne-eqb e d q))
       ]
-
-  pub put-sound : soundMolecule b ≡ true → ((e : ℕ) → e < n → unsoundAt cat e ≡ false) → (e : ℕ) → e < n → unsoundAt (putBlock d b cat) e ≡ false
-  unfolding unsoundAt choose
-  put-sound ok u e k = rw (put-block e k) (go (eqb e d))
-    where
-      go : (t : Bool) → not (soundMolecule (choose t b (blockOf e cat))) ≡ false
-      go true = ap not ok
-      go false = u e k
-
-  pub put-held : (e : ℕ) → e < n → held (putBlock d b cat) e ≡ choose (eqb e d) (not (isEmpty b)) (held cat e)
-  unfolding held choose
-  put-held e k = rw (count-is (putBlock d b cat) n put-length, count-is cat n len, lt-ltb e n k, put-block e k) (go (eqb e d))
-    where
-      go : (t : Bool) → not (isEmpty (choose t b (blockOf e cat))) ≡ choose t (not (isEmpty b)) (not (isEmpty (blockOf e cat)))
-      go true = refl
-      go false = refl
-
-  pub put-molecule : (e : ℕ) → e < n → moleculeAt (putBlock d b cat) e ≡ choose (eqb e d) (moleculeIn b) (moleculeAt cat e)
-  unfolding moleculeAt choose
-  put-molecule e k = rw (put-block e k) (go (eqb e d))
-    where
-      go : (t : Bool) → moleculeIn (choose t b (blockOf e cat)) ≡ choose t (moleculeIn b) (moleculeIn (blockOf e cat))
-      go true = refl
-      go false = refl
 
 -- The cache, block by block
 
@@ -111,3 +86,49 @@ module _ (cache : List ℕ) (n : ℕ) (len : length cache ≡ blockSize * n) whe
   pub forgot-block : (d s : ℕ) → s < n → blockOf s (eachBlock (forgot d) (cleanCache cache)) ≡ forgot d (cleaned (blockOf s cache))
   forgot-block d s l =
       block-each (forgot d) (length-forgot d) s (cleanCache cache) (omega (arith, count-is (cleanCache cache) n clean-length)) ∙ ap (forgot d) (clean-block s l)
+
+-- One byte of a buffer altered
+
+pub alter-same : (buf : List ℕ) (s i v : ℕ) → i < blockSize → blockOf s (set buf (blockSize * s + i) v) ≡ set (blockOf s buf) i v
+alter-same buf s i v h =
+    rw (
+      drop-set-add (blockSize * s) buf i v,
+      take-set-lt (blockSize * s + blockSize - blockSize * s) (drop (blockSize * s) buf) i v (omega arith),
+    )
+
+alter-above : (buf : List ℕ) (t k j v : ℕ) → k ≡ blockSize * t + j → blockSize ≤ j → blockOf t (set buf k v) ≡ blockOf t buf
+alter-above buf t k j v e h =
+    rw (
+      e,
+      drop-set-add (blockSize * t) buf j v,
+      take-set-le (blockSize * t + blockSize - blockSize * t) (drop (blockSize * t) buf) j v (omega arith),
+    )
+
+alter-below : (buf : List ℕ) (t k v : ℕ) → k < blockSize * t → blockOf t (set buf k v) ≡ blockOf t buf
+alter-below buf t k v h = rw (drop-set-lt (blockSize * t) buf k v h)
+
+pub alter-other : (buf : List ℕ) (s t i v : ℕ) → i < blockSize → (t ≡ s → ⊥) → blockOf t (set buf (blockSize * s + i) v) ≡ blockOf t buf
+alter-other buf s t i v h ne =
+    elim (decLt t s) [
+      | yes l ↦ alter-above buf t (blockSize * s + i) (blockSize * s + i - blockSize * t) v (omega arith) (omega arith)
+      | no l ↦ alter-below buf t (blockSize * s + i) v (omega arith)
+    ]
+
+-- A zeroed buffer
+
+part-zero : (z k m n : ℕ) → m + k ≤ n → take k (drop m (replicate n z)) ≡ replicate k z
+part-zero z k m n h =
+    let e : length (take k (drop m (replicate n z))) ≡ k = simp (length-take, length-drop, length-replicate) (omega arith) in
+    ext-getD z (take k (drop m (replicate n z))) (replicate k z) (e ∙ sym (length-replicate k z))
+    (λ i l. simp (
+      getD-take k (drop m (replicate n z)) i z (omega arith),
+      getD-drop m (replicate n z) i z,
+      getD-replicate n (m + i) z z (omega arith),
+      getD-replicate k i z z (omega arith),
+    ))
+
+pub block-zero : (n d : ℕ) → d < n → blockOf d (replicate (blockSize * n) 0) ≡ emptyBlock
+unfolding emptyBlock
+block-zero n d l =
+    part-zero 0 (blockSize * d + blockSize - blockSize * d) (blockSize * d) (blockSize * n) (omega arith)
+    ∙ ap (λ (k : ℕ). replicate k 0) (let e : blockSize * d + blockSize - blockSize * d ≡ blockSize = omega arith in e)

@@ -1,23 +1,23 @@
--- The catalog and the cache (01: catalogue and shelf) as buffers of blocks: all that the calls read of them, and rows 10 and 11. Assumes nothing.
+-- The catalog and the cache (01: catalogue and shelf) as buffers of blocks: all that the calls read of them, and rules 10 and 11.
 use Prim.Native.Nat.{ℕ, _%_}
 use mathlib.Core.List.{List, [], _∷_}
 use mathlib.Core.Bool.{Bool, not, _&&_}
 use lib.ListN.{length}
 use lib.Dec.{eqb, leb, ltb}
-use Rattle.strand.specs.Strands.{Strand, key, noSide}
-use Rattle.strand.specs.Refusals.{notWholeBlocks, unsoundBlock, first, refuseIf, refuseAtLowest}
-use Rattle.octets.specs.Checksum.{blockSize}
+use Rattle.strand.specs.Strands.{Strand, key}
+use Rattle.refusals.specs.Rules.{noSide, notWholeBlocks, unsoundBlock, first, refuseIf, refuseAtLowest}
+use Rattle.block.specs.Checksum.{blockSize}
 use Rattle.block.specs.Block.{blockOf, soundMolecule, cleaned, blockCount}
 use Rattle.buffer.specs.Buffer.{eachBlock}
 use Rattle.block.specs.Content.{isEmpty, moleculeIn}
-use Rattle.strand.specs.declared.Verdict.{Verdict}
+use Rattle.refusals.specs.declared.Verdict.{Verdict}
 use Rattle.calls.specs.Limits.{mostCatalogBlocks, mostCacheBlocks}
 
 -- Whole blocks, and their number from 1 to most.
 unfoldable pub isWhole : ℕ → List ℕ → Bool
 isWhole most buf = eqb (length buf % blockSize) 0 && leb 1 (blockCount buf) && leb (blockCount buf) most
 
--- Row 10 lets the two buffers pass.
+-- Rule 10 lets the two buffers pass.
 unfoldable pub areWhole : List ℕ → List ℕ → Bool
 areWhole catalog cache = isWhole mostCatalogBlocks catalog && isWhole mostCacheBlocks cache
 
@@ -33,7 +33,7 @@ held catalog d = ltb d (blockCount catalog) && not (isEmpty (blockOf d catalog))
 unfoldable pub moleculeAt : List ℕ → ℕ → Strand
 moleculeAt catalog d = moleculeIn (blockOf d catalog)
 
--- Rows 10 and 11: buffers that are not whole blocks or out of range, then the lowest unsound block of the catalog.
+-- Rules 10 and 11: buffers that are not whole blocks or out of range, then the lowest unsound block of the catalog.
 unfoldable pub buffersVerdict : List ℕ → List ℕ → Verdict
 buffersVerdict catalog cache =
     first

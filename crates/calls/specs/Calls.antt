@@ -1,41 +1,36 @@
 -- Add, remove and query: what each answers and leaves in every buffer, for all inputs and all contents of the buffers.
--- These are the definitions that the contracts of the calls cite. Assumes nothing.
+-- These are the definitions that the contracts of the calls cite.
 use Prim.Native.Nat.{ℕ}
 use mathlib.Core.List.{List, [], _∷_, _++_}
-use mathlib.Core.Path.{_≡_}
 use mathlib.Core.Bool.{Bool, not, _&&_}
 use lib.ListN.{length, drop}
 use lib.Dec.{leb, ltb}
-use Rattle.strand.specs.Vocabulary.{choose, select}
-use Rattle.strand.specs.Strands.{Strand, noSide}
-use Rattle.strand.specs.Refusals.{wrongSlice, numberTooLarge, alreadyHeld, notHeld, first, refuseIf}
+use Rattle.lists.specs.Vocabulary.{choose, select}
+use Rattle.strand.specs.Strands.{Strand}
+use Rattle.refusals.specs.Rules.{noSide, wrongSlice, numberTooLarge, alreadyHeld, notHeld, first, refuseIf, byVerdict}
 use Rattle.block.specs.Block.{blockOf, forgot, blockCount}
 use Rattle.buffer.specs.Buffer.{eachBlock, putBlock}
 use Rattle.block.specs.Content.{emptyBlock, encodeMolecule, encodeEntry, keepsMotif, searchedIn, hitIn}
-use Rattle.strand.specs.declared.Verdict.{Verdict}
-use Rattle.strand.specs.declared.Verdict.the-variants.{Accepted, Refused}
-use Rattle.calls.specs.declared.Updated.{Updated}
-use Rattle.calls.specs.declared.Updated.the-variants.{Done, Refused as NotUpdated}
+use Rattle.refusals.specs.declared.Verdict.{Verdict}
+use Rattle.calls.specs.declared.Added.{Added}
+use Rattle.calls.specs.declared.Added.the-variants.{Stored, Refused as NotAdded}
+use Rattle.calls.specs.declared.Removed.{Removed}
+use Rattle.calls.specs.declared.Removed.the-variants.{Cleared, Refused as NotRemoved}
 use Rattle.calls.specs.declared.Queried.{Queried}
 use Rattle.calls.specs.declared.Queried.the-variants.{Hits, Refused as NotQueried}
 use Rattle.calls.specs.Limits.{moleculeVerdict, motifVerdict, workVerdict}
 use Rattle.calls.specs.Buffers.{held, moleculeAt, buffersVerdict, slotOf, cleanCache}
 
 -- The effect of add or remove: the answer and both buffers afterwards.
-pub record UpdateEffect : Type 0 where
-  pub answer : Updated
+pub record Effect (A : Type 0) : Type 0 where
+  pub answer : A
   pub catalog : List ℕ
   pub cache : List ℕ
 
-abbrev pub updated : Updated → List ℕ → List ℕ → UpdateEffect
-updated answer catalog cache = record { answer = answer; catalog = catalog; cache = cache }
+abbrev pub effect : {A : Type 0} → A → List ℕ → List ℕ → Effect A
+effect answer catalog cache = record { answer = answer; catalog = catalog; cache = cache }
 
--- A refusal leaves both buffers as they are.
-unfoldable pub updateUnless : Verdict → List ℕ → List ℕ → UpdateEffect → UpdateEffect
-updateUnless Accepted catalog cache effect = effect
-updateUnless (Refused r) catalog cache effect = updated (NotUpdated r) catalog cache
-
--- Add (number d, molecule) is refused by rows 10, 11, 12, 13, then 1 to 7.
+-- Add (number d, molecule) is refused by rules 10, 11, 12, 13, then 1 to 7.
 unfoldable pub addVerdict : List ℕ → List ℕ → ℕ → Strand → Verdict
 addVerdict catalog cache d q =
     first
@@ -45,13 +40,14 @@ addVerdict catalog cache d q =
     ∷ moleculeVerdict q
     ∷ [])
 
--- It writes block d.
-unfoldable pub addOutcome : List ℕ → List ℕ → ℕ → Strand → UpdateEffect
+-- It writes block d. A refusal leaves both buffers as they are.
+unfoldable pub addOutcome : List ℕ → List ℕ → ℕ → Strand → Effect Added
 addOutcome catalog cache d q =
-    updateUnless (addVerdict catalog cache d q) catalog cache
-    (updated Done (putBlock d (encodeMolecule q) catalog) (cleanCache cache))
+    byVerdict (addVerdict catalog cache d q)
+    (λ r. effect (NotAdded r) catalog cache)
+    (effect Stored (putBlock d (encodeMolecule q) catalog) (cleanCache cache))
 
--- Remove (d) is refused by rows 10, 11, 12, 14.
+-- Remove (d) is refused by rules 10, 11, 12, 14.
 unfoldable pub removeVerdict : List ℕ → List ℕ → ℕ → Verdict
 removeVerdict catalog cache d =
     first
@@ -60,11 +56,12 @@ removeVerdict catalog cache d =
     ∷ refuseIf notHeld noSide (not (held catalog d))
     ∷ [])
 
--- It zeroes block d, and clears bit d in both maps of every cache entry.
-unfoldable pub removeOutcome : List ℕ → List ℕ → ℕ → UpdateEffect
+-- It zeroes block d, and clears bit d in both maps of every cache entry. A refusal leaves both buffers as they are.
+unfoldable pub removeOutcome : List ℕ → List ℕ → ℕ → Effect Removed
 removeOutcome catalog cache d =
-    updateUnless (removeVerdict catalog cache d) catalog cache
-    (updated Done (putBlock d emptyBlock catalog) (eachBlock (forgot d) (cleanCache cache)))
+    byVerdict (removeVerdict catalog cache d)
+    (λ r. effect (NotRemoved r) catalog cache)
+    (effect Cleared (putBlock d emptyBlock catalog) (eachBlock (forgot d) (cleanCache cache)))
 
 -- The effect of query: the answer, the cache and the slice of the hits afterwards. The catalog is only read.
 pub record QueryEffect : Type 0 where
@@ -75,12 +72,7 @@ pub record QueryEffect : Type 0 where
 abbrev pub queried : Queried → List ℕ → List ℕ → QueryEffect
 queried answer cache hits = record { answer = answer; cache = cache; hits = hits }
 
--- A refusal leaves the cache and the hits as they are.
-unfoldable pub queryUnless : Verdict → List ℕ → List ℕ → QueryEffect → QueryEffect
-queryUnless Accepted cache hits effect = effect
-queryUnless (Refused r) cache hits effect = queried (NotQueried r) cache hits
-
--- Query (motif) is refused by rows 10, 11, 1 to 7 of the motif, 9, 8; `work` and `room` are the lengths of the work and the hit slice.
+-- Query (motif) is refused by rules 10, 11, 1 to 7 of the motif, 9, 8; `work` and `room` are the lengths of the work and the hit slice.
 unfoldable pub queryVerdict : List ℕ → List ℕ → Strand → ℕ → ℕ → Verdict
 queryVerdict catalog cache p work room =
     first
@@ -113,14 +105,10 @@ module _ (embeds : Strand → Strand → Bool) where
       (putBlock slot (encodeEntry p (held catalog) (isHit catalog entry p)) cache)
       (list ++ drop (length list) hits)
 
-  -- The query reads the entry of the motif's slot in the clean cache.
+  -- The query reads the entry of the motif's slot in the clean cache. A refusal leaves the cache and the hits as they are.
   unfoldable pub queryOutcome : List ℕ → List ℕ → Strand → ℕ → List ℕ → QueryEffect
   queryOutcome catalog cache p work hits =
       let slot : ℕ = slotOf (blockCount cache) p in
-      queryUnless (queryVerdict catalog cache p work (length hits)) cache hits
+      byVerdict (queryVerdict catalog cache p work (length hits))
+      (λ r. queried (NotQueried r) cache hits)
       (queryAccepted catalog (cleanCache cache) (blockOf slot (cleanCache cache)) slot p hits)
-
--- After a refusal the work slice is as before; after an accepted query it keeps its length, and its entries are free.
-unfoldable pub QueryWorkKept : Queried → List ℕ → List ℕ → Type 0
-QueryWorkKept (Hits count searched) before after = length after ≡ length before
-QueryWorkKept (NotQueried r) before after = after ≡ before

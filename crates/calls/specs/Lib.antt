@@ -1,5 +1,6 @@
 pub mod Limits
 pub mod Motifs
+pub mod Holdings
 pub mod Buffers
 pub mod Calls
 pub mod Results

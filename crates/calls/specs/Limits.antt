@@ -1,11 +1,14 @@
--- The limits of catalog, cache and query, and what rows 1 to 8 ask of a molecule, a motif and a work slice. Assumes nothing.
+-- The limits of catalog, cache and query, and what rules 1 to 8 ask of a molecule, a motif and a work slice.
 use Prim.Native.Nat.{ℕ}
+use mathlib.Core.Bool.{Bool, _&&_}
+use lib.Dec.{leb}
 use lib.ListN.{length}
-use Rattle.strand.specs.Strands.{Strand, motifSide, moleculeSide}
-use Rattle.strand.specs.Refusals.{strandVerdict, leastLength}
-use Rattle.matcher.specs.Answers.{workRow}
-use Rattle.block.specs.Content.{moleculeKind, entryKind}
-use Rattle.strand.specs.declared.Verdict.{Verdict}
+use Rattle.strand.specs.Strands.{Strand}
+use Rattle.refusals.specs.Rules.{motifSide, moleculeSide}
+use Rattle.strand.specs.StrandRules.{strandVerdict, leastMotif, leastMolecule}
+use Rattle.refusals.specs.Work.{workRule}
+use Rattle.block.specs.Content.{blockBases, entryBases}
+use Rattle.refusals.specs.declared.Verdict.{Verdict}
 
 -- 01, Blocks: B from 1 to 512, S from 1 to 64.
 abbrev pub mostCatalogBlocks : ℕ
@@ -14,20 +17,23 @@ mostCatalogBlocks = 512
 abbrev pub mostCacheBlocks : ℕ
 mostCacheBlocks = 64
 
--- 01, lengths: molecules in the catalog 1 to 160, motifs of a query 1 to 120.
+unfoldable pub inRange : ℕ → ℕ → Bool
+inRange B S = (leb 1 B && leb B mostCatalogBlocks) && (leb 1 S && leb S mostCacheBlocks)
+
+-- 01, lengths: molecules in the catalog 1 to 160, which is what one block has places for; motifs of a query 1 to 120.
 abbrev pub mostMoleculeBases : ℕ
-mostMoleculeBases = moleculeKind .most
+mostMoleculeBases = blockBases
 
 abbrev pub mostMotifBases : ℕ
-mostMotifBases = entryKind .most
+mostMotifBases = entryBases
 
--- Rows 1 to 7 of a molecule for the catalog, and of the motif of a query.
+-- Rules 1 to 7 of a molecule for the catalog, and of the motif of a query.
 unfoldable pub moleculeVerdict : Strand → Verdict
-moleculeVerdict q = strandVerdict moleculeSide leastLength mostMoleculeBases (q .bases) (q .mates)
+moleculeVerdict q = strandVerdict moleculeSide leastMolecule mostMoleculeBases (q .bases) (q .mates)
 
 unfoldable pub motifVerdict : Strand → Verdict
-motifVerdict p = strandVerdict motifSide leastLength mostMotifBases (p .bases) (p .mates)
+motifVerdict p = strandVerdict motifSide leastMotif mostMotifBases (p .bases) (p .mates)
 
--- Row 8 of a query with a work slice of so many entries: n is 160, the most that a molecule of the catalog has.
+-- Rule 8 of a query with a work slice of so many entries: n is 160, the most that a molecule of the catalog has.
 unfoldable pub workVerdict : Strand → ℕ → Verdict
-workVerdict p work = workRow (length (p .bases)) mostMoleculeBases work
+workVerdict p work = workRule (length (p .bases)) mostMoleculeBases work

@@ -1,8 +1,8 @@
--- When a motif embeds in a molecule: the test of a query, and the relation that it decides (`decides`, in crate history). Assumes nothing.
+-- When a motif embeds in a molecule: the test of a query, and the relation that it decides (`decides`, in crate history).
 use mathlib.Core.Bool.{Bool}
 use lib.Dec.{eqb}
 use lib.ListN.{length}
-use Rattle.strand.specs.Vocabulary.{nth}
+use Rattle.lists.specs.Vocabulary.{nth}
 use Rattle.strand.specs.Strands.{Strand, lettersMatch}
 use Rattle.embedding.specs.Embedding.{lettersFit, Embeds}
 use Rattle.embedding.specs.Longest.{longest}

@@ -1,12 +1,12 @@
--- What a call comes to, in 01's numbers: for each case of an answer its number and values. This is what histories compare. Assumes nothing.
+-- What a call comes to, in 01's numbers: for each case of an answer its number and values. This is what histories compare.
 use Prim.Native.Nat.{ℕ}
-use mathlib.Core.List.{List}
+use mathlib.Core.List.{List, [], _∷_}
 use lib.ListN.{take}
-use Rattle.strand.specs.declared.Refusal.{Refusal}
-use Rattle.strand.specs.declared.Verdict.{Verdict}
-use Rattle.strand.specs.declared.Verdict.the-variants.{Accepted, Refused}
-use Rattle.calls.specs.declared.Updated.{Updated}
-use Rattle.calls.specs.declared.Updated.the-variants.{Done, Refused as NotUpdated}
+use Rattle.refusals.specs.declared.Refusal.{Refusal}
+use Rattle.calls.specs.declared.Added.{Added}
+use Rattle.calls.specs.declared.Added.the-variants.{Stored, Refused as NotAdded}
+use Rattle.calls.specs.declared.Removed.{Removed}
+use Rattle.calls.specs.declared.Removed.the-variants.{Cleared, Refused as NotRemoved}
 use Rattle.calls.specs.declared.Queried.{Queried}
 use Rattle.calls.specs.declared.Queried.the-variants.{Hits, Refused as NotQueried}
 
@@ -19,25 +19,25 @@ pub data Result : Type 0 where
   -- an accepted query: the count, the hit list at the start of its slice, the searched number
   found : ℕ → List ℕ → ℕ → Result
 
--- The result of a refusal, of an add or remove, and of a query.
+-- The same as numbers, the case first: results are equal just where these are (`same-numbers`, in proofs/ResultLaws).
+unfoldable pub numbersOf : Result → List ℕ
+numbersOf (refused number side place) = 0 ∷ number ∷ side ∷ place ∷ []
+numbersOf done = 1 ∷ []
+numbersOf (found count hits searched) = 2 ∷ count ∷ searched ∷ hits
+
+-- The result of a refusal, of an add, of a remove, and of a query.
 unfoldable pub refusedBy : Refusal → Result
 refusedBy r = refused (r .number) (r .side) (r .place)
 
-unfoldable pub updateResult : Updated → Result
-updateResult Done = done
-updateResult (NotUpdated r) = refusedBy r
+unfoldable pub addResult : Added → Result
+addResult Stored = done
+addResult (NotAdded r) = refusedBy r
+
+unfoldable pub removeResult : Removed → Result
+removeResult Cleared = done
+removeResult (NotRemoved r) = refusedBy r
 
 -- `hits` is the slice of the hits afterwards.
 unfoldable pub queryResult : Queried → List ℕ → Result
 queryResult (Hits count searched) hits = found count (take count hits) searched
 queryResult (NotQueried r) hits = refusedBy r
-
--- The result of a call whose rows gave this verdict; `result` where they accept.
-unfoldable pub resultBy : Verdict → Result → Result
-resultBy Accepted result = result
-resultBy (Refused r) result = refusedBy r
-
--- x where the verdict accepts, else y.
-unfoldable pub ifAccepted : {A : Type 0} → Verdict → A → A → A
-ifAccepted Accepted x y = x
-ifAccepted (Refused r) x y = y

@@ -1,21 +1,25 @@
--- What is claimed of add, remove and query for all inputs and all contents of the buffers; `claims`, in proofs/Claims, proves it. Assumes nothing.
+-- What is claimed of add, remove and query for all inputs and all contents of the buffers; `claims`, in proofs/Claims, proves it.
 use Prim.Native.Nat.{ℕ, _<_}
 use mathlib.Core.Path.{_≡_}
 use mathlib.Core.List.{List}
 use mathlib.Core.Bool.{Bool, true, false, _&&_}
 use lib.ListN.{length, take, drop}
-use Rattle.strand.specs.Vocabulary.{select}
+use Rattle.lists.specs.Vocabulary.{select}
 use Rattle.strand.specs.Strands.{Strand}
 use Rattle.octets.specs.Numbers.{Bytes}
 use Rattle.octets.specs.Maps.{mapBits}
 use Rattle.block.specs.Block.{blockOf, soundMolecule, soundEntry, cleaned, forgot, blockCount}
-use Rattle.block.specs.Content.{emptyBlock, keepsMotif, searchedIn, hitIn}
-use Rattle.strand.specs.declared.Refusal.{Refusal}
-use Rattle.strand.specs.declared.Verdict.the-variants.{Accepted, Refused}
-use Rattle.calls.specs.declared.Updated.the-variants.{Done, Refused as NotUpdated}
+use Rattle.block.specs.Content.{emptyBlock, encodeEntry, keepsMotif, searchedIn, hitIn}
+use Rattle.refusals.specs.declared.Refusal.{Refusal}
+use Rattle.refusals.specs.declared.Verdict.the-variants.{Accepted, Refused}
+use Rattle.calls.specs.declared.Added.{Added}
+use Rattle.calls.specs.declared.Added.the-variants.{Stored, Refused as NotAdded}
+use Rattle.calls.specs.declared.Removed.{Removed}
+use Rattle.calls.specs.declared.Removed.the-variants.{Cleared, Refused as NotRemoved}
 use Rattle.calls.specs.declared.Queried.the-variants.{Hits, Refused as NotQueried}
 use Rattle.calls.specs.Buffers.{held, moleculeAt, slotOf, cleanCache}
-use Rattle.calls.specs.Calls.{UpdateEffect, updated, addVerdict, addOutcome, removeVerdict, removeOutcome, QueryEffect, queried, queryVerdict, toSearch, isHit, queryOutcome}
+use Rattle.calls.specs.Calls.{Effect, effect, addVerdict, addOutcome, removeVerdict, removeOutcome, QueryEffect, queried, queryVerdict}
+use Rattle.calls.specs.Calls.{toSearch, isHit, queryOutcome}
 
 -- Every block of the cache is sound.
 abbrev pub AllSound : List ℕ → Type 0
@@ -36,8 +40,8 @@ pub record EachIs (f : List ℕ → List ℕ) (before after : List ℕ) : Type 0
   pub each : (s : ℕ) → s < blockCount before → blockOf s after ≡ f (blockOf s before)
 
 -- What an accepted add leaves.
-pub record Added (catalog cache : List ℕ) (d : ℕ) (q : Strand) (after : UpdateEffect) : Type 0 where
-  pub answer : after .answer ≡ Done
+pub record AddLeaves (catalog cache : List ℕ) (d : ℕ) (q : Strand) (after : Effect Added) : Type 0 where
+  pub answer : after .answer ≡ Stored
   -- block d is sound and holds the molecule; every other block stays
   pub block-sound : soundMolecule (blockOf d (after .catalog)) ≡ true
   pub is-held : held (after .catalog) d ≡ true
@@ -48,8 +52,8 @@ pub record Added (catalog cache : List ℕ) (d : ℕ) (q : Strand) (after : Upda
   pub cache-each : EachIs cleaned cache (after .cache)
 
 -- What an accepted remove leaves.
-pub record Removed (catalog cache : List ℕ) (d : ℕ) (after : UpdateEffect) : Type 0 where
-  pub answer : after .answer ≡ Done
+pub record RemoveLeaves (catalog cache : List ℕ) (d : ℕ) (after : Effect Removed) : Type 0 where
+  pub answer : after .answer ≡ Cleared
   -- block d is empty, so the number is not held; every other block stays
   pub block-empty : blockOf d (after .catalog) ≡ emptyBlock
   pub not-held : held (after .catalog) d ≡ false
@@ -60,7 +64,7 @@ pub record Removed (catalog cache : List ℕ) (d : ℕ) (after : UpdateEffect) :
   pub cache-each : EachIs (λ b. forgot d (cleaned b)) cache (after .cache)
 
 -- What an accepted query leaves: s is the motif's slot, `hit` and `search` are the numbers that it lists and those that it has to search.
-pub record Answered (catalog cache : List ℕ) (s : ℕ) (p : Strand) (hits : List ℕ) (hit search : ℕ → Bool) (after : QueryEffect) : Type 0 where
+pub record QueryLeaves (catalog cache : List ℕ) (s : ℕ) (p : Strand) (hits : List ℕ) (hit search : ℕ → Bool) (after : QueryEffect) : Type 0 where
   -- how many hits, how many searched
   pub answer : after .answer ≡ Hits (length (select (blockCount catalog) hit)) (length (select (blockCount catalog) search))
   -- the slice starts with the hits, rising; its later entries stay
@@ -68,7 +72,9 @@ pub record Answered (catalog cache : List ℕ) (s : ℕ) (p : Strand) (hits : Li
   pub later : drop (length (select (blockCount catalog) hit)) (after .hits) ≡ drop (length (select (blockCount catalog) hit)) hits
   -- every block of the cache but the slot's is as cleaned
   pub only : OnlyAt s (cleanCache cache) (after .cache)
-  -- the slot's entry keeps the motif, with searched bits for the held numbers and no other, and hit bits for the hits
+  -- the slot is written anew
+  pub entry : blockOf s (after .cache) ≡ encodeEntry p (held catalog) hit
+  -- it keeps the motif, with searched bits for the held numbers and no other, and hit bits for the hits
   pub keeps : keepsMotif (blockOf s (after .cache)) p ≡ true
   pub searched : (d : ℕ) → d < mapBits → searchedIn (blockOf s (after .cache)) d ≡ held catalog d
   pub hit-bits : (d : ℕ) → d < mapBits → hitIn (blockOf s (after .cache)) d ≡ hit d
@@ -86,18 +92,19 @@ entryFor cache p = blockOf (slotIn cache p) (cleanCache cache)
 pub record Claims (embeds : Strand → Strand → Bool) : Type 0 where
   -- accepted calls
   pub add-accepted : (catalog cache : List ℕ) (d : ℕ) (q : Strand) → addVerdict catalog cache d q ≡ Accepted
-      → Added catalog cache d q (addOutcome catalog cache d q)
+      → AddLeaves catalog cache d q (addOutcome catalog cache d q)
   pub remove-accepted : (catalog cache : List ℕ) (d : ℕ) → removeVerdict catalog cache d ≡ Accepted
-      → Removed catalog cache d (removeOutcome catalog cache d)
+      → RemoveLeaves catalog cache d (removeOutcome catalog cache d)
   pub query-accepted : (catalog cache : List ℕ) (p : Strand) (work : ℕ) (hits : List ℕ) → queryVerdict catalog cache p work (length hits) ≡ Accepted
-      → Answered catalog cache (slotIn cache p) p hits (isHit embeds catalog (entryFor cache p) p) (toSearch catalog (entryFor cache p) p)
+      → QueryLeaves catalog cache (slotIn cache p) p hits (isHit embeds catalog (entryFor cache p) p) (toSearch catalog (entryFor cache p) p)
       (queryOutcome embeds catalog cache p work hits)
   -- a refused call tells its refusal and changes nothing
   pub add-refused : (catalog cache : List ℕ) (d : ℕ) (q : Strand) (r : Refusal) → addVerdict catalog cache d q ≡ Refused r
-      → addOutcome catalog cache d q ≡ updated (NotUpdated r) catalog cache
+      → addOutcome catalog cache d q ≡ effect (NotAdded r) catalog cache
   pub remove-refused : (catalog cache : List ℕ) (d : ℕ) (r : Refusal) → removeVerdict catalog cache d ≡ Refused r
-      → removeOutcome catalog cache d ≡ updated (NotUpdated r) catalog cache
-  pub query-refused : (catalog cache : List ℕ) (p : Strand) (work : ℕ) (hits : List ℕ) (r : Refusal) → queryVerdict catalog cache p work (length hits) ≡ Refused r
+      → removeOutcome catalog cache d ≡ effect (NotRemoved r) catalog cache
+  pub query-refused : (catalog cache : List ℕ) (p : Strand) (work : ℕ) (hits : List ℕ) (r : Refusal)
+      → queryVerdict catalog cache p work (length hits) ≡ Refused r
       → queryOutcome embeds catalog cache p work hits ≡ queried (NotQueried r) cache hits
   -- hits are held numbers
   pub hit-held : (catalog entry : List ℕ) (p : Strand) (d : ℕ) → isHit embeds catalog entry p d ≡ true → held catalog d ≡ true

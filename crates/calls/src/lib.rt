@@ -1,13 +1,19 @@
 // What add, remove and query answer and leave, for all inputs: the answers here, all else in specs/. Crate catalog has the code.
 
-// The answer of add and remove.
-pub enum Updated {
-    Done,
-    Refused(strand::Refusal),
+// The answer of add.
+pub enum Added {
+    Stored,
+    Refused(refusals::Refusal),
+}
+
+// The answer of remove.
+pub enum Removed {
+    Cleared,
+    Refused(refusals::Refusal),
 }
 
 // The answer of query: how many hits, and how many molecules it had to search.
 pub enum Queried {
     Hits { count: usize, searched: usize },
-    Refused(strand::Refusal),
+    Refused(refusals::Refusal),
 }

@@ -1,1 +1,1 @@
-mod SeenLaws
+mod InterfaceLaws

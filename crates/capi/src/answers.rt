@@ -1,12 +1,13 @@
 // The answers of the calls as one struct of numbers.
+use catalog::Added;
 use catalog::Queried;
-use catalog::Updated;
+use catalog::Removed;
 use embedding::Verified;
 use matcher::Matched;
-use strand::Refusal;
-use strand::Verdict;
+use refusals::Refusal;
+use strand::Checked;
 ghost use mathlib.Core.Path.{_≡_};
-ghost use Rattle.capi.specs.Interface.{accepted, refused, checkTold, matchTold, verifyTold, updateTold, queryTold};
+ghost use Rattle.capi.specs.Interface.{accepted, refused, checkInC, matchInC, verifyInC, addInC, removeInC, queryInC};
 
 // An accepted call, and a refused one.
 fn accept(value: usize, searched: usize) -> crate::Answer
@@ -33,18 +34,18 @@ fn refuse(x: Refusal) -> crate::Answer
     }
 }
 
-// The struct for the answer of each call: check; length and show; verify; add and remove; query.
-pub fn tell_check(a: Verdict) -> crate::Answer
-    ensures { λ r. ⌜ r ≡ checkTold a ⌝ }
+// The struct for the answer of each call: check; length and show; verify; add; remove; query.
+pub fn tell_check(a: Checked) -> crate::Answer
+    ensures { λ r. ⌜ r ≡ checkInC a ⌝ }
 {
-    if let Verdict::Refused(x) = a {
+    if let Checked::Refused(x) = a {
         return refuse(x);
     }
     accept(0, 0)
 }
 
 pub fn tell_match(a: Matched) -> crate::Answer
-    ensures { λ r. ⌜ r ≡ matchTold a ⌝ }
+    ensures { λ r. ⌜ r ≡ matchInC a ⌝ }
 {
     match a {
         Matched::Prefix(n) => accept(n, 0),
@@ -53,7 +54,7 @@ pub fn tell_match(a: Matched) -> crate::Answer
 }
 
 pub fn tell_verify(a: Verified) -> crate::Answer
-    ensures { λ r. ⌜ r ≡ verifyTold a ⌝ }
+    ensures { λ r. ⌜ r ≡ verifyInC a ⌝ }
 {
     match a {
         Verified::Yes => accept(1, 0),
@@ -62,17 +63,26 @@ pub fn tell_verify(a: Verified) -> crate::Answer
     }
 }
 
-pub fn tell_update(a: Updated) -> crate::Answer
-    ensures { λ r. ⌜ r ≡ updateTold a ⌝ }
+pub fn tell_add(a: Added) -> crate::Answer
+    ensures { λ r. ⌜ r ≡ addInC a ⌝ }
 {
-    if let Updated::Refused(x) = a {
+    if let Added::Refused(x) = a {
+        return refuse(x);
+    }
+    accept(0, 0)
+}
+
+pub fn tell_remove(a: Removed) -> crate::Answer
+    ensures { λ r. ⌜ r ≡ removeInC a ⌝ }
+{
+    if let Removed::Refused(x) = a {
         return refuse(x);
     }
     accept(0, 0)
 }
 
 pub fn tell_query(a: Queried) -> crate::Answer
-    ensures { λ r. ⌜ r ≡ queryTold a ⌝ }
+    ensures { λ r. ⌜ r ≡ queryInC a ⌝ }
 {
     match a {
         Queried::Hits { count, searched } => accept(count, searched),

@@ -4,12 +4,13 @@ mod answers;
 ghost use mathlib.Core.Path.{_≡_};
 ghost use lib.ListN.{length};
 ghost use Rattle.strand.specs.Strands.{strandOf};
-ghost use Rattle.strand.specs.Refusals.{checkVerdict};
+ghost use Rattle.strand.specs.StrandRules.{checkAnswer};
 ghost use Rattle.embedding.specs.Verify.{verifyAnswer};
-ghost use Rattle.matcher.specs.Answers.{lengthAnswer, showAnswer, WorkKept, PlacesShown};
+ghost use Rattle.refusals.specs.Work.{WorkKept};
+ghost use Rattle.matcher.specs.Answers.{lengthVerdict, lengthAnswer, showVerdict, showAnswer, PlacesShown};
 ghost use Rattle.calls.specs.Motifs.{embeds};
-ghost use Rattle.calls.specs.Calls.{addOutcome, removeOutcome, queryOutcome, QueryWorkKept};
-ghost use Rattle.capi.specs.Interface.{checkTold, matchTold, verifyTold, updateSeen, updateAsSeen, querySeen, queryAsSeen};
+ghost use Rattle.calls.specs.Calls.{effect, addOutcome, removeOutcome, queryVerdict, queryOutcome};
+ghost use Rattle.capi.specs.Interface.{checkInC, matchInC, verifyInC, addInC, removeInC, effectInC, queriedInC, queryEffectInC};
 
 // The answer of every call. Refused: number, side and place, else zeros. Accepted: refusal 0, and what the call says in `value` and `searched`.
 #[repr(C)]
@@ -23,7 +24,7 @@ pub struct Answer {
 
 #[no_mangle]
 pub extern "C" fn lakhido_check(bases: &[u8], mates: &[u16]) -> Answer
-    ensures { λ r. ⌜ r ≡ checkTold (checkVerdict (now (bases .entry)) (now (mates .entry))) ⌝ }
+    ensures { λ r. ⌜ r ≡ checkInC (checkAnswer (now (bases .entry)) (now (mates .entry))) ⌝ }
 {
     let a = strand::check(bases, mates);
     answers::tell_check(a)
@@ -37,8 +38,8 @@ pub extern "C" fn lakhido_length(
     qm: &[u16],
     work: &mut [u16],
 ) -> Answer
-    ensures { λ r. ⌜ (r ≡ matchTold (lengthAnswer (now (p .entry)) (now (pm .entry)) (now (q .entry)) (now (qm .entry)) (length (now (work .entry)))))
-        × WorkKept (lengthAnswer (now (p .entry)) (now (pm .entry)) (now (q .entry)) (now (qm .entry)) (length (now (work .entry)))) (now (work .entry)) (now (work .exit)) ⌝ }
+    ensures { λ r. ⌜ (r ≡ matchInC (lengthAnswer (now (p .entry)) (now (pm .entry)) (now (q .entry)) (now (qm .entry)) (length (now (work .entry)))))
+        × WorkKept (lengthVerdict (now (p .entry)) (now (pm .entry)) (now (q .entry)) (now (qm .entry)) (length (now (work .entry)))) (now (work .entry)) (now (work .exit)) ⌝ }
 {
     let a = matcher::length(p, pm, q, qm, work);
     answers::tell_match(a)
@@ -53,10 +54,10 @@ pub extern "C" fn lakhido_show(
     places: &mut [u16],
     work: &mut [u16],
 ) -> Answer
-    ensures { λ r. ⌜ (r ≡ matchTold (showAnswer (now (p .entry)) (now (pm .entry)) (now (q .entry)) (now (qm .entry)) (length (now (places .entry))) (length (now (work .entry)))))
+    ensures { λ r. ⌜ (r ≡ matchInC (showAnswer (now (p .entry)) (now (pm .entry)) (now (q .entry)) (now (qm .entry)) (length (now (places .entry))) (length (now (work .entry)))))
         × PlacesShown (showAnswer (now (p .entry)) (now (pm .entry)) (now (q .entry)) (now (qm .entry)) (length (now (places .entry))) (length (now (work .entry))))
         (now (p .entry)) (now (pm .entry)) (now (q .entry)) (now (qm .entry)) (now (places .entry)) (now (places .exit))
-        × WorkKept (showAnswer (now (p .entry)) (now (pm .entry)) (now (q .entry)) (now (qm .entry)) (length (now (places .entry))) (length (now (work .entry))))
+        × WorkKept (showVerdict (now (p .entry)) (now (pm .entry)) (now (q .entry)) (now (qm .entry)) (length (now (places .entry))) (length (now (work .entry))))
         (now (work .entry)) (now (work .exit)) ⌝ }
 {
     let a = matcher::show(p, pm, q, qm, places, work);
@@ -71,7 +72,7 @@ pub extern "C" fn lakhido_verify(
     qm: &[u16],
     places: &[u16],
 ) -> Answer
-    ensures { λ r. ⌜ r ≡ verifyTold (verifyAnswer (now (p .entry)) (now (pm .entry)) (now (q .entry)) (now (qm .entry)) (now (places .entry))) ⌝ }
+    ensures { λ r. ⌜ r ≡ verifyInC (verifyAnswer (now (p .entry)) (now (pm .entry)) (now (q .entry)) (now (qm .entry)) (now (places .entry))) ⌝ }
 {
     let a = embedding::verify(p, pm, q, qm, places);
     answers::tell_verify(a)
@@ -85,36 +86,36 @@ pub extern "C" fn lakhido_add(
     bases: &[u8],
     mates: &[u16],
 ) -> Answer
-    ensures { λ r. ⌜ updateSeen r (now (catalog .exit)) (now (cache .exit))
-        ≡ updateAsSeen (addOutcome (now (catalog .entry)) (now (cache .entry)) d (strandOf (now (bases .entry)) (now (mates .entry)))) ⌝ }
+    ensures { λ r. ⌜ effect r (now (catalog .exit)) (now (cache .exit))
+        ≡ effectInC addInC (addOutcome (now (catalog .entry)) (now (cache .entry)) d (strandOf (now (bases .entry)) (now (mates .entry)))) ⌝ }
 {
     let a = catalog::add(catalog, cache, d, bases, mates);
-    answers::tell_update(a)
+    answers::tell_add(a)
 }
 
 #[no_mangle]
 pub extern "C" fn lakhido_remove(catalog: &mut [u8], cache: &mut [u8], d: usize) -> Answer
-    ensures { λ r. ⌜ updateSeen r (now (catalog .exit)) (now (cache .exit))
-        ≡ updateAsSeen (removeOutcome (now (catalog .entry)) (now (cache .entry)) d) ⌝ }
+    ensures { λ r. ⌜ effect r (now (catalog .exit)) (now (cache .exit))
+        ≡ effectInC removeInC (removeOutcome (now (catalog .entry)) (now (cache .entry)) d) ⌝ }
 {
     let a = catalog::remove(catalog, cache, d);
-    answers::tell_update(a)
+    answers::tell_remove(a)
 }
 
 #[no_mangle]
 pub extern "C" fn lakhido_query(
     catalog: &[u8],
     cache: &mut [u8],
-    bases: &[u8],
-    mates: &[u16],
+    p: &[u8],
+    pm: &[u16],
     work: &mut [u16],
     hits: &mut [u16],
 ) -> Answer
-    ensures { λ r. ⌜ (querySeen r (now (cache .exit)) (now (hits .exit))
-        ≡ queryAsSeen (queryOutcome embeds (now (catalog .entry)) (now (cache .entry)) (strandOf (now (bases .entry)) (now (mates .entry))) (length (now (work .entry))) (now (hits .entry))))
-        × QueryWorkKept (queryOutcome embeds (now (catalog .entry)) (now (cache .entry)) (strandOf (now (bases .entry)) (now (mates .entry))) (length (now (work .entry))) (now (hits .entry)) .answer)
+    ensures { λ r. ⌜ (queriedInC r (now (cache .exit)) (now (hits .exit))
+        ≡ queryEffectInC (queryOutcome embeds (now (catalog .entry)) (now (cache .entry)) (strandOf (now (p .entry)) (now (pm .entry))) (length (now (work .entry))) (now (hits .entry))))
+        × WorkKept (queryVerdict (now (catalog .entry)) (now (cache .entry)) (strandOf (now (p .entry)) (now (pm .entry))) (length (now (work .entry))) (length (now (hits .entry))))
         (now (work .entry)) (now (work .exit)) ⌝ }
 {
-    let a = catalog::query(catalog, cache, bases, mates, work, hits);
+    let a = catalog::query(catalog, cache, p, pm, work, hits);
     answers::tell_query(a)
 }

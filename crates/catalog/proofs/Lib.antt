@@ -1,4 +1,3 @@
-pub mod JudgeLaws
-pub mod CallLaws
-pub mod SearchLaws
-pub mod MatchLaws
+mod ReadyLaws
+mod MatchLaws
+mod SearchLaws

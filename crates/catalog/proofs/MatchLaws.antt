@@ -1,4 +1,4 @@
--- The matcher on the molecule that a sound block holds: what it asks is met, and its answer tells whether the motif embeds. Assumes nothing.
+-- The matcher on the molecule that a sound block holds: what it asks is met, and its answer tells whether the motif embeds.
 use mathlib.Core.Path.{_≡_, sym, ap, _∙_}
 use mathlib.Core.Bool.{true, false}
 use mathlib.Core.List.{List, _++_}
@@ -7,15 +7,17 @@ use native.Mathlib.Omega.{arith}
 use lib.ListN.{length, take}
 use lib.Seq.{take-at}
 use lib.Dec.{eqb}
-use Rattle.strand.specs.Strands.{strandOf, lettersMatch, motifSide, moleculeSide, Proper}
+use Rattle.strand.specs.Strands.{strandOf, lettersMatch, Proper}
+use Rattle.refusals.specs.Rules.{motifSide, moleculeSide}
+use Rattle.strand.specs.StrandRules.{leastMotif, leastMolecule}
 use Rattle.embedding.specs.Longest.{longest}
-use Rattle.rows.specs.Rows.{workSize}
+use Rattle.refusals.specs.Work.{workSize}
 use Rattle.matcher.specs.Answers.{Searchable}
 use Rattle.matcher.proofs.CallLaws.{searchable-of}
 use Rattle.block.specs.Block.{soundMolecule}
 use Rattle.block.specs.Content.{isEmpty, moleculeIn}
 use Rattle.block.proofs.ContentLaws.{molecule-fits, molecule-count, molecule-proper}
-use Rattle.calls.specs.Limits.{mostMoleculeBases}
+use Rattle.calls.specs.Limits.{mostMoleculeBases, mostMotifBases}
 use Rattle.calls.specs.Motifs.{embeds}
 
 pub decoded-short : (b : List ℕ) (n : ℕ) → soundMolecule b ≡ true → n ≡ length (moleculeIn b .bases) → n ≤ 160
@@ -25,9 +27,9 @@ first-part : (x m t : List ℕ) (n : ℕ) → x ≡ m ++ t → n ≡ length m �
 first-part x m t n e l = ap (take n) e ∙ take-at m t n (sym l)
 
 -- x and y are the slices that the decoder left
-module _ (b bases mates : List ℕ) (sound : soundMolecule b ≡ true) (full : isEmpty b ≡ false) (ok : Proper motifSide 1 120 bases mates)
+module _ (b p pm : List ℕ) (sound : soundMolecule b ≡ true) (full : isEmpty b ≡ false) (ok : Proper motifSide leastMotif mostMotifBases p pm)
     (n : ℕ) (count : n ≡ length (moleculeIn b .bases)) (x y t u : List ℕ) (ex : x ≡ moleculeIn b .bases ++ t) (ey : y ≡ moleculeIn b .mates ++ u) where
-  proper : Proper moleculeSide 1 160 (moleculeIn b .bases) (moleculeIn b .mates)
+  proper : Proper moleculeSide leastMolecule mostMoleculeBases (moleculeIn b .bases) (moleculeIn b .mates)
   proper = molecule-proper b sound full
 
   letters-are : take n x ≡ moleculeIn b .bases
@@ -36,12 +38,12 @@ module _ (b bases mates : List ℕ) (sound : soundMolecule b ≡ true) (full : i
   bonds-are : take n y ≡ moleculeIn b .mates
   bonds-are = first-part y (moleculeIn b .mates) u n ey (count ∙ sym (proper .same))
 
-  pub searchable : Searchable bases mates (take n x) (take n y)
+  pub searchable : Searchable p pm (take n x) (take n y)
   searchable = rw (letters-are, bonds-are) (searchable-of {a = 1} {c = 1} (omega arith) (omega arith) ok proper)
 
-  pub room : (work : ℕ) → workSize (length bases) mostMoleculeBases ≤ work → workSize (length bases) (length (take n x)) ≤ work
+  pub room : (work : ℕ) → workSize (length p) mostMoleculeBases ≤ work → workSize (length p) (length (take n x)) ≤ work
   room work h = rw letters-are (let z = proper .small in omega arith)
 
-  pub matched : (k : ℕ) → k ≡ longest lettersMatch bases mates (take n x) (take n y) → eqb k (length bases) ≡ embeds (strandOf bases mates) (moleculeIn b)
+  pub matched : (k : ℕ) → k ≡ longest lettersMatch p pm (take n x) (take n y) → eqb k (length p) ≡ embeds (strandOf p pm) (moleculeIn b)
   unfolding embeds
   matched k e = rw (e, letters-are, bonds-are)

@@ -1,6 +1,6 @@
--- The search of a query: one molecule looked at, the hits noted, the maps filled, the entry written. Assumes nothing.
+-- The search of a query: one molecule looked at, the hits noted, the maps filled, the entry written.
 use mathlib.Core.Path.{_≡_, refl, sym, ap, ap₂, _∙_}
-use mathlib.Core.Bool.{Bool, true, false, _&&_, _||_}
+use mathlib.Core.Bool.{Bool, true, false, not, _&&_, _||_}
 use mathlib.Core.List.{List, [], _∷_, _++_, append-nil, append-assoc}
 use Prim.Native.Nat.{ℕ, suc, _+_, _-_, _*_, _<_, _≤_}
 use native.Mathlib.Omega.{arith}
@@ -11,39 +11,57 @@ use lib.Seq.{set-at, drop-cons}
 use lib.Dec.{eqb, ltb}
 use borrow.Author.Tests.{eq-eqb, ne-eqb, lt-ltb, le-ltb}
 use borrow.Rule.Slice.PartMut.{putMid}
-use Rattle.strand.specs.Vocabulary.{choose, select}
+use Rattle.lists.specs.Vocabulary.{choose, select}
 use Rattle.strand.specs.Strands.{Strand, strandOf}
-use Rattle.strand.proofs.ListLaws.{select-short}
+use Rattle.lists.proofs.ListLaws.{select-short, choose-yes, choose-no}
 use Rattle.octets.specs.Bits.{setMap}
 use Rattle.octets.specs.Maps.{mapBytes}
 use Rattle.block.specs.Block.{blockOf, blockCount}
 use Rattle.block.specs.Content.{moleculeIn, keepsMotif, searchedIn, hitIn, entryBlock, encodeEntry}
 use Rattle.buffer.proofs.BufferLaws.{put-is}
 use Rattle.octets.proofs.MapLaws.{map-set, map-ext, map-none}
-use Rattle.calls.specs.declared.Queried.{Queried}
 use Rattle.calls.specs.declared.Queried.the-variants.{Hits}
 use Rattle.calls.specs.Motifs.{embeds}
 use Rattle.calls.specs.Buffers.{held, moleculeAt}
-use Rattle.calls.specs.Calls.{isKnown, toSearch, isHit, QueryEffect, queried, queryAccepted, QueryWorkKept}
+use Rattle.calls.specs.Calls.{isKnown, toSearch, isHit, queried, queryAccepted}
 use Rattle.catalog.specs.Search.{Judged, Recorded}
-use Rattle.catalog.proofs.JudgeLaws.{held-1}
-use Rattle.catalog.proofs.CallLaws.{queried-eq}
+use Rattle.calls.proofs.JudgeLaws.{above-not-held}
+use Rattle.calls.proofs.CallLaws.{queried-eq}
+use Rattle.calls.proofs.Claims.{hit-known, hit-unknown}
 
 -- ---- one molecule
 
 module _ (cat entry : List ℕ) (q : Strand) (d : ℕ) where
-  pub look-1 : held cat d ≡ false → (false ≡ isHit embeds cat entry q d) × ((s : ℕ) → s ≡ choose (toSearch cat entry q d) (s + 1) s)
-  unfolding isHit toSearch choose
-  look-1 e = (rw e, λ s. rw e)
+  search-none : held cat d ≡ false → toSearch cat entry q d ≡ false
+  unfolding toSearch
+  search-none e = rw e
+
+  pub look-not-held : held cat d ≡ false → (false ≡ isHit embeds cat entry q d) × ((s : ℕ) → s ≡ choose (toSearch cat entry q d) (s + 1) s)
+  unfolding isHit
+  look-not-held e = (rw e, λ s. sym (choose-no (toSearch cat entry q d) (s + 1) s (search-none e)))
 
   module _ (h : held cat d ≡ true) where
-    pub look-2 : keepsMotif entry q && searchedIn entry d ≡ true → (hitIn entry d ≡ isHit embeds cat entry q d) × ((s : ℕ) → s ≡ choose (toSearch cat entry q d) (s + 1) s)
-    unfolding isHit toSearch isKnown choose
-    look-2 e = (rw (h, e), λ s. rw (h, e))
+    known-is : (b : Bool) → keepsMotif entry q && searchedIn entry d ≡ b → isKnown entry q d ≡ b
+    unfolding isKnown
+    known-is b e = e
 
-    pub look-3 : keepsMotif entry q && searchedIn entry d ≡ false → (embeds q (moleculeAt cat d) ≡ isHit embeds cat entry q d) × ((s : ℕ) → s + 1 ≡ choose (toSearch cat entry q d) (s + 1) s)
-    unfolding isHit toSearch isKnown choose
-    look-3 e = (rw (h, e), λ s. rw (h, e))
+    search-is : (b : Bool) → isKnown entry q d ≡ b → toSearch cat entry q d ≡ not b
+    unfolding toSearch
+    search-is b e = rw (h, e)
+
+    pub look-known : keepsMotif entry q && searchedIn entry d ≡ true
+        → (hitIn entry d ≡ isHit embeds cat entry q d) × ((s : ℕ) → s ≡ choose (toSearch cat entry q d) (s + 1) s)
+    look-known e = (
+      sym (hit-known embeds cat entry q d (known-is true e) ∙ ap (λ (t : Bool). t && hitIn entry d) h),
+      λ s. sym (choose-no (toSearch cat entry q d) (s + 1) s (search-is true (known-is true e))),
+    )
+
+    pub look-searched : keepsMotif entry q && searchedIn entry d ≡ false
+        → (embeds q (moleculeAt cat d) ≡ isHit embeds cat entry q d) × ((s : ℕ) → s + 1 ≡ choose (toSearch cat entry q d) (s + 1) s)
+    look-searched e = (
+      sym (hit-unknown embeds cat entry q d (known-is false e) ∙ ap (λ (t : Bool). t && embeds q (moleculeAt cat d)) h),
+      λ s. sym (choose-yes (toSearch cat entry q d) (s + 1) s (search-is false (known-is false e))),
+    )
 
 pub molecule-at : (cat : List ℕ) (d : ℕ) → moleculeIn (blockOf d cat) ≡ moleculeAt cat d
 unfolding moleculeAt
@@ -92,10 +110,15 @@ up-end n p h e = elim (decLt e n) [ yes l ↦ rw (lt-ltb e n l) | no l ↦ rw (l
 pub map-start : (p : ℕ → Bool) (w : List ℕ) → w ≡ replicate 64 0 → w ≡ mapBytes (upTo 0 p)
 map-start p w e = e ∙ sym map-none ∙ map-ext (λ x. false) (upTo 0 p) (λ d l. sym (up-none p d))
 
-pub map-next : (p : ℕ → Bool) (d : ℕ) (b : Bool) (w w′ : List ℕ) → d < 512 → b ≡ p d → w ≡ mapBytes (upTo d p) → w′ ≡ choose b (setMap w 0 d) w → w′ ≡ mapBytes (upTo (d + 1) p)
-unfolding choose
-map-next p d true w w′ l h e k = k ∙ ap (λ (s : List ℕ). setMap s 0 d) e ∙ map-set (upTo d p) d l ∙ map-ext _ (upTo (d + 1) p) (λ x m. up-yes d p (sym h) x)
-map-next p d false w w′ l h e k = k ∙ e ∙ map-ext (upTo d p) (upTo (d + 1) p) (λ x m. up-no d p (sym h) x)
+pub map-next : (p : ℕ → Bool) (d : ℕ) (b : Bool) (w w′ : List ℕ) → d < 512 → b ≡ p d
+    → w ≡ mapBytes (upTo d p) → w′ ≡ choose b (setMap w 0 d) w → w′ ≡ mapBytes (upTo (d + 1) p)
+map-next p d true w w′ l h e k =
+    k
+    ∙ choose-yes true (setMap w 0 d) w refl
+    ∙ ap (λ (s : List ℕ). setMap s 0 d) e
+    ∙ map-set (upTo d p) d l
+    ∙ map-ext _ (upTo (d + 1) p) (λ x m. up-yes d p (sym h) x)
+map-next p d false w w′ l h e k = k ∙ choose-no false (setMap w 0 d) w refl ∙ e ∙ map-ext (upTo d p) (upTo (d + 1) p) (λ x m. up-no d p (sym h) x)
 
 pub map-end : (p : ℕ → Bool) (n d : ℕ) (w : List ℕ) → n ≤ d → d ≤ n → ((e : ℕ) → n ≤ e → p e ≡ false) → w ≡ mapBytes (upTo d p) → w ≡ mapBytes p
 map-end p n d w a b h e =
@@ -103,7 +126,7 @@ map-end p n d w a b h e =
     e ∙ ap (λ (k : ℕ). mapBytes (upTo k p)) x ∙ map-ext (upTo n p) p (λ y l. up-end n p h y)
 
 pub held-end : (cat : List ℕ) (e : ℕ) → blockCount cat ≤ e → held cat e ≡ false
-held-end cat e l = sym (held-1 cat e l)
+held-end cat e l = sym (above-not-held cat e l)
 
 pub hit-end : (cat entry : List ℕ) (q : Strand) (e : ℕ) → blockCount cat ≤ e → isHit embeds cat entry q e ≡ false
 unfolding isHit
@@ -112,18 +135,18 @@ hit-end cat entry q e l = rw (held-end cat e l)
 -- ---- the numbers selected so far
 
 select-yes : (p : ℕ → Bool) (d : ℕ) → p d ≡ true → select (d + 1) p ≡ select d p ++ (d ∷ [])
-unfolding select choose
-select-yes p d h = rw (add-one, h)
+unfolding select
+select-yes p d h = rw (add-one, choose-yes (p d) (d ∷ []) [] h)
 
 select-no : (p : ℕ → Bool) (d : ℕ) → p d ≡ false → select (d + 1) p ≡ select d p
-unfolding select choose
-select-no p d h = rw (add-one, h) (append-nil (select d p))
+unfolding select
+select-no p d h = rw (add-one, choose-no (p d) (d ∷ []) [] h) (append-nil (select d p))
 
 -- the hits so far stand at the start of the slice, and the rest is as it was
-pub count-next : (p : ℕ → Bool) (d : ℕ) (b : Bool) (c c′ : ℕ) → b ≡ p d → c ≡ length (select d p) → c′ ≡ choose b (c + 1) c → c′ ≡ length (select (d + 1) p)
-unfolding choose
-count-next p d true c c′ h e k = k ∙ ap (λ (n : ℕ). n + 1) e ∙ sym (ap length (select-yes p d (sym h)) ∙ length-append (select d p) (d ∷ []))
-count-next p d false c c′ h e k = k ∙ e ∙ sym (ap length (select-no p d (sym h)))
+count-next : (p : ℕ → Bool) (d : ℕ) (b : Bool) (c c′ : ℕ) → b ≡ p d → c ≡ length (select d p) → c′ ≡ choose b (c + 1) c → c′ ≡ length (select (d + 1) p)
+count-next p d true c c′ h e k =
+    k ∙ choose-yes true (c + 1) c refl ∙ ap (λ (n : ℕ). n + 1) e ∙ sym (ap length (select-yes p d (sym h)) ∙ length-append (select d p) (d ∷ []))
+count-next p d false c c′ h e k = k ∙ choose-no false (c + 1) c refl ∙ e ∙ sym (ap length (select-no p d (sym h)))
 
 -- one more: the number goes after what is there
 after : (l : List ℕ) (d : ℕ) (s : List ℕ) → length l < length s → set (l ++ drop (length l) s) (length l) d ≡ l ++ (d ∷ []) ++ drop (length l + 1) s
@@ -133,17 +156,19 @@ after l d s h =
     ∙ ap (λ (n : ℕ). l ++ (d ∷ drop n s)) (sym (add-one (length l)))
     ∙ sym (append-assoc l (d ∷ []) (drop (length l + 1) s))
 
-pub hits-next : (p : ℕ → Bool) (d : ℕ) (b : Bool) (c : ℕ) (s w w′ : List ℕ) → b ≡ p d → c ≡ length (select d p) → c < length s
+hits-next : (p : ℕ → Bool) (d : ℕ) (b : Bool) (c : ℕ) (s w w′ : List ℕ) → b ≡ p d → c ≡ length (select d p) → c < length s
     → w ≡ select d p ++ drop c s → w′ ≡ choose b (set w c d) w → w′ ≡ select (d + 1) p ++ drop (length (select (d + 1) p)) s
-unfolding choose
 hits-next p d true c s w w′ h e l ew k =
     let u : w ≡ select d p ++ drop (length (select d p)) s = ew ∙ ap (λ (n : ℕ). select d p ++ drop n s) e in
     let v : set w c d ≡ select d p ++ (d ∷ []) ++ drop (length (select d p) + 1) s
     = ap₂ (λ (x : List ℕ) (n : ℕ). set x n d) u e ∙ after (select d p) d s (omega arith) in
     let x : length (select (d + 1) p) ≡ length (select d p) + 1 = ap length (select-yes p d (sym h)) ∙ length-append (select d p) (d ∷ []) in
-    k ∙ v ∙ ap₂ (λ (a : List ℕ) (n : ℕ). a ++ drop n s) (sym (select-yes p d (sym h))) (sym x)
+    k ∙ choose-yes true (set w c d) w refl ∙ v ∙ ap₂ (λ (a : List ℕ) (n : ℕ). a ++ drop n s) (sym (select-yes p d (sym h))) (sym x)
 hits-next p d false c s w w′ h e l ew k =
-    k ∙ ew ∙ ap₂ (λ (a : List ℕ) (n : ℕ). a ++ drop n s) (sym (select-no p d (sym h))) (e ∙ sym (ap length (select-no p d (sym h))))
+    k
+    ∙ choose-no false (set w c d) w refl
+    ∙ ew
+    ∙ ap₂ (λ (a : List ℕ) (n : ℕ). a ++ drop n s) (sym (select-no p d (sym h))) (e ∙ sym (ap length (select-no p d (sym h))))
 
 -- ---- small steps of the code
 
@@ -157,7 +182,7 @@ pub known-of : (a k s r b : Bool) → a ≡ k → r ≡ a && s → r ≡ b → k
 known-of a k s r b e h q = ap (λ (x : Bool). x && s) (sym e) ∙ sym h ∙ q
 
 -- The work slice keeps its length.
-pub ready-at : {cat bases mates : List ℕ} {w w′ : ℕ} → Judged cat bases mates w → w′ ≡ w → Judged cat bases mates w′
+pub ready-at : {cat p pm : List ℕ} {w w′ : ℕ} → Judged cat p pm w → w′ ≡ w → Judged cat p pm w′
 ready-at r e = rw e r
 
 -- ---- the loop of the scan
@@ -165,21 +190,27 @@ ready-at r e = rw e r
 pub record Scanned (p r : ℕ → Bool) (n : ℕ) (hits₀ hits map : List ℕ) (d count searched : ℕ) : Type 0 where
   pub below : d ≤ n
   pub counted : count ≡ length (select d p)
-  pub tallied : searched ≡ length (select d r)
+  pub searched-is : searched ≡ length (select d r)
   pub written : hits ≡ select d p ++ drop count hits₀
   pub mapped : map ≡ mapBytes (upTo d p)
 
 module _ (p r : ℕ → Bool) (n : ℕ) (hits₀ : List ℕ) where
   pub scan-start : (map : List ℕ) → map ≡ replicate 64 0 → Scanned p r n hits₀ hits₀ map 0 0 0
   scan-start map e =
-      record { below = omega arith; counted = unfold select in refl; tallied = unfold select in refl; written = unfold select in refl; mapped = map-start p map e }
+      record {
+        below = omega arith;
+        counted = unfold select in refl;
+        searched-is = unfold select in refl;
+        written = unfold select in refl;
+        mapped = map-start p map e;
+      }
 
   module _ (hits map : List ℕ) (d count searched : ℕ) (s : Scanned p r n hits₀ hits map d count searched) where
     pub count-short : count ≤ d
     count-short = let x = s .counted in omega (arith, select-short p d)
 
     pub searched-short : searched ≤ d
-    searched-short = let x = s .tallied in omega (arith, select-short r d)
+    searched-short = let x = s .searched-is in omega (arith, select-short r d)
 
     pub scan-next : (b : Bool) (k c : ℕ) (h m : List ℕ) → d < n → n ≤ 512 → n ≤ length hits₀ → b ≡ p d → k ≡ choose (r d) (searched + 1) searched
         → c ≡ choose b (count + 1) count → h ≡ choose b (set hits count d) hits → m ≡ choose b (setMap map 0 d) map
@@ -190,7 +221,7 @@ module _ (p r : ℕ → Bool) (n : ℕ) (hits₀ : List ℕ) where
         record {
           below = omega arith;
           counted = c′;
-          tallied = count-next r d (r d) searched k refl (s .tallied) ek;
+          searched-is = count-next r d (r d) searched k refl (s .searched-is) ek;
           written =
               hits-next p d b count hits₀ hits h e (s .counted) (omega arith) (s .written) eh
               ∙ ap (λ (j : ℕ). select (d + 1) p ++ drop j hits₀) (sym c′);
@@ -202,32 +233,26 @@ module _ (p r : ℕ → Bool) (n : ℕ) (hits₀ : List ℕ) where
         let x : d ≡ n = let y = s .below in omega arith in
         record {
           counted = s .counted ∙ ap (λ (k : ℕ). length (select k p)) x;
-          tallied = s .tallied ∙ ap (λ (k : ℕ). length (select k r)) x;
+          searched-is = s .searched-is ∙ ap (λ (k : ℕ). length (select k r)) x;
           written = s .written ∙ ap (λ (k : ℕ). select k p ++ drop count hits₀) x;
           mapped = map-end p n d map h (s .below) out (s .mapped);
         }
 
 -- ---- the answer
 
-module _ (cat cache : List ℕ) (s : ℕ) (bases mates hits : List ℕ) where
+module _ (cat cache : List ℕ) (s : ℕ) (p pm hits : List ℕ) where
   abbrev entry : List ℕ
   entry = blockOf s cache
 
   abbrev motif : Strand
-  motif = strandOf bases mates
+  motif = strandOf p pm
 
   -- sm and fm are the maps of the held numbers and of the hits, h the hit slice and e the block left
   pub answer-is : (c k : ℕ) (sm fm h e : List ℕ) → sm ≡ mapBytes (held cat)
-      → Recorded (isHit embeds cat (blockOf s cache) (strandOf bases mates)) (toSearch cat (blockOf s cache) (strandOf bases mates)) (blockCount cat) hits h fm c k
-      → e ≡ entryBlock bases mates sm fm
-      → queried (Hits c k) (putMid (512 * s) (512 * s + 512 - 512 * s) cache e) h ≡ queryAccepted embeds cat cache (blockOf s cache) s (strandOf bases mates) hits
+      → Recorded (isHit embeds cat (blockOf s cache) (strandOf p pm)) (toSearch cat (blockOf s cache) (strandOf p pm)) (blockCount cat) hits h fm c k
+      → e ≡ entryBlock p pm sm fm
+      → queried (Hits c k) (putMid (512 * s) (512 * s + 512 - 512 * s) cache e) h ≡ queryAccepted embeds cat cache (blockOf s cache) s (strandOf p pm) hits
   unfolding queryAccepted encodeEntry
   answer-is c k sm fm h e es rec ee =
-      queried-eq (ap₂ Hits (rec .counted) (rec .tallied)) (put-is s cache e _ (ee ∙ ap₂ (entryBlock bases mates) es (rec .mapped)))
+      queried-eq (ap₂ Hits (rec .counted) (rec .searched-is)) (put-is s cache e _ (ee ∙ ap₂ (entryBlock p pm) es (rec .mapped)))
       (rec .written ∙ ap (λ (n : ℕ). select (blockCount cat) (isHit embeds cat entry motif) ++ drop n hits) (rec .counted))
-
--- An accepted query keeps the length of the work slice.
-pub work-queried : (cat cache entry : List ℕ) (q : Strand) (s : ℕ) (hits : List ℕ) (r : Queried) (x h w w′ : List ℕ)
-    → queried r x h ≡ queryAccepted embeds cat cache entry s q hits → length w′ ≡ length w → QueryWorkKept r w w′
-unfolding queryAccepted QueryWorkKept
-work-queried cat cache entry q s hits r x h w w′ e k = rw (ap (λ (a : QueryEffect). a .answer) e) k

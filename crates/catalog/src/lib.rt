@@ -3,40 +3,42 @@ ghost use mathlib.Core.Path.{_≡_};
 ghost use lib.ListN.{length};
 ghost use Rattle.strand.specs.Strands.{strandOf};
 ghost use Rattle.calls.specs.Motifs.{embeds};
-ghost use Rattle.calls.specs.Calls.{updated, addOutcome, removeOutcome, queried, queryOutcome, QueryWorkKept};
+ghost use Rattle.refusals.specs.Work.{WorkKept};
+ghost use Rattle.calls.specs.Calls.{effect, addOutcome, removeOutcome, queried, queryVerdict, queryOutcome};
 
 mod judge;
 mod search;
 
+pub use calls::Added;
 pub use calls::Queried;
-pub use calls::Updated;
+pub use calls::Removed;
 
 // The call add: writes the molecule under number d.
-pub fn add(catalog: &mut [u8], cache: &mut [u8], d: usize, bases: &[u8], mates: &[u16]) -> Updated
-    ensures { λ r. ⌜ updated r (now (catalog .exit)) (now (cache .exit))
+pub fn add(catalog: &mut [u8], cache: &mut [u8], d: usize, bases: &[u8], mates: &[u16]) -> Added
+    ensures { λ r. ⌜ effect r (now (catalog .exit)) (now (cache .exit))
         ≡ addOutcome (now (catalog .entry)) (now (cache .entry)) d (strandOf (now (bases .entry)) (now (mates .entry))) ⌝ }
 {
     let verdict = judge::judge_add(catalog, cache, d, bases, mates);
-    if let strand::Verdict::Refused(r) = verdict {
-        return Updated::Refused(r);
+    if let refusals::Verdict::Refused(r) = verdict {
+        return Added::Refused(r);
     }
     buffer::clean_all(cache);
     buffer::put_molecule(catalog, d, bases, mates);
-    Updated::Done
+    Added::Stored
 }
 
 // The call remove: takes number d out of the catalog and of every cache entry.
-pub fn remove(catalog: &mut [u8], cache: &mut [u8], d: usize) -> Updated
-    ensures { λ r. ⌜ updated r (now (catalog .exit)) (now (cache .exit)) ≡ removeOutcome (now (catalog .entry)) (now (cache .entry)) d ⌝ }
+pub fn remove(catalog: &mut [u8], cache: &mut [u8], d: usize) -> Removed
+    ensures { λ r. ⌜ effect r (now (catalog .exit)) (now (cache .exit)) ≡ removeOutcome (now (catalog .entry)) (now (cache .entry)) d ⌝ }
 {
     let verdict = judge::judge_remove(catalog, cache, d);
-    if let strand::Verdict::Refused(r) = verdict {
-        return Updated::Refused(r);
+    if let refusals::Verdict::Refused(r) = verdict {
+        return Removed::Refused(r);
     }
     buffer::clean_all(cache);
     buffer::zero_at(catalog, d);
     buffer::forget_all(cache, d);
-    Updated::Done
+    Removed::Cleared
 }
 
 // The call query: the numbers of the hits, rising, at the start of `hits`. A held molecule that the slot's entry has searched for this very motif is a
@@ -44,23 +46,25 @@ pub fn remove(catalog: &mut [u8], cache: &mut [u8], d: usize) -> Updated
 pub fn query(
     catalog: &[u8],
     cache: &mut [u8],
-    bases: &[u8],
-    mates: &[u16],
+    p: &[u8],
+    pm: &[u16],
     work: &mut [u16],
     hits: &mut [u16],
 ) -> Queried
     ensures { λ r. ⌜ (queried r (now (cache .exit)) (now (hits .exit))
-        ≡ queryOutcome embeds (now (catalog .entry)) (now (cache .entry)) (strandOf (now (bases .entry)) (now (mates .entry))) (length (now (work .entry))) (now (hits .entry)))
-        × QueryWorkKept r (now (work .entry)) (now (work .exit)) ⌝ }
+        ≡ queryOutcome embeds (now (catalog .entry)) (now (cache .entry)) (strandOf (now (p .entry)) (now (pm .entry))) (length (now (work .entry)))
+        (now (hits .entry)))
+        × WorkKept (queryVerdict (now (catalog .entry)) (now (cache .entry)) (strandOf (now (p .entry)) (now (pm .entry))) (length (now (work .entry)))
+        (length (now (hits .entry)))) (now (work .entry)) (now (work .exit)) ⌝ }
 {
     let entries = work.len();
     let places = hits.len();
-    let verdict = judge::judge_query(catalog, cache, bases, mates, entries, places);
-    if let strand::Verdict::Refused(r) = verdict {
+    let verdict = judge::judge_query(catalog, cache, p, pm, entries, places);
+    if let refusals::Verdict::Refused(r) = verdict {
         return Queried::Refused(r);
     }
     buffer::clean_all(cache);
-    let n = cache.len() / 512;
-    let slot = search::slot(bases, mates, n);
-    search::answer(catalog, cache, slot, bases, mates, work, hits)
+    let n = cache.len() / block::layout::BLOCK_SIZE;
+    let slot = search::slot(p, pm, n);
+    search::answer(catalog, cache, slot, p, pm, work, hits)
 }

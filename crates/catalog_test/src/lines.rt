@@ -5,7 +5,7 @@ use testing::slices::byte_at;
 use testing::slices::set_byte;
 use testing::slices::set_entry;
 
-// A call: its letter (A, R or Q) and number, and how many bytes and entries the slices have that it is lent.
+// A call: its letter (A, R or Q) and number, and how many bytes and entries the slices have that it gets.
 pub struct Request {
     pub kind: u8,
     pub d: usize,
@@ -17,14 +17,14 @@ pub struct Request {
 }
 
 fn mate(line: &[u8], i: usize) -> usize {
-    let b = byte_at(line, 55);
+    let b = byte_at(line, 57);
     if b == 45 {
         return i;
     }
     if b != 61 {
-        return digit_at(line, i % 128 + 55);
+        return digit_at(line, i % 128 + 57);
     }
-    let n = number(line, 72, 3);
+    let n = number(line, 74, 3);
     if i < n {
         return n - 1 - i;
     }
@@ -33,11 +33,11 @@ fn mate(line: &[u8], i: usize) -> usize {
 
 // The base at i: those written are repeated.
 fn base(line: &[u8], i: usize) -> usize {
-    let k = number(line, 69, 2);
+    let k = number(line, 71, 2);
     if k == 0 {
         return 0;
     }
-    byte_at(line, i % k % 128 + 41)
+    byte_at(line, i % k % 128 + 43)
 }
 
 // The strand of a line, with more bases and mates than it has.
@@ -66,7 +66,7 @@ pub fn call(line: &[u8], kind: u8) -> Request {
     let cache = number(line, 17, 5);
     let work = number(line, 23, 5);
     let hits = number(line, 29, 3);
-    let listed = number(line, 91, 10);
+    let listed = number(line, 93, 10);
     Request {
         kind,
         d,

@@ -1,20 +1,21 @@
 // Tests of the calls add, remove and query: each call's answer, every byte of catalog and cache that it leaves, and every entry of the hits are
-// held to a plain model, and where it is refused every entry of the work slice too. The model is in `tools/catalog_cases.py`, which writes
-// the input: of the bytes and of the hits the lines have sums, which one other byte changes.
+// held to a plain model, and where it is refused every entry of the work slice too. The model is in `tools/catalog_cases.py`, which makes
+// the lines: of the bytes and of the hits the lines have sums, which one other byte changes.
 //
-// A line has 102 bytes: a letter and, by column, numbers: 2 number d (seven digits), 10 bytes of the catalog (six), 17 bytes of the cache and 23
-// entries of the work slice (five), 29 entries of the hits (three), 33 the answer (seven); then 41 bases and 55 mates, a digit each (10 and more are
-// letters, `z` means 65535), or in the place of the mates `-` or `=`: none is bonded, or each with the one as far from the other end; 69 how many
-// of the bases are written, the others repeat them (two digits), 72 how many bases there are and 76 how many mates (three), 80 the sum of catalog
-// and cache, 91 that of the hits (ten). Letters: `A` add, `R` remove, `Q` query. `N` empties the buffer. `S` sets byte d of the buffer to the value of
+// A line has 104 bytes: a letter and, by column, numbers: 2 number d (seven digits), 10 bytes of the catalog (six), 17 bytes of the cache and 23
+// entries of the work slice (five), 29 entries of the hits (three), 33 the answer (nine); then 43 bases and 57 mates, a digit each (10 and more are
+// letters, `z` means 65535), or in the place of the mates `-` or `=`: none is bonded, or each with the one as far from the other end; 71 how many
+// of the bases are written, the others repeat them (two digits), 74 how many bases there are and 78 how many mates (three), 82 the sum of catalog
+// and cache, 93 that of the hits (ten). Letters: `A` add, `R` remove, `Q` query. `N` empties the buffer. `S` sets byte d of the buffer to the value of
 // column 23, `B` too, uncounted. `G` ends a group: its counts are written behind its name, which stands in column 5, its length in column 2.
-// Remarks begin with `#`. The answer is 0 for an accepted add or remove, row (two digits), side (one) and place (four) of a refusal, and for an
-// accepted query 9, the count and the searched number, three digits each.
+// Remarks begin with `#`. The answer is a number of `testing::answer`: 0 for an accepted add or remove, a refusal, or for an accepted query two
+// numbers, the count and how many molecules were searched.
 mod lines;
 mod requests;
 mod tell;
 
-use requests::WRONG;
+use testing::answer::NOTHING;
+use testing::answer::WRONG;
 use testing::input;
 use testing::input::number;
 use testing::output::say;
@@ -38,13 +39,13 @@ fn act(line: &[u8], kind: u8, s: &mut [u8]) -> usize {
         b'A' | b'R' | b'Q' => answer(line, kind, s),
         b'S' | b'B' => {
             set_byte(s, number(line, 2, 7), number(line, 23, 5));
-            tell::set(kind)
+            tell::byte_set(kind)
         }
         b'N' => {
             clear(s);
-            tell::NOTHING
+            NOTHING
         }
-        _ => tell::NOTHING,
+        _ => NOTHING,
     }
 }
 
@@ -68,15 +69,15 @@ fn all(line: &mut [u8], s: &mut [u8], counts: &mut [u16]) {
     }
 }
 
-// The buffer has 513 blocks of the catalog and 65 of the cache, one more than a call may have. A reference to an array is lent as a slice at no
+// The buffer has 513 blocks of the catalog and 65 of the cache, one more than a call may have. A reference to an array is borrowed as a slice at no
 // cost, where the array itself would be spelled out by the prover.
-fn run(line: &mut [u8; 102], s: &mut [u8; 295936], counts: &mut [u16; 32]) {
+fn run(line: &mut [u8; 104], s: &mut [u8; 295936], counts: &mut [u16; 105]) {
     all(line, s, counts);
 }
 
 fn main() {
-    let mut line = [0u8; 102];
+    let mut line = [0u8; 104];
     let mut s = [0u8; 295936];
-    let mut counts = [0u16; 32];
+    let mut counts = [0u16; 105];
     run(&mut line, &mut s, &mut counts);
 }

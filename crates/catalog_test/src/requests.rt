@@ -1,10 +1,12 @@
 // The calls themselves, on slices of the lengths that a line gives, and what they answer and leave.
 use super::lines;
 use super::lines::Request;
+use catalog::Added;
 use catalog::Queried;
-use catalog::Updated;
+use catalog::Removed;
+use testing::answer;
+use testing::answer::WRONG;
 use testing::input::number;
-use testing::refusal::code;
 use testing::slices::byte_at;
 use testing::slices::first;
 use testing::slices::part;
@@ -12,26 +14,30 @@ use testing::slices::set_byte;
 use testing::slices::sum_bytes;
 use testing::slices::sum_entries;
 
-// The number of an answer that is not the model's, or left something that is not.
-pub const WRONG: usize = 1500000;
-
 // Where the cache starts in the buffer.
 const CACHE: usize = 262656;
 
-fn refusal(r: strand::Refusal) -> usize {
-    code(r.number as usize, r.side as usize, r.place)
+fn refusal(r: refusals::Refusal) -> usize {
+    answer::refused(r.number as usize, r.side as usize, r.place)
 }
 
-fn updated(u: Updated) -> usize {
-    match u {
-        Updated::Done => 0,
-        Updated::Refused(r) => refusal(r),
+fn added(a: Added) -> usize {
+    match a {
+        Added::Stored => 0,
+        Added::Refused(r) => refusal(r),
+    }
+}
+
+fn removed(a: Removed) -> usize {
+    match a {
+        Removed::Cleared => 0,
+        Removed::Refused(r) => refusal(r),
     }
 }
 
 fn queried(q: Queried) -> usize {
     match q {
-        Queried::Hits { count, searched } => 9000000 + count % 1000 * 1000 + searched % 1000,
+        Queried::Hits { count, searched } => answer::two(count, searched),
         Queried::Refused(r) => refusal(r),
     }
 }
@@ -55,7 +61,7 @@ fn held_to(listed: usize, r: usize, work: &[u16], hits: &[u16]) -> usize {
     if sum_entries(hits) != listed {
         return WRONG;
     }
-    if 9000000 <= r {
+    if !answer::is_refused(r) {
         return r;
     }
     if untouched(work) {
@@ -111,9 +117,9 @@ fn query(c: Request, bases: &[u8], mates: &[u16], catalog: &[u8], cache: &mut [u
 
 fn update(c: Request, bases: &[u8], mates: &[u16], catalog: &mut [u8], cache: &mut [u8]) -> usize {
     if c.kind == b'A' {
-        return updated(catalog::add(catalog, cache, c.d, bases, mates));
+        return added(catalog::add(catalog, cache, c.d, bases, mates));
     }
-    updated(catalog::remove(catalog, cache, c.d))
+    removed(catalog::remove(catalog, cache, c.d))
 }
 
 fn lend(c: Request, bases: &[u8], mates: &[u16], s: &mut [u8], cache: &mut [u8]) -> usize {
@@ -170,8 +176,8 @@ pub fn made(c: Request, line: &[u8], s: &mut [u8]) -> usize {
     lines::strand(line, &mut bases, &mut mates);
     with_cache(
         c,
-        part(&bases, 0, number(line, 72, 3)),
-        first(&mates, number(line, 76, 3)),
+        part(&bases, 0, number(line, 74, 3)),
+        first(&mates, number(line, 78, 3)),
         s,
     )
 }
@@ -186,8 +192,8 @@ fn sum(c: Request, s: &[u8]) -> usize {
 
 // Answer and buffers are those of the line.
 pub fn right(c: Request, line: &[u8], s: &[u8], r: usize) -> bool {
-    if r != number(line, 33, 7) {
+    if r != number(line, 33, 9) {
         return false;
     }
-    sum(c, s) == number(line, 80, 10)
+    sum(c, s) == number(line, 82, 10)
 }

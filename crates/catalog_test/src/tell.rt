@@ -1,65 +1,103 @@
-// The counts of a group, at the numbers of capital letters modulo 32: A accepted adds and removes, B to O refusals by row, P wrong answers, Q bytes set, R
-// accepted queries, S their hits, T molecules that they searched.
+// The counts of a group: at 0 accepted adds and removes, at 1 to 99 refusals by row, behind them the others.
+use testing::answer;
+use testing::answer::NOTHING;
+use testing::answer::WRONG;
 use testing::input::number;
 use testing::output;
 use testing::output::say;
-use testing::slices::byte_at;
 use testing::slices::entry_at;
 use testing::slices::part;
 use testing::slices::set_entry;
 
-// What is not counted.
-pub const NOTHING: usize = 3100000;
+const ACCEPTED: usize = 0;
 
-// The number of a byte that was set.
-pub fn set(kind: u8) -> usize {
+const ROWS: usize = 100;
+
+const WRONGS: usize = 100;
+
+const BYTES: usize = 101;
+
+const QUERIES: usize = 102;
+
+const HITS: usize = 103;
+
+const SEARCHES: usize = 104;
+
+// The number of a byte that was set, which is no answer.
+const BYTE_SET: usize = 10000000002;
+
+pub fn byte_set(kind: u8) -> usize {
     if kind == b'S' {
-        return 1600000;
+        return BYTE_SET;
     }
     NOTHING
 }
 
 fn tally(counts: &mut [u16], k: usize, n: usize) {
-    set_entry(counts, k, entry_at(counts, k) % 65536 + n % 1000);
+    set_entry(counts, k, entry_at(counts, k) % 65536 + n % 10000);
 }
 
 fn count_query(counts: &mut [u16], r: usize) {
-    tally(counts, 18, 1);
-    tally(counts, 19, r / 1000);
-    tally(counts, 20, r);
+    tally(counts, QUERIES, 1);
+    tally(counts, HITS, r / 10000);
+    tally(counts, SEARCHES, r);
 }
 
-// Counts an answer.
+// Counts what is no query's answer.
 pub fn count(counts: &mut [u16], r: usize) {
-    if 9000000 <= r {
-        return count_query(counts, r);
+    if r == NOTHING {
+        return;
     }
-    tally(counts, r / 100000 + 1, 1);
+    if r == WRONG {
+        return tally(counts, WRONGS, 1);
+    }
+    if r == BYTE_SET {
+        return tally(counts, BYTES, 1);
+    }
+    let k = answer::row(r);
+    if k < ROWS {
+        return tally(counts, k, 1);
+    }
+    count_query(counts, r);
 }
 
-// Writes byte i of a text, or for a capital letter its count, and counts anew.
-fn write_count(counts: &mut [u16], text: &[u8], i: usize) {
-    let b = byte_at(text, i);
-    if b / 32 != 2 {
-        return say(part(text, i, 1));
-    }
-    output::number(b"", entry_at(counts, b % 32));
-    set_entry(counts, b % 32, 0);
+// Writes a text and a count, and counts anew.
+fn write(counts: &mut [u16], text: &[u8], k: usize) {
+    output::number(text, entry_at(counts, k));
+    set_entry(counts, k, 0);
 }
 
-fn write(counts: &mut [u16], text: &[u8]) {
-    let mut i = 0;
-    while i < text.len() {
-        write_count(counts, text, i);
-        i += 1;
+// Writes a row of refusals and its count, if there are any.
+fn write_row(counts: &mut [u16], row: usize) {
+    if entry_at(counts, row) == 0 {
+        return;
     }
+    output::number(b" ", row);
+    write(counts, b":", row);
+}
+
+fn write_rows(counts: &mut [u16]) {
+    let mut row = 1;
+    while row < ROWS {
+        write_row(counts, row);
+        row += 1;
+    }
+}
+
+fn write_queries(counts: &mut [u16]) {
+    write(counts, b", queries ", QUERIES);
+    write(counts, b" with hits ", HITS);
+    write(counts, b" and searches ", SEARCHES);
 }
 
 // Writes the name of a group and its counts, and begins anew.
 pub fn report(line: &[u8], counts: &mut [u16]) {
     say(part(line, 5, number(line, 2, 2)));
-    write(
-        counts,
-        b": wrong P; adds and removes A, queries R with hits S and searches T; bytes set Q; refused by row B C D E F G H I J K L M N O\n",
-    );
+    write(counts, b": wrong ", WRONGS);
+    write(counts, b"; adds and removes ", ACCEPTED);
+    write_queries(counts);
+    write(counts, b"; bytes set ", BYTES);
+    say(b"; refused by row");
+    write_rows(counts);
+    say(b"\n");
 }

@@ -1,7 +1,6 @@
 -- What the code that writes and reads the parts of a block leaves.
--- Assumes nothing.
 use mathlib.Core.Path.{_≡_, sym, ap, ap₂, _∙_}
-use mathlib.Core.List.{List, _∷_, _++_, append-nil, append-assoc}
+use mathlib.Core.List.{List, [], _∷_, _++_, append-nil, append-assoc}
 use Prim.Native.Nat.{ℕ, zero, suc, _+_, _-_, _*_, _≤_}
 use native.Mathlib.Omega.{arith}
 use native.Mathlib.Nat.{sub-zero, zero-sub, suc-sub-suc}
@@ -9,8 +8,8 @@ use borrow.Rule.Slice.PartMut.{putMid}
 use lib.ListN.{length, set, take, drop, replicate, length-append, length-drop, drop-of-length-le}
 use lib.Seq.{take-all, take-at, drop-at, length-take-le, drop-drop}
 use Rattle.octets.specs.Numbers.{words, bytesOf}
-use Rattle.octets.specs.Checksum.{rechecked}
-use Rattle.block.specs.Content.{moleculeKind, padded, headOf, contentOf, moleculeBlock}
+use Rattle.block.specs.Checksum.{rechecked}
+use Rattle.block.specs.Content.{moleculeKind, padded, headOf, contentOf, strandBlock, moleculeBlock}
 use Rattle.octets.proofs.ScanLaws.{length-bytes}
 use Rattle.block.proofs.PartLaws.{length-padded, length-head, length-content, check-put}
 
@@ -21,13 +20,15 @@ drop-zeros zero n = ap (λ (m : ℕ). replicate m 0) (sym (sub-zero n))
 drop-zeros (suc k) zero = ap (λ (m : ℕ). replicate m 0) (sym (zero-sub (suc k)))
 drop-zeros (suc k) (suc n) = drop-zeros k n ∙ ap (λ (m : ℕ). replicate m 0) (sym (suc-sub-suc n k))
 
-pub head-is : (n : ℕ) (z : List ℕ) (mark m : ℕ) → 2 ≤ n → z ≡ replicate n 0 → set (set z 0 mark) 1 m ≡ headOf n mark m
-head-is zero z mark m h e = absurd (omega arith)
-head-is (suc zero) z mark m h e = absurd (omega arith)
-head-is (suc (suc n)) z mark m h e = rw e (ap (λ (k : ℕ). mark ∷ m ∷ replicate k 0) back)
-  where
-    back : n ≡ suc (suc n) - 2
-    back = omega arith
+-- Byte 0 and the length written, and what follows from byte 2 on.
+pub head-is : (s own p : List ℕ) (mark n : ℕ) → 2 ≤ length s
+    → p ≡ padded (length (take (length (set (set s 0 mark) 1 n) - 2) (drop 2 (set (set s 0 mark) 1 n)))) own
+    → putMid 2 (length (set (set s 0 mark) 1 n) - 2) (set (set s 0 mark) 1 n) p ≡ headOf (length s) mark n own
+head-is [] own p mark n h e = absurd (omega arith)
+head-is (x ∷ []) own p mark n h e = absurd (omega arith)
+head-is (x ∷ y ∷ s) own p mark n h e =
+    ap (λ (l : List ℕ). mark ∷ n ∷ (p ++ l)) (drop-of-length-le s {i = suc (suc (length s)) - 2} (omega arith))
+    ∙ ap (λ (l : List ℕ). mark ∷ n ∷ l) (append-nil p ∙ e ∙ ap (λ (k : ℕ). padded k own) (length-take-le (suc (suc (length s)) - 2) s (omega arith)))
 
 pub mates-is : (n : ℕ) (m z r : List ℕ) → z ≡ replicate n 0 → r ≡ bytesOf m ++ drop (2 * length m) z → r ≡ padded n (bytesOf m)
 mates-is n m z r e q =
@@ -79,13 +80,14 @@ padded-is s src p z h ep ez =
 
 -- ---- the content of a block, part by part
 
-module _ (mark start most : ℕ) (bases mates : List ℕ) (ha : 2 ≤ start) (hb : length bases ≤ most) where
+module _ (mark start most : ℕ) (own bases mates : List ℕ) (ha : 2 + length own ≤ start) (hb : length bases ≤ most) where
   pub content-put : (n : ℕ) (s H B M : List ℕ) → start + 3 * most ≤ length s → n ≡ length bases
-      → H ≡ headOf (length (take start s)) mark n
+      → H ≡ headOf (length (take start s)) mark n own
       → B ≡ padded (length (take (start + most - start) (drop start (H ++ drop start s)))) bases
-      → M ≡ padded (length (take (start + most + 2 * most - (start + most)) (drop (start + most) (putMid start (start + most - start) (H ++ drop start s) B)))) (bytesOf mates)
+      → M ≡ padded (length (take (start + most + 2 * most - (start + most)) (drop (start + most) (putMid start (start + most - start)
+      (H ++ drop start s) B)))) (bytesOf mates)
       → putMid (start + most) (start + most + 2 * most - (start + most)) (putMid start (start + most - start) (H ++ drop start s) B) M
-      ≡ headOf start mark (length bases) ++ padded most bases ++ padded (2 * most) (bytesOf mates) ++ drop (start + 3 * most) s
+      ≡ headOf start mark (length bases) own ++ padded most bases ++ padded (2 * most) (bytesOf mates) ++ drop (start + 3 * most) s
   content-put n s H B M hs en eH eB eM =
       ap (λ (l : List ℕ). putMid f (h - f) l M) w2
       ∙ put-next f h (H ++ B) T lHB M
@@ -100,11 +102,11 @@ module _ (mark start most : ℕ) (bases mates : List ℕ) (ha : 2 ≤ start) (hb
       T : List ℕ
       T = drop (f - start) (drop start s)
 
-      H-is : H ≡ headOf start mark (length bases)
-      H-is = eH ∙ ap₂ (λ (x y : ℕ). headOf x mark y) (length-take-le start s (omega arith)) en
+      H-is : H ≡ headOf start mark (length bases) own
+      H-is = eH ∙ ap₂ (λ (x y : ℕ). headOf x mark y own) (length-take-le start s (omega arith)) en
 
       lH : length H ≡ start
-      lH = ap length H-is ∙ length-head start mark (length bases) ha
+      lH = ap length H-is ∙ length-head start mark (length bases) own ha
 
       B-is : B ≡ padded most bases
       B-is = eB ∙ ap (λ (k : ℕ). padded k bases) (next-length start f H (drop start s) lH (simp length-drop (omega arith)) ∙ omega arith)
@@ -142,7 +144,7 @@ read-is s d r from n h e =
     ∙ ap (words n) (take-all (length s - from) (drop from s) (simp length-drop (omega arith)))
 
 pub molecule-put : (bases mates t s r : List ℕ) → length bases ≤ 160 → length mates ≡ length bases → length s ≡ 512
-    → s ≡ contentOf moleculeKind bases mates ++ t → r ≡ rechecked s → r ≡ moleculeBlock bases mates
-unfolding moleculeBlock
+    → s ≡ contentOf moleculeKind [] bases mates ++ t → r ≡ rechecked s → r ≡ moleculeBlock bases mates
+unfolding moleculeBlock strandBlock
 molecule-put bases mates t s r hb hm hs e er =
-    check-put (contentOf moleculeKind bases mates) t s r (length-content moleculeKind bases mates (omega arith) hb hm) hs e er
+    check-put (contentOf moleculeKind [] bases mates) t s r (length-content moleculeKind [] bases mates (omega arith) hb hm) hs e er

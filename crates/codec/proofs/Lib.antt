@@ -1,3 +1,3 @@
 pub mod CodeLaws
-pub mod WriteLaws
+mod WriteLaws
 pub mod OutcomeLaws

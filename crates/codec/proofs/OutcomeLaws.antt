@@ -1,6 +1,5 @@
 -- The outcomes of the writers, the decoder and the motif test: each return of their code, and what a caller whose input fits may cite.
--- Assumes nothing.
-use mathlib.Core.Path.{_≡_, sym, ap, _∙_}
+use mathlib.Core.Path.{_≡_, refl, sym, ap, ap₂, _∙_}
 use mathlib.Core.Bool.{Bool, true, false, _&&_}
 use mathlib.Core.List.{List, _++_}
 use Prim.Native.Nat.{ℕ, _<_, _≤_}
@@ -8,28 +7,29 @@ use native.Mathlib.Omega.{arith}
 use borrow.Author.Tests.{eq-eqb, ne-eqb, eqb-true, le-leb, lt-leb, leb-true}
 use lib.ListN.{length, drop}
 use lib.Dec.{eqb, leb}
-use Rattle.strand.specs.Vocabulary.{choose}
+use Rattle.lists.specs.Vocabulary.{choose}
 use Rattle.strand.specs.Strands.{Strand}
-use Rattle.strand.proofs.ListLaws.{and-true}
-use Rattle.block.specs.Content.{lengthIn, moleculeIn, keepsMotif, moleculeBlock, entryBlock}
-use Rattle.block.specs.Block.{soundMolecule, soundEntry}
-use Rattle.codec.specs.Outcomes.{Wrote, wrote, wroteIf, strandFits, moleculeWrote, entryWrote, Decoded, decoded, laidOver, decodes, moleculeDecoded, keepsTold}
-use Rattle.block.proofs.ContentLaws.{bases-count, molecule-size, molecule-fits, entry-size, entry-fits}
+use Rattle.lists.proofs.ListLaws.{and-true, choose-yes, choose-no}
+use Rattle.block.specs.Content.{lengthIn, strandIn, moleculeIn, motifHandedIn, keepsMotif, moleculeBlock, entryBlock}
+use Rattle.block.specs.Block.{soundMolecule, soundMotif, soundEntry}
+use Rattle.codec.specs.Outcomes.{Wrote, wrote, wroteIf, strandFits, moleculeWrote, entryWrote, Decoded, decoded, laidOver, decodes}
+use Rattle.codec.specs.Outcomes.{moleculeDecoded, motifDecoded, entryKeeps}
+use Rattle.block.proofs.ContentLaws.{bases-count, molecule-size, molecule-fits, motif-size, motif-fits, entry-size, entry-fits}
 
 -- ---- any writer
 
 module _ (new old : List ℕ) where
   pub wrote-not : (fits : Bool) → fits ≡ false → wrote false old ≡ wroteIf fits new old
-  unfolding wroteIf choose
-  wrote-not fits e = rw e
+  unfolding wroteIf
+  wrote-not fits e = ap₂ (λ (b : Bool) (l : List ℕ). wrote b l) (sym e) (sym (choose-no fits new old e))
 
   pub wrote-new : (fits : Bool) (x : List ℕ) → fits ≡ true → x ≡ new → wrote true x ≡ wroteIf fits new old
-  unfolding wroteIf choose
-  wrote-new fits x e q = rw (e, q)
+  unfolding wroteIf
+  wrote-new fits x e q = ap₂ (λ (b : Bool) (l : List ℕ). wrote b l) (sym e) (q ∙ sym (choose-yes fits new old e))
 
   pub bytes-new : (fits r : Bool) (x : List ℕ) → fits ≡ true → wrote r x ≡ wroteIf fits new old → x ≡ new
-  unfolding wroteIf choose
-  bytes-new fits r x e q = ap (λ (w : Wrote). w .bytes) q ∙ rw e
+  unfolding wroteIf
+  bytes-new fits r x e q = ap (λ (w : Wrote). w .bytes) q ∙ choose-yes fits new old e
 
 -- ---- what fits, by lengths
 
@@ -72,18 +72,18 @@ module _ (s bases mates : List ℕ) where
 -- ---- encode_entry
 
 module _ (s bases mates m₁ m₂ : List ℕ) where
-  pub entry-not-1 : strandFits (length s) 120 (length bases) (length mates) ≡ false → wrote false s ≡ entryWrote s bases mates m₁ m₂
+  pub entry-too-long : strandFits (length s) 120 (length bases) (length mates) ≡ false → wrote false s ≡ entryWrote s bases mates m₁ m₂
   unfolding entryWrote
-  entry-not-1 e = wrote-not (entryBlock bases mates m₁ m₂) s _ (rw e)
+  entry-too-long e = wrote-not (entryBlock bases mates m₁ m₂) s _ (rw e)
 
   module _ (fits : strandFits (length s) 120 (length bases) (length mates) ≡ true) where
-    pub entry-not-2 : (length m₁ ≡ 64 → ⊥) → wrote false s ≡ entryWrote s bases mates m₁ m₂
+    pub entry-searched-size : (length m₁ ≡ 64 → ⊥) → wrote false s ≡ entryWrote s bases mates m₁ m₂
     unfolding entryWrote
-    entry-not-2 h = wrote-not (entryBlock bases mates m₁ m₂) s _ (rw (fits, ne-eqb (length m₁) 64 h))
+    entry-searched-size h = wrote-not (entryBlock bases mates m₁ m₂) s _ (rw (fits, ne-eqb (length m₁) 64 h))
 
-    pub entry-not-3 : length m₁ ≡ 64 → (length m₂ ≡ 64 → ⊥) → wrote false s ≡ entryWrote s bases mates m₁ m₂
+    pub entry-hits-size : length m₁ ≡ 64 → (length m₂ ≡ 64 → ⊥) → wrote false s ≡ entryWrote s bases mates m₁ m₂
     unfolding entryWrote
-    entry-not-3 h₁ h₂ = wrote-not (entryBlock bases mates m₁ m₂) s _ (rw (fits, eq-eqb (length m₁) 64 h₁, ne-eqb (length m₂) 64 h₂))
+    entry-hits-size h₁ h₂ = wrote-not (entryBlock bases mates m₁ m₂) s _ (rw (fits, eq-eqb (length m₁) 64 h₁, ne-eqb (length m₂) 64 h₂))
 
     pub entry-done : (x : List ℕ) → length m₁ ≡ 64 → length m₂ ≡ 64 → x ≡ entryBlock bases mates m₁ m₂ → wrote true x ≡ entryWrote s bases mates m₁ m₂
     unfolding entryWrote
@@ -100,22 +100,22 @@ module _ (s bases mates m₁ m₂ : List ℕ) where
 -- ---- decode_molecule
 
 module _ (s : List ℕ) (b m : ℕ) where
-  pub decodes-1 : (length s ≡ 512 → ⊥) → false ≡ decodes s b m
+  pub decodes-no-block : (length s ≡ 512 → ⊥) → false ≡ decodes s b m
   unfolding decodes
-  decodes-1 h = rw (ne-eqb (length s) 512 h)
+  decodes-no-block h = rw (ne-eqb (length s) 512 h)
 
   module _ (size : length s ≡ 512) where
-    pub decodes-2 : 160 < lengthIn s → false ≡ decodes s b m
+    pub decodes-too-long : 160 < lengthIn s → false ≡ decodes s b m
     unfolding decodes
-    decodes-2 h = rw (eq-eqb (length s) 512 size, lt-leb (lengthIn s) 160 h)
+    decodes-too-long h = rw (eq-eqb (length s) 512 size, lt-leb (lengthIn s) 160 h)
 
-    pub decodes-3 : lengthIn s ≤ 160 → b < lengthIn s → false ≡ decodes s b m
+    pub decodes-few-bases : lengthIn s ≤ 160 → b < lengthIn s → false ≡ decodes s b m
     unfolding decodes
-    decodes-3 h hb = rw (eq-eqb (length s) 512 size, le-leb (lengthIn s) 160 h, lt-leb (lengthIn s) b hb)
+    decodes-few-bases h hb = rw (eq-eqb (length s) 512 size, le-leb (lengthIn s) 160 h, lt-leb (lengthIn s) b hb)
 
-    pub decodes-4 : lengthIn s ≤ 160 → lengthIn s ≤ b → leb (lengthIn s) m ≡ decodes s b m
+    pub decodes-by-mates : lengthIn s ≤ 160 → lengthIn s ≤ b → leb (lengthIn s) m ≡ decodes s b m
     unfolding decodes
-    decodes-4 h hb = rw (eq-eqb (length s) 512 size, le-leb (lengthIn s) 160 h, le-leb (lengthIn s) b hb)
+    decodes-by-mates h hb = rw (eq-eqb (length s) 512 size, le-leb (lengthIn s) 160 h, le-leb (lengthIn s) b hb)
 
   pub decodes-all : decodes s b m ≡ true → (length s ≡ 512) × (lengthIn s ≤ 160) × (lengthIn s ≤ b) × (lengthIn s ≤ m)
   unfolding decodes
@@ -127,8 +127,8 @@ module _ (s : List ℕ) (b m : ℕ) where
 
 module _ (s bases mates : List ℕ) where
   pub decoded-not : decodes s (length bases) (length mates) ≡ false → decoded 0 bases mates ≡ moleculeDecoded s bases mates
-  unfolding moleculeDecoded choose
-  decoded-not e = rw e
+  unfolding moleculeDecoded
+  decoded-not e = sym (choose-no _ _ _ e)
 
   decoded-eq : {r r′ : ℕ} {x x′ y y′ : List ℕ} → r ≡ r′ → x ≡ x′ → y ≡ y′ → decoded r x y ≡ decoded r′ x′ y′
   decoded-eq er ex ey = λ i. record { count = er i; bases = ex i; mates = ey i }
@@ -141,35 +141,58 @@ module _ (s bases mates : List ℕ) where
       let k : r ≡ length (moleculeIn s .bases) = er ∙ bases-count s (f .0) (f .1) in
       rw e (decoded-eq k (ex ∙ ap (λ (n : ℕ). moleculeIn s .bases ++ drop n bases) k) (ey ∙ ap (λ (n : ℕ). moleculeIn s .mates ++ drop n mates) k))
 
-  -- A sound block is decoded into slices of 160 places.
-  pub decoded-there : (r : ℕ) (x y : List ℕ) → soundMolecule s ≡ true → 160 ≤ length bases → 160 ≤ length mates → decoded r x y ≡ moleculeDecoded s bases mates
+  -- A block of at most 160 bases is decoded into slices of 160 places.
+  pub laid-there : (r : ℕ) (x y : List ℕ) → length s ≡ 512 → lengthIn s ≤ 160 → 160 ≤ length bases → 160 ≤ length mates
+      → decoded r x y ≡ moleculeDecoded s bases mates
       → (r ≡ length (moleculeIn s .bases)) × (x ≡ moleculeIn s .bases ++ drop r bases) × (y ≡ moleculeIn s .mates ++ drop r mates)
   unfolding moleculeDecoded laidOver decodes choose
-  decoded-there r x y ok hb hm q =
-      let n : lengthIn s ≤ 160 = molecule-fits s ok in
-      let p = rw (eq-eqb (length s) 512 (molecule-size s ok), le-leb (lengthIn s) 160 n, le-leb (lengthIn s) (length bases) (omega arith), le-leb (lengthIn s) (length mates) (omega arith)) at q in
+  laid-there r x y size n hb hm q =
+      let p = rw (
+        eq-eqb (length s) 512 size,
+        le-leb (lengthIn s) 160 n,
+        le-leb (lengthIn s) (length bases) (omega arith),
+        le-leb (lengthIn s) (length mates) (omega arith),
+      ) at q in
       let k : r ≡ length (moleculeIn s .bases) = ap (λ (w : Decoded). w .count) p in (
         k,
         ap (λ (w : Decoded). w .bases) p ∙ ap (λ (n : ℕ). moleculeIn s .bases ++ drop n bases) (sym k),
         ap (λ (w : Decoded). w .mates) p ∙ ap (λ (n : ℕ). moleculeIn s .mates ++ drop n mates) (sym k),
       )
 
+  pub decoded-there : (r : ℕ) (x y : List ℕ) → soundMolecule s ≡ true → 160 ≤ length bases → 160 ≤ length mates → decoded r x y ≡ moleculeDecoded s bases mates
+      → (r ≡ length (moleculeIn s .bases)) × (x ≡ moleculeIn s .bases ++ drop r bases) × (y ≡ moleculeIn s .mates ++ drop r mates)
+  decoded-there r x y ok hb hm q = laid-there r x y (molecule-size s ok) (molecule-fits s ok) hb hm q
+
+-- ---- decode_motif
+
+module _ (s bases mates : List ℕ) where
+  pub motif-decoded : moleculeDecoded s bases mates ≡ motifDecoded s bases mates
+  unfolding moleculeDecoded motifDecoded moleculeIn motifHandedIn strandIn
+  motif-decoded = refl
+
+  -- A block that holds a motif is decoded into slices of 160 places.
+  pub motif-there : (r : ℕ) (x y : List ℕ) → soundMotif s ≡ true → 160 ≤ length bases → 160 ≤ length mates → decoded r x y ≡ motifDecoded s bases mates
+      → (r ≡ length (motifHandedIn s .bases)) × (x ≡ motifHandedIn s .bases ++ drop r bases) × (y ≡ motifHandedIn s .mates ++ drop r mates)
+  unfolding moleculeIn motifHandedIn strandIn
+  motif-there r x y ok hb hm q =
+      laid-there s bases mates r x y (motif-size s ok) (motif-fits s ok) hb hm (q ∙ sym motif-decoded)
+
 -- ---- keeps
 
 module _ (s : List ℕ) (q : Strand) where
-  pub told-1 : (length s ≡ 512 → ⊥) → false ≡ keepsTold s q
-  unfolding keepsTold
-  told-1 h = rw (ne-eqb (length s) 512 h)
+  pub keeps-no-block : (length s ≡ 512 → ⊥) → false ≡ entryKeeps s q
+  unfolding entryKeeps
+  keeps-no-block h = rw (ne-eqb (length s) 512 h)
 
   module _ (size : length s ≡ 512) where
-    pub told-2 : 120 < lengthIn s → false ≡ keepsTold s q
-    unfolding keepsTold
-    told-2 h = rw (eq-eqb (length s) 512 size, lt-leb (lengthIn s) 120 h)
+    pub keeps-too-long : 120 < lengthIn s → false ≡ entryKeeps s q
+    unfolding entryKeeps
+    keeps-too-long h = rw (eq-eqb (length s) 512 size, lt-leb (lengthIn s) 120 h)
 
-    pub told-3 : lengthIn s ≤ 120 → keepsMotif s q ≡ keepsTold s q
-    unfolding keepsTold
-    told-3 h = rw (eq-eqb (length s) 512 size, le-leb (lengthIn s) 120 h)
+    pub keeps-by-motif : lengthIn s ≤ 120 → keepsMotif s q ≡ entryKeeps s q
+    unfolding entryKeeps
+    keeps-by-motif h = rw (eq-eqb (length s) 512 size, le-leb (lengthIn s) 120 h)
 
   -- Of a sound entry the test is whether it keeps the motif.
-  pub told-sound : soundEntry s ≡ true → keepsTold s q ≡ keepsMotif s q
-  told-sound ok = sym (told-3 (entry-size s ok) (entry-fits s ok))
+  pub keeps-sound : soundEntry s ≡ true → entryKeeps s q ≡ keepsMotif s q
+  keeps-sound ok = sym (keeps-by-motif (entry-size s ok) (entry-fits s ok))

@@ -1,15 +1,15 @@
 -- What the writers, the decoder and the motif test answer and leave, for any input: where something does not fit, the answer says so and
--- no byte changes. Assumes nothing.
+-- no byte changes.
 use Prim.Native.Nat.{ℕ}
 use mathlib.Core.List.{List, _++_}
 use mathlib.Core.Bool.{Bool, _&&_}
 use lib.ListN.{length, drop}
 use lib.Dec.{eqb, leb}
-use Rattle.strand.specs.Vocabulary.{choose}
+use Rattle.lists.specs.Vocabulary.{choose}
 use Rattle.strand.specs.Strands.{Strand}
-use Rattle.octets.specs.Checksum.{blockSize}
+use Rattle.block.specs.Checksum.{blockSize}
 use Rattle.octets.specs.Maps.{mapSize}
-use Rattle.block.specs.Content.{moleculeKind, entryKind, lengthIn, moleculeIn, keepsMotif, moleculeBlock, entryBlock}
+use Rattle.block.specs.Content.{blockBases, moleculeKind, entryKind, lengthIn, moleculeIn, motifHandedIn, keepsMotif, moleculeBlock, entryBlock}
 
 -- ---- writers
 
@@ -55,15 +55,20 @@ laidOver q bases mates = decoded (length (q .bases)) (q .bases ++ drop (length (
 
 -- s is of one block's length, its length byte is within the limit, and the slices have so many places.
 unfoldable pub decodes : List ℕ → ℕ → ℕ → Bool
-decodes s bases mates = eqb (length s) blockSize && leb (lengthIn s) (moleculeKind .most) && leb (lengthIn s) bases && leb (lengthIn s) mates
+decodes s bases mates = eqb (length s) blockSize && leb (lengthIn s) blockBases && leb (lengthIn s) bases && leb (lengthIn s) mates
 
 -- The molecule of s; 0, and the slices as they were, where it cannot be decoded.
 unfoldable pub moleculeDecoded : List ℕ → List ℕ → List ℕ → Decoded
 moleculeDecoded s bases mates =
     choose (decodes s (length bases) (length mates)) (laidOver (moleculeIn s) bases mates) (decoded 0 bases mates)
 
+-- The same of the motif of a block handed in as one.
+unfoldable pub motifDecoded : List ℕ → List ℕ → List ℕ → Decoded
+motifDecoded s bases mates =
+    choose (decodes s (length bases) (length mates)) (laidOver (motifHandedIn s) bases mates) (decoded 0 bases mates)
+
 -- ---- the motif test
 
 -- False for what can be no entry: s not of one block's length, or its length byte over the limit.
-unfoldable pub keepsTold : List ℕ → Strand → Bool
-keepsTold s q = eqb (length s) blockSize && leb (lengthIn s) (entryKind .most) && keepsMotif s q
+unfoldable pub entryKeeps : List ℕ → Strand → Bool
+entryKeeps s q = eqb (length s) blockSize && leb (lengthIn s) (entryKind .most) && keepsMotif s q

@@ -1,23 +1,32 @@
-// A molecule block, encoded into a borrowed block and decoded into borrowed slices.
+// A molecule block, encoded into a borrowed block and decoded into borrowed slices; a block handed in as a motif, decoded.
+use block::layout;
 ghost use mathlib.Core.Path.{_≡_};
 ghost use Prim.Native.Nat.{_+_, _*_, _≤_};
 ghost use mathlib.Core.List.{_++_};
 ghost use lib.ListN.{length, drop};
-ghost use Rattle.strand.specs.Vocabulary.{between};
+ghost use Rattle.lists.specs.Vocabulary.{between};
 ghost use Rattle.octets.specs.Numbers.{words};
-ghost use Rattle.octets.specs.Checksum.{blockSize, checksumAt};
+ghost use Rattle.block.specs.Checksum.{blockSize, checksumAt};
 ghost use Rattle.block.specs.Content.{lengthIn};
-ghost use Rattle.codec.specs.Outcomes.{wrote, moleculeWrote, decoded, decodes, moleculeDecoded};
+ghost use Rattle.codec.specs.Outcomes.{wrote, moleculeWrote, decoded, decodes, moleculeDecoded, motifDecoded};
 
 // Write the block of a molecule of at most 160 bases. False, and nothing written, where s is not one block or the molecule does not fit.
 pub fn encode_molecule(s: &mut [u8], bases: &[u8], mates: &[u16]) -> bool
     ensures { λ r. ⌜ wrote r (now (s .exit)) ≡ moleculeWrote (now (s .entry)) (now (bases .entry)) (now (mates .entry)) ⌝ }
 {
-    if !crate::parts::strand_fits(s.len(), 160, bases.len(), mates.len()) {
+    if !crate::parts::strand_fits(s.len(), layout::BLOCK_BASES, bases.len(), mates.len()) {
         return false;
     }
-    crate::parts::put_content(s, 1, 28, 160, bases, mates);
-    octets::checksum::put_checksum(s);
+    crate::parts::put_content(
+        s,
+        layout::MOLECULE_MARK,
+        layout::MOLECULE_START,
+        layout::BLOCK_BASES,
+        b"",
+        bases,
+        mates,
+    );
+    block::checksum::put_checksum(s);
     true
 }
 
@@ -39,11 +48,11 @@ fn decode(s: &[u8], start: usize, most: usize, bases: &mut [u8], mates: &mut [u1
 fn can_decode(s: &[u8], bases: usize, mates: usize) -> bool
     ensures { λ r. ⌜ r ≡ decodes (now (s .entry)) bases mates ⌝ }
 {
-    if s.len() != 512 {
+    if s.len() != layout::BLOCK_SIZE {
         return false;
     }
     let n = s[1] as usize;
-    if 160 < n {
+    if layout::BLOCK_BASES < n {
         return false;
     }
     if bases < n {
@@ -60,5 +69,12 @@ pub fn decode_molecule(s: &[u8], bases: &mut [u8], mates: &mut [u16]) -> usize
     if !can_decode(s, bases.len(), mates.len()) {
         return 0;
     }
-    decode(s, 28, 160, bases, mates)
+    decode(s, layout::MOLECULE_START, layout::BLOCK_BASES, bases, mates)
+}
+
+// The same for the motif of a block handed in as one, which is laid out alike.
+pub fn decode_motif(s: &[u8], bases: &mut [u8], mates: &mut [u16]) -> usize
+    ensures { λ r. ⌜ decoded r (now (bases .exit)) (now (mates .exit)) ≡ motifDecoded (now (s .entry)) (now (bases .entry)) (now (mates .entry)) ⌝ }
+{
+    decode_molecule(s, bases, mates)
 }

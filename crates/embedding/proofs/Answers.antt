@@ -1,7 +1,8 @@
--- The answers of tests: turned round, made of others, and what a choice by one comes to. Assumes nothing.
+-- The answers of tests: negated, made of others, and what a choice by one comes to.
 use mathlib.Core.Path.{_≡_, refl, sym, _∙_}
 use mathlib.Core.Bool.{Bool, true, false, not, _&&_, true≢false}
-use Rattle.strand.specs.Vocabulary.{choose, Tells}
+use Rattle.lists.specs.Vocabulary.{choose, Tells}
+use Rattle.lists.proofs.ListLaws.{choose-yes, choose-no}
 
 pub tells-yes : {A : Type 0} → A → Tells true A
 tells-yes a = record { yes = λ e. a; no = λ e. absurd (true≢false e) }
@@ -25,9 +26,8 @@ not-true-is false n = refl
 
 -- A choice by a test, case by case.
 pub by-test : {A : Type 0} (P : A → Type 0) (t : Bool) {x y : A} → (t ≡ true → P x) → (t ≡ false → P y) → P (choose t x y)
-unfolding choose
-by-test P true f g = f refl
-by-test P false f g = g refl
+by-test P true {x} {y} f g = rw (choose-yes true x y refl) (f refl)
+by-test P false {x} {y} f g = rw (choose-no false x y refl) (g refl)
 
 -- A test that failed and passed.
 pub clash : {t : Bool} → t ≡ false → t ≡ true → ⊥

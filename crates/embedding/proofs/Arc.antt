@@ -1,5 +1,4 @@
 -- An arc (l, r) of Q: the largest closed end in Q[l..r+1), from those in Q[l+1..r), Q[l..r) and Q[l+1..r+1).
--- Assumes nothing.
 use Prim.Native.Nat.{ℕ, zero, suc, _≤_, _<_, max}
 use mathlib.Core.Path.{_≡_, refl, sym, ap, _∙_}
 use mathlib.Core.Bool.{Bool, true}
@@ -143,7 +142,7 @@ module _ {fit : ℕ → ℕ → Bool} {pm qm : ℕ → ℕ} (l r : ℕ) (lr : l 
 
   module _ {m : ℕ} where
     -- P[j..m) does not begin with an arc, and an end is reached that is not reached without Q[l]: Q[r] is left out.
-    pub arc-before : {j b : ℕ} → (j < m → pm j ≤ j) → Best fit pm qm m j b (suc l) (suc r)
+    arc-before : {j b : ℕ} → (j < m → pm j ≤ j) → Best fit pm qm m j b (suc l) (suc r)
         → (k : ℕ) → Reach fit pm qm m j k l (suc r) → b < k → Reach fit pm qm m j k l r
     arc-before free B zero R h = absurd (omega arith)
     arc-before {j} {b} free B (suc y) R h = go (lay j y (R .embeds .0) (omega (arith, B .reach .from)) (R .embeds .1))
@@ -167,7 +166,7 @@ module _ {fit : ℕ → ℕ → Bool} {pm qm : ℕ → ℕ} (l r : ℕ) (lr : l 
     module _ {M n : ℕ} (NP : Nested pm M) (NQ : Nested qm n) (rn : r < n) (hM : m ≤ M)
         (j b : ℕ) (left : j < pm j) (hp : pm j < m) (B : Best fit pm qm m j b (suc l) (suc r)) where
       -- An end that is not reached without Q[l] is that of the arc, laid upon (l, r).
-      pub arc-upon : (k : ℕ) → Reach fit pm qm m j k l (suc r) → b < k
+      arc-upon : (k : ℕ) → Reach fit pm qm m j k l (suc r) → b < k
           → (suc (pm j) ≡ k) × (fit j l ≡ true) × (fit (pm j) r ≡ true) × Reach fit pm qm m (suc j) (pm j) (suc l) r
       arc-upon zero R h = absurd (omega arith)
       arc-upon (suc y) R h = go (lay j y f (omega (arith, B .reach .from)) E)

@@ -1,4 +1,4 @@
--- The claims of specs/Statements hold. Assumes nothing.
+-- The claims of specs/Statements hold.
 use Prim.Native.Nat.{ℕ, _≤_}
 use mathlib.Core.Path.{_≡_, refl}
 use mathlib.Core.Bool.{Bool, true}
@@ -7,7 +7,7 @@ use mathlib.Core.List.{List}
 use native.Mathlib.Decide.{decLt}
 use native.Mathlib.Omega.{arith}
 use lib.ListN.{length}
-use Rattle.strand.specs.Vocabulary.{nth}
+use Rattle.lists.specs.Vocabulary.{nth}
 use Rattle.strand.specs.Strands.{Inside}
 use Rattle.embedding.specs.Embedding.{ClosedPrefix}
 use Rattle.embedding.specs.Longest.{closedTo, longest}
@@ -18,13 +18,13 @@ use Rattle.embedding.proofs.VerifyLaws.{verify-yes}
 use Rattle.embedding.proofs.Computed.{closed-iff, longest-best, verified-iff}
 
 -- A closed prefix in 01's words and by its mates.
-pub closed-mates : {mate : ℕ → ℕ} {m : ℕ} → Inside mate m → (k : ℕ) → k ≤ m → ClosedPrefix mate m k → Closed mate 0 k
+closed-mates : {mate : ℕ → ℕ} {m : ℕ} → Inside mate m → (k : ℕ) → k ≤ m → ClosedPrefix mate m k → Closed mate 0 k
 closed-mates {mate} H k h C x p q = elim (decLt (mate x) k) [
   | yes t ↦ t
   | no t ↦ absurd (C x (mate x) q (omega arith) (H x (omega arith)) refl)
 ]
 
-pub mates-closed : (mate : ℕ → ℕ) (m k : ℕ) → Closed mate 0 k → ClosedPrefix mate m k
+mates-closed : (mate : ℕ → ℕ) (m k : ℕ) → Closed mate 0 k → ClosedPrefix mate m k
 mates-closed mate m k C x y p q r e = omega (arith, C x (omega arith) p)
 
 closed-says : (mate : ℕ → ℕ) (m k : ℕ) → Inside mate m → k ≤ m → (closedTo mate k ≡ true) ↔ ClosedPrefix mate m k
@@ -34,7 +34,7 @@ closed-says mate m k H h = (
 )
 
 module _ (rule : ℕ → ℕ → Bool) (pb pm qb qm : List ℕ) where
-  pub longest-says : Inside (nth pm) (length pb) → IsLongest rule pb pm qb qm (longest rule pb pm qb qm)
+  longest-says : Inside (nth pm) (length pb) → IsLongest rule pb pm qb qm (longest rule pb pm qb qm)
   longest-says H =
       let B = longest-best rule pb pm qb qm in
       record {
@@ -50,7 +50,7 @@ module _ (rule : ℕ → ℕ → Bool) (pb pm qb qm : List ℕ) where
       let J = longest-says H in
       omega (arith, I .largest _ (J .upto) (J .closed) (J .embeds), J .largest L (I .upto) (I .closed) (I .embeds))
 
-  pub whole-iff : Inside (nth pm) (length pb) → WholeEmbeds rule pb pm qb qm
+  whole-iff : Inside (nth pm) (length pb) → WholeEmbeds rule pb pm qb qm
   whole-iff H =
       let B = longest-best rule pb pm qb qm in (
         (λ e. rw e at (B .reach .embeds)),
@@ -61,7 +61,7 @@ module _ (rule : ℕ → ℕ → Bool) (pb pm qb qm : List ℕ) where
         )),
       )
 
-  pub verified-says : (v : List ℕ) → VerifiedSays rule pb pm qb qm v
+  verified-says : (v : List ℕ) → VerifiedSays rule pb pm qb qm v
   verified-says v =
       record {
         yes = verified-iff rule pb pm qb qm v;

@@ -1,11 +1,11 @@
 -- Embeddings compose, by letter rules that compose. Nothing here uses it: it is the law by which a motif that embeds in another motif
--- embeds in every molecule that the other one embeds in. Assumes nothing.
+-- embeds in every molecule that the other one embeds in.
 use Prim.Native.Nat.{ℕ}
 use mathlib.Core.Path.{_≡_}
 use mathlib.Core.Bool.{Bool, true}
 use mathlib.Core.List.{List}
 use native.Mathlib.Omega.{arith}
-use Rattle.strand.specs.Vocabulary.{nth}
+use Rattle.lists.specs.Vocabulary.{nth}
 use Rattle.embedding.specs.Embedding.{fits, Emb, Embeds}
 
 -- P[a..b) in Q[s..e) by f, Q[s..e) in R[u..v) by g: P[a..b) in R[u..v) by g after f.

@@ -1,4 +1,4 @@
--- The tests say what the propositions say: places and embeddings, `prefixOk` and reached ends, `longest` and the largest of them. Assumes nothing.
+-- The tests say what the propositions say: places and embeddings, `prefixOk` and reached ends, `longest` and the largest of them.
 use Prim.Native.Nat.{ℕ, _<_}
 use mathlib.Core.Path.{_≡_, refl, sym, _∙_}
 use mathlib.Core.Bool.{Bool, true, false, _&&_, Bool·beq}
@@ -8,12 +8,12 @@ use native.Mathlib.Omega.{arith}
 use lib.Dec.{ltb, eqb}
 use lib.ListN.{length}
 use borrow.Author.Tests.{lt-ltb, ltb-true, eqb-true, eq-eqb}
-use Rattle.strand.specs.Vocabulary.{nth, every, someList, tab}
+use Rattle.lists.specs.Vocabulary.{nth, every, someList, tab}
 use Rattle.embedding.specs.Embedding.{fits, Emb, Embeds}
 use Rattle.embedding.specs.Longest.{placesOk, closedTo, prefixOk, longest, verified}
 use Rattle.embedding.specs.Row.{Closed, Best}
-use Rattle.strand.proofs.ListLaws.{and-true, every-at, every-true, length-tab, nth-tab}
-use Rattle.embedding.proofs.Ranges.{someList-true, someList-of, Largest, largest-is}
+use Rattle.lists.proofs.ListLaws.{and-true, every-at, every-true, length-tab, nth-tab}
+use Rattle.lists.proofs.Ranges.{someList-true, someList-of, Largest, largest-is}
 use Rattle.embedding.proofs.Answers.{and-of}
 use Rattle.embedding.proofs.Splitting.{agree}
 
@@ -37,7 +37,7 @@ closed-iff pm k = (
 )
 
 module _ (fit : ℕ → ℕ → Bool) (pm qm : ℕ → ℕ) (n : ℕ) where
-  pub places-embed : (k : ℕ) (v : List ℕ) → placesOk fit pm qm n k v ≡ true → Emb fit pm qm 0 k 0 n (nth v)
+  places-embed : (k : ℕ) (v : List ℕ) → placesOk fit pm qm n k v ≡ true → Emb fit pm qm 0 k 0 n (nth v)
   unfolding placesOk
   places-embed k v h =
       record {
@@ -60,7 +60,7 @@ module _ (fit : ℕ → ℕ → Bool) (pm qm : ℕ → ℕ) (n : ℕ) where
       pair : (x y : ℕ) → x < y → y < k → (ltb (nth v x) (nth v y) ≡ true) × (Bool·beq (eqb (pm x) y) (eqb (qm (nth v x)) (nth v y)) ≡ true)
       pair x y q r = and-true _ _ (every-at _ y x (inner y r .2) q)
 
-  pub embed-places : (k : ℕ) (v : List ℕ) → Emb fit pm qm 0 k 0 n (nth v) → placesOk fit pm qm n k v ≡ true
+  embed-places : (k : ℕ) (v : List ℕ) → Emb fit pm qm 0 k 0 n (nth v) → placesOk fit pm qm n k v ≡ true
   unfolding placesOk
   embed-places k v E =
       every-true _ k λ y q.
@@ -71,7 +71,7 @@ module _ (fit : ℕ → ℕ → Bool) (pm qm : ℕ → ℕ) (n : ℕ) where
       ((λ e. eq-eqb (qm (nth v x)) (nth v y) (a .0 (eqb-true (pm x) y e))), (λ e. eq-eqb (pm x) y (a .1 (eqb-true (qm (nth v x)) (nth v y) e)))))))
 
   -- Existence by the test, and existence of an embedding.
-  pub some-places-iff : (k : ℕ) → (someList k n (placesOk fit pm qm n k) ≡ true) ↔ Embeds fit pm qm 0 k 0 n
+  some-places-iff : (k : ℕ) → (someList k n (placesOk fit pm qm n k) ≡ true) ↔ Embeds fit pm qm 0 k 0 n
   some-places-iff k = (there, back)
     where
       there : someList k n (placesOk fit pm qm n k) ≡ true → Embeds fit pm qm 0 k 0 n
@@ -83,7 +83,7 @@ module _ (fit : ℕ → ℕ → Bool) (pm qm : ℕ → ℕ) (n : ℕ) where
           let F = agree (nth v) (λ x p q. sym (nth-tab f k x q)) E in
           someList-of k n (placesOk fit pm qm n k) v (length-tab f k) (λ x q. F .high x (omega arith) q) (embed-places k v F)
 
-  pub prefix-iff : (k : ℕ) → (prefixOk fit pm qm n k ≡ true) ↔ (Closed pm 0 k × Embeds fit pm qm 0 k 0 n)
+  prefix-iff : (k : ℕ) → (prefixOk fit pm qm n k ≡ true) ↔ (Closed pm 0 k × Embeds fit pm qm 0 k 0 n)
   unfolding prefixOk
   prefix-iff k = (
     (λ h. let a = and-true _ _ h in (closed-iff pm k .0 (a .0), some-places-iff k .0 (a .1))),

@@ -1,13 +1,13 @@
 -- The laws, each after what it needs.
-pub mod Answers
-pub mod Ranges
+mod Answers
 pub mod Splitting
-pub mod Composition
+mod Composition
 pub mod Window
 pub mod Recurrence
+pub mod Entries
 pub mod Arc
 pub mod Rows
 pub mod Computed
-pub mod VerifyLaws
+mod VerifyLaws
 pub mod Claims
-pub mod Placing
+mod Placing

@@ -1,4 +1,4 @@
--- The test of places, step by step: order and range, letters, arcs; together they say that the places are an embedding. Assumes nothing.
+-- The test of places, step by step: order and range, letters, arcs; together they say that the places are an embedding.
 use Prim.Native.Nat.{ℕ, _+_, _-_, _≤_, _<_}
 use mathlib.Core.Path.{_≡_, refl, sym, ap, _∙_}
 use mathlib.Core.Bool.{Bool, true, false, not, true≢false}
@@ -8,7 +8,7 @@ use native.Mathlib.Omega.{arith}
 use lib.Dec.{eqb}
 use lib.ListN.{length}
 use borrow.Author.Tests.{eqb-true, eq-eqb}
-use Rattle.strand.specs.Vocabulary.{nth, Tells}
+use Rattle.lists.specs.Vocabulary.{nth, Tells}
 use Rattle.embedding.specs.Embedding.{Emb, lettersFit}
 use Rattle.embedding.specs.Places.{Ordered, Lettered, Has, ArcKept, ArcsKept}
 use Rattle.embedding.proofs.Answers.{tells-not}
@@ -39,7 +39,7 @@ module _ (v : List ℕ) (n : ℕ) where
   order-end i O h = record { below = λ x p. O .below x (omega arith); rises = λ x y p q. O .rises x y p (omega arith) }
 
   -- Two places are the same only where the positions are.
-  pub order-same : Ordered v n → (x y : ℕ) → x < length v → y < length v → nth v x ≡ nth v y → x ≡ y
+  order-same : Ordered v n → (x y : ℕ) → x < length v → y < length v → nth v x ≡ nth v y → x ≡ y
   order-same O x y p q e = go (decLt x y) (decLt y x) where
     go : Dec (x < y) → Dec (y < x) → x ≡ y
     go (yes a) d = omega (arith, O .rises x y a q)

@@ -1,5 +1,5 @@
 -- The laws of the largest closed end, `Best`: it is unique, and known for an empty stretch, for a single base, for two stretches side by
--- side (combine), and for a stretch with an unbonded base put in front (extend). Assumes nothing.
+-- side (combine), and for a stretch with an unbonded base put in front (extend).
 use Prim.Native.Nat.{ℕ, suc, _≤_, _<_, max}
 use mathlib.Core.Path.{_≡_}
 use mathlib.Core.Bool.{Bool, true}

@@ -1,5 +1,5 @@
 -- The entries of rows: of an empty stretch, of one base, of two stretches side by side, of an arc from its inner row alone (one
--- accumulator: the inner stretch with the right end is the inner row followed by a unit row), and for a narrower window. Assumes nothing.
+-- accumulator: the inner stretch with the right end is the inner row followed by a unit row), and for a narrower window.
 use Prim.Native.Nat.{ℕ, suc, _≤_, _<_, min, max}
 use mathlib.Core.Path.{_≡_, sym, _∙_}
 use mathlib.Core.Bool.{Bool, true}
@@ -41,7 +41,7 @@ module _ {fit : ℕ → ℕ → Bool} {pm qm : ℕ → ℕ} {z : ℕ} where
     ]
 
     -- The inner stretch with the right end as an unbonded base.
-    pub inner-right : (j : ℕ) → lo ≤ j → j ≤ z → Best fit pm qm z j (unitAt (λ x. fit x r) pm z (f j)) (suc l) (suc r)
+    inner-right : (j : ℕ) → lo ≤ j → j ≤ z → Best fit pm qm z j (unitAt (λ x. fit x r) pm z (f j)) (suc l) (suc r)
     inner-right j g h =
         let B = A .best j g h in
         combine (omega arith) (omega arith) before-right B (unit-best (f j) r (B .reach .upto))
@@ -137,7 +137,10 @@ module _ {fit : ℕ → ℕ → Bool} {pm qm : ℕ → ℕ} {lo z : ℕ} where
 -- A row serves a narrower window P[lo′..z′), if that is closed: no entry goes past it.
 pub narrow-row : {fit : ℕ → ℕ → Bool} {pm qm : ℕ → ℕ} {lo z lo′ z′ s e : ℕ} {f h : ℕ → ℕ} → lo ≤ lo′ → z′ ≤ z → Closed pm lo′ z′
     → IsRow fit pm qm lo z s e f → ((j : ℕ) → lo′ ≤ j → j ≤ z′ → h j ≡ min (f j) z′) → IsRow fit pm qm lo′ z′ s e h
-narrow-row {fit} {pm} {qm} {lo} {z} {lo′} {z′} {s} {e} {f} {h} la zb C F q = record { best = λ j a b. rw (q j a b) (best j a b (F .best j (omega arith) (omega arith))) }
+narrow-row {fit} {pm} {qm} {lo} {z} {lo′} {z′} {s} {e} {f} {h} la zb C F q = record {
+  best = λ j a b. rw (q j a b)
+      (best j a b (F .best j (omega arith) (omega arith)));
+}
   where
     best : (j : ℕ) → lo′ ≤ j → j ≤ z′ → Best fit pm qm z j (f j) s e → Best fit pm qm z′ j (min (f j) z′) s e
     best j a b B =

@@ -1,4 +1,4 @@
--- The Splitting Lemma: embeddings are restricted, extended, cut at an arc-preserving split of the molecule, and glued. Assumes nothing.
+-- The Splitting Lemma: embeddings are restricted, extended, cut at an arc-preserving split of the molecule, and glued.
 use Prim.Native.Nat.{ℕ, zero, suc, _+_, _-_, _≤_, _<_}
 use mathlib.Core.Path.{_≡_, refl}
 use mathlib.Core.Bool.{Bool, true, cond}
@@ -148,7 +148,7 @@ cutting f i (suc d) a b h rise = go (decLt (f a) i) (cutting f i d (suc a) b (om
         after : (x : ℕ) → a ≤ x → x < b → i ≤ f x
         after x p q = elim (ℕ-discrete a x) [ yes k ↦ rw (← k) (omega arith) | no k ↦ omega (arith, rise a x (omega arith) (omega arith) q) ]
 
-pub cut : (f : ℕ → ℕ) (i a b : ℕ) → a ≤ b → ((x y : ℕ) → a ≤ x → x < y → y < b → f x < f y) → Cut f a b i
+cut : (f : ℕ → ℕ) (i a b : ℕ) → a ≤ b → ((x y : ℕ) → a ≤ x → x < y → y < b → f x < f y) → Cut f a b i
 cut f i a b h rise = cutting f i (b - a) a b (omega arith) rise
 
 -- (i) An embedding of a closed stretch, cut where its images pass an arc-preserving split.
@@ -192,7 +192,7 @@ module _ {fit : ℕ → ℕ → Bool} {pm qm : ℕ → ℕ} where
 
   -- The Splitting Lemma, for readers: a closed stretch embeds exactly when it is cut into two that embed on the two sides of the split.
   -- The laws of rows use its two halves, `halves` and `glued`.
-  pub splitting : {a b s e : ℕ} (i : ℕ) → s ≤ i → i ≤ e → a ≤ b → Closed pm a b → Split qm s i e
+  splitting : {a b s e : ℕ} (i : ℕ) → s ≤ i → i ≤ e → a ≤ b → Closed pm a b → Split qm s i e
       → Embeds fit pm qm a b s e ↔ Halves fit pm qm a b s i e
   splitting i hs he h C S = (
     (λ E. halves i h C S E),

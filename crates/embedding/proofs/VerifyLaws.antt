@@ -1,4 +1,4 @@
--- The refusals and the answers of verify, case by case. Assumes nothing.
+-- The refusals and the answers of verify, case by case.
 use Prim.Native.Nat.{ℕ}
 use mathlib.Core.Path.{_≡_, refl, sym, ap, _∙_}
 use mathlib.Core.Bool.{Bool, true, false, not, true≢false}
@@ -7,43 +7,45 @@ use mathlib.Core.Logic.{_↔_}
 use native.Mathlib.Omega.{arith}
 use lib.ListN.{length}
 use borrow.Author.Tests.{eq-eqb, ne-eqb, eqb-true}
-use Rattle.strand.specs.declared.Refusal.{Refusal}
-use Rattle.strand.specs.declared.Verdict.{Verdict}
-use Rattle.strand.specs.declared.Verdict.the-variants as verdict
-use Rattle.strand.specs.Vocabulary.{nth, choose}
+use Rattle.refusals.specs.declared.Refusal.{Refusal}
+use Rattle.refusals.specs.declared.Verdict.{Verdict}
+use Rattle.refusals.specs.declared.Verdict.the-variants as verdict
+use Rattle.lists.specs.Vocabulary.{nth}
 use Rattle.strand.specs.Strands.{lettersMatch, Inside}
-use Rattle.strand.specs.Refusals.{refusal, first, pairVerdict}
-use Rattle.strand.proofs.ListLaws.{not-not}
-use Rattle.strand.proofs.VerdictLaws.{first-pass, row-yes, row-no, row-pass, pair-proper}
+use Rattle.refusals.specs.Rules.{refusal}
+use Rattle.strand.specs.StrandRules.{pairVerdict}
+use Rattle.lists.proofs.ListLaws.{not-not, choose-yes, choose-no}
+use Rattle.refusals.proofs.RuleLaws.{first-one, first-pass, first-skip, first-stop, rule-yes, rule-no, rule-pass, by-refused, by-accepted}
+use Rattle.strand.proofs.VerdictLaws.{pair-proper}
 use Rattle.embedding.specs.declared.Verified.the-variants.{Yes, No, Refused}
 use Rattle.embedding.specs.Embedding.{lettersFit, Emb}
 use Rattle.embedding.specs.Longest.{verified}
-use Rattle.embedding.specs.Verify.{verifyVerdict, verifyUnless, verifyAnswer}
+use Rattle.embedding.specs.Verify.{verifyVerdict, verifyAnswer}
 use Rattle.embedding.proofs.Answers.{not-true-is}
 use Rattle.embedding.proofs.Computed.{verified-iff}
 
 module _ (p pm q qm v : List ℕ) where
   -- What the judge finds.
   pub judged-pair : (x : Refusal) → pairVerdict p pm q qm ≡ verdict.Refused x → verdict.Refused x ≡ verifyVerdict p pm q qm v
-  unfolding verifyVerdict first
-  judged-pair x e = rw e
+  unfolding verifyVerdict
+  judged-pair x e = sym (first-stop _ _ x e)
 
   pub judged-count : pairVerdict p pm q qm ≡ verdict.Accepted → (length v ≡ length p → ⊥) → refusal 9 2 0 ≡ verifyVerdict p pm q qm v
-  unfolding verifyVerdict first
-  judged-count e n = rw (e, row-yes 9 2 _ (ap not (ne-eqb (length v) (length p) n)))
+  unfolding verifyVerdict
+  judged-count e n = sym (first-skip _ _ e ∙ first-stop _ _ _ (rule-yes 9 2 _ (ap not (ne-eqb (length v) (length p) n))))
 
   pub judged-pass : pairVerdict p pm q qm ≡ verdict.Accepted → length v ≡ length p → verdict.Accepted ≡ verifyVerdict p pm q qm v
-  unfolding verifyVerdict first
-  judged-pass e l = rw (e, row-no 9 2 _ (ap not (eq-eqb (length v) (length p) l)))
+  unfolding verifyVerdict
+  judged-pass e l = sym (first-skip _ _ e ∙ first-one _ ∙ rule-no 9 2 _ (ap not (eq-eqb (length v) (length p) l)))
 
   -- What an accepted call knows.
-  pub accepted-pair : verifyVerdict p pm q qm v ≡ verdict.Accepted → pairVerdict p pm q qm ≡ verdict.Accepted
+  accepted-pair : verifyVerdict p pm q qm v ≡ verdict.Accepted → pairVerdict p pm q qm ≡ verdict.Accepted
   unfolding verifyVerdict
   accepted-pair e = first-pass _ _ e .0
 
-  pub accepted-count : verifyVerdict p pm q qm v ≡ verdict.Accepted → length v ≡ length p
+  accepted-count : verifyVerdict p pm q qm v ≡ verdict.Accepted → length v ≡ length p
   unfolding verifyVerdict
-  accepted-count e = eqb-true _ _ (not-not _ (row-pass 9 2 _ (first-pass _ _ (first-pass _ _ e .1) .0)))
+  accepted-count e = eqb-true _ _ (not-not _ (rule-pass 9 2 _ (first-pass _ _ (first-pass _ _ e .1) .0)))
 
   -- What the places have to be before they are tested.
   pub accepted-facts : verifyVerdict p pm q qm v ≡ verdict.Accepted
@@ -55,17 +57,14 @@ module _ (p pm q qm v : List ℕ) where
 
   -- The answers.
   pub answer-refused : (x : Refusal) → verifyVerdict p pm q qm v ≡ verdict.Refused x → Refused x ≡ verifyAnswer p pm q qm v
-  unfolding verifyUnless
-  answer-refused x e = rw e
+  answer-refused x e = sym (by-refused _ _ _ x e)
 
   module _ (e : verifyVerdict p pm q qm v ≡ verdict.Accepted) where
     pub answer-yes : Emb (lettersFit p q) (nth pm) (nth qm) 0 (length p) 0 (length q) (nth v) → Yes ≡ verifyAnswer p pm q qm v
-    unfolding verifyUnless choose
-    answer-yes E = rw (e, verified-iff lettersMatch p pm q qm v .1 (accepted-count e, E))
+    answer-yes E = sym (by-accepted _ _ _ e ∙ choose-yes _ _ _ (verified-iff lettersMatch p pm q qm v .1 (accepted-count e, E)))
 
     pub answer-no : (Emb (lettersFit p q) (nth pm) (nth qm) 0 (length p) 0 (length q) (nth v) → ⊥) → No ≡ verifyAnswer p pm q qm v
-    unfolding verifyUnless choose
-    answer-no n = rw (e, not-true-is _ (λ t. n (verified-iff lettersMatch p pm q qm v .0 t .1)))
+    answer-no n = sym (by-accepted _ _ _ e ∙ choose-no _ _ _ (not-true-is _ (λ t. n (verified-iff lettersMatch p pm q qm v .0 t .1))))
 
   -- Yes exactly when both strands are accepted and the places are an embedding of the whole P.
   yes-facts : verifyAnswer p pm q qm v ≡ Yes

@@ -1,4 +1,4 @@
--- A stretch of so many bases takes no more than so many positions of P: a row is wanted for that window alone. Assumes nothing.
+-- A stretch of so many bases takes no more than so many positions of P: a row is wanted for that window alone.
 use Prim.Native.Nat.{ℕ, zero, suc, _+_, _-_, _≤_, _<_}
 use mathlib.Core.Path.{_≡_, ap}
 use mathlib.Core.Bool.{Bool}
@@ -9,13 +9,13 @@ use Rattle.embedding.specs.Row.{Reach, Best}
 
 module _ {fit : ℕ → ℕ → Bool} {pm qm : ℕ → ℕ} where
   -- The image of a + d is at least d past the stretch's start.
-  pub climbs : {a b s e : ℕ} {f : ℕ → ℕ} → Emb fit pm qm a b s e f → (d : ℕ) → a + d < b → s + d ≤ f (a + d)
+  climbs : {a b s e : ℕ} {f : ℕ → ℕ} → Emb fit pm qm a b s e f → (d : ℕ) → a + d < b → s + d ≤ f (a + d)
   climbs {a} {b} {s} {e} {f} E zero h = omega (arith, E .low (a + 0) (omega arith) h)
   climbs {a} {b} {s} {e} {f} E (suc d) h =
       omega (arith, climbs E d (omega arith), E .order (a + d) (a + suc d) (omega arith) (omega arith) h)
 
   -- An embedding in a stretch of so many bases takes at most so many positions.
-  pub fits-in : {a b s e : ℕ} {f : ℕ → ℕ} → Emb fit pm qm a b s e f → b - a ≤ e - s
+  fits-in : {a b s e : ℕ} {f : ℕ → ℕ} → Emb fit pm qm a b s e f → b - a ≤ e - s
   fits-in {a} {b} {s} {e} {f} E = elim (decLe b a) [
     | yes h ↦ omega arith
     | no h ↦

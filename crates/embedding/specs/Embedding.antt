@@ -1,11 +1,11 @@
 -- What an embedding is: of a stretch P[a..b) of the motif in a stretch Q[s..e) of the molecule, positions from 0, under any letter rule.
--- A strand's arcs are given by its mates; an unbonded base has its own position as mate. Stretches may be empty. Assumes nothing.
+-- A strand's arcs are given by its mates; an unbonded base has its own position as mate. Stretches may be empty.
 use Prim.Native.Nat.{ℕ, _≤_, _<_}
 use mathlib.Core.Path.{_≡_}
 use mathlib.Core.Bool.{Bool, true}
 use mathlib.Core.Logic.{_↔_}
 use mathlib.Core.List.{List}
-use Rattle.strand.specs.Vocabulary.{nth}
+use Rattle.lists.specs.Vocabulary.{nth}
 use Rattle.strand.specs.Strands.{lettersMatch}
 
 -- 01, bases: position x of P may go to position u of Q where the rule, motif letter first, passes on their letters.

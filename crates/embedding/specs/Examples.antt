@@ -1,4 +1,4 @@
--- 01's table of settled examples, and that the definitions agree with every row of it, by computation. Assumes nothing.
+-- 01's table of settled examples, and that the definitions agree with every row of it, by computation.
 use Prim.Native.Nat.{ℕ}
 use mathlib.Core.Path.{_≡_, refl}
 use mathlib.Core.Bool.{Bool, true, _&&_, _||_}
@@ -6,7 +6,7 @@ use mathlib.Core.List.{List, [], _∷_}
 use lib.Dec.{eqb}
 use lib.ListN.{length}
 use Rattle.strand.specs.Strands.{lettersMatch}
-use Rattle.strand.specs.Vocabulary.{choose, some, every, someList, largest}
+use Rattle.lists.specs.Vocabulary.{choose, some, every, someList, largest}
 use Rattle.embedding.specs.Longest.{placesOk, closedTo, prefixOk, longest, verified}
 
 -- A row: the bases and mates of P and of Q, L, and the places, empty where the table names none.

@@ -1,4 +1,4 @@
--- The definitions in reading order. Row is for the proofs and for the contracts of rows and trace, Places for the contracts inside this crate.
+-- The definitions in reading order. Row is for the laws and for the crates that search, Places for the contracts inside this crate.
 pub mod Embedding
 pub mod Longest
 pub mod Verify

@@ -1,10 +1,10 @@
--- The length L as brute force, every list of places being tried; and the test of given places. Assumes nothing.
+-- The length L as brute force, every list of places being tried; and the test of given places.
 use Prim.Native.Nat.{ℕ}
 use mathlib.Core.Bool.{Bool, _&&_, Bool·beq}
 use mathlib.Core.List.{List}
 use lib.Dec.{ltb, eqb}
 use lib.ListN.{length}
-use Rattle.strand.specs.Vocabulary.{nth, every, someList, largest}
+use Rattle.lists.specs.Vocabulary.{nth, every, someList, largest}
 use Rattle.embedding.specs.Embedding.{fits}
 
 -- 01, Embedding: the places v embed the first k bases of P in a Q of n bases. Each y below k: its place is in Q, its letter fits, and for

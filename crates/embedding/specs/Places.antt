@@ -1,11 +1,11 @@
--- Only the contracts inside this crate need this file: the parts of the test of places (order and range, letters, arcs). Assumes nothing.
+-- Only the contracts inside this crate need this file: the parts of the test of places (order and range, letters, arcs).
 use Prim.Native.Nat.{ℕ, _<_}
 use mathlib.Core.Path.{_≡_}
 use mathlib.Core.Bool.{true}
 use mathlib.Core.List.{List}
 use mathlib.Core.Logic.{_↔_}
 use lib.ListN.{length}
-use Rattle.strand.specs.Vocabulary.{nth}
+use Rattle.lists.specs.Vocabulary.{nth}
 use Rattle.strand.specs.Strands.{lettersMatch}
 
 -- The places rise, and are below n.

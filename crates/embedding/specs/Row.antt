@@ -1,8 +1,9 @@
--- Only the proofs and the contracts of rows and trace need this file: reached ends, the largest of them, and rows of such ends. Assumes nothing.
+-- Only the laws of Bille and Gørtz (proofs/Window, Recurrence, Entries, Arc, Rows and Computed of this crate) and the contracts and laws of rows, arcs,
+-- placing, trace and matcher need this file: reached ends, the largest of them, and rows of such ends.
 use Prim.Native.Nat.{ℕ, suc, _≤_, _<_, max}
 use mathlib.Core.Bool.{Bool}
 use lib.Dec.{ltb, leb}
-use Rattle.strand.specs.Vocabulary.{choose}
+use Rattle.lists.specs.Vocabulary.{choose}
 use Rattle.embedding.specs.Embedding.{Embeds}
 
 -- P[j..k) is a closed prefix of P[j..): no base of it has its mate at or after k.

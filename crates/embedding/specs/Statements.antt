@@ -1,14 +1,14 @@
--- What is claimed of these definitions, for every letter rule and all lists; `claims`, in proofs/Claims, proves it. Assumes nothing.
+-- What is claimed of these definitions, for every letter rule and all lists; `claims`, in proofs/Claims, proves it.
 use Prim.Native.Nat.{ℕ, _≤_, _<_}
 use mathlib.Core.Path.{_≡_}
 use mathlib.Core.Bool.{Bool, true, false}
 use mathlib.Core.Logic.{_↔_}
 use mathlib.Core.List.{List}
 use lib.ListN.{length}
-use Rattle.strand.specs.declared.Verdict.the-variants.{Accepted}
-use Rattle.strand.specs.Vocabulary.{nth}
+use Rattle.refusals.specs.declared.Verdict.the-variants.{Accepted}
+use Rattle.lists.specs.Vocabulary.{nth}
 use Rattle.strand.specs.Strands.{Inside}
-use Rattle.strand.specs.Refusals.{pairVerdict}
+use Rattle.strand.specs.StrandRules.{pairVerdict}
 use Rattle.embedding.specs.Embedding.{fits, lettersFit, Emb, Embeds, ClosedPrefix}
 use Rattle.embedding.specs.Longest.{closedTo, longest, verified}
 use Rattle.embedding.specs.Verify.{verifyAnswer}

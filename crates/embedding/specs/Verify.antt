@@ -1,14 +1,14 @@
--- The call verify: what it answers. Assumes nothing.
+-- The call verify: what it answers.
 use Prim.Native.Nat.{ℕ}
 use mathlib.Core.Bool.{not}
 use mathlib.Core.List.{List, [], _∷_}
 use lib.Dec.{eqb}
 use lib.ListN.{length}
-use Rattle.strand.specs.declared.Verdict.{Verdict}
-use Rattle.strand.specs.declared.Verdict.the-variants as verdict
-use Rattle.strand.specs.Vocabulary.{choose}
-use Rattle.strand.specs.Strands.{noSide, lettersMatch}
-use Rattle.strand.specs.Refusals.{wrongSlice, refuseIf, first, pairVerdict}
+use Rattle.refusals.specs.declared.Verdict.{Verdict}
+use Rattle.lists.specs.Vocabulary.{choose}
+use Rattle.refusals.specs.Rules.{noSide, wrongSlice, refuseIf, first, byVerdict}
+use Rattle.strand.specs.Strands.{lettersMatch}
+use Rattle.strand.specs.StrandRules.{pairVerdict}
 use Rattle.embedding.specs.declared.Verified.{Verified}
 use Rattle.embedding.specs.declared.Verified.the-variants.{Yes, No, Refused}
 use Rattle.embedding.specs.Longest.{verified}
@@ -17,11 +17,6 @@ use Rattle.embedding.specs.Longest.{verified}
 unfoldable pub verifyVerdict : List ℕ → List ℕ → List ℕ → List ℕ → List ℕ → Verdict
 verifyVerdict p pm q qm v = first (pairVerdict p pm q qm ∷ refuseIf wrongSlice noSide (not (eqb (length v) (length p))) ∷ [])
 
--- The refusal, or whether the places are an embedding of the whole P.
-unfoldable pub verifyUnless : Verdict → List ℕ → List ℕ → List ℕ → List ℕ → List ℕ → Verified
-verifyUnless (verdict.Refused x) p pm q qm v = Refused x
-verifyUnless verdict.Accepted p pm q qm v = choose (verified lettersMatch p pm q qm v) Yes No
-
--- 01, Verify: yes exactly when the places are an embedding of the whole P.
+-- 01, Verify: unless it is refused, yes exactly when the places are an embedding of the whole P.
 abbrev pub verifyAnswer : List ℕ → List ℕ → List ℕ → List ℕ → List ℕ → Verified
-verifyAnswer p pm q qm v = verifyUnless (verifyVerdict p pm q qm v) p pm q qm v
+verifyAnswer p pm q qm v = byVerdict (verifyVerdict p pm q qm v) Refused (choose (verified lettersMatch p pm q qm v) Yes No)

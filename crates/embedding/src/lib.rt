@@ -1,8 +1,9 @@
 // Embeddings of a motif in a molecule: the call verify.
 mod places;
 
-use strand::Refusal;
-use strand::Verdict;
+use refusals::Refusal;
+use refusals::Verdict;
+use refusals::numbers;
 ghost use mathlib.Core.Path.{_≡_};
 ghost use Rattle.embedding.specs.Verify.{verifyVerdict, verifyAnswer};
 
@@ -22,7 +23,7 @@ fn judge(p: &[u8], pm: &[u16], q: &[u8], qm: &[u16], places: &[u16]) -> Verdict
         return Verdict::Refused(x);
     }
     if places.len() != p.len() {
-        return strand::refuse(9, 2, 0);
+        return refusals::refuse(numbers::WRONG_SLICE, numbers::NEITHER, 0);
     }
     Verdict::Accepted
 }

@@ -3,7 +3,7 @@ ghost use mathlib.Core.Path.{_≡_};
 ghost use mathlib.Core.Bool.{true, false};
 ghost use Prim.Native.Nat.{_+_, _<_};
 ghost use lib.ListN.{length};
-ghost use Rattle.strand.specs.Vocabulary.{nth, Tells};
+ghost use Rattle.lists.specs.Vocabulary.{nth, Tells};
 ghost use Rattle.strand.specs.Strands.{Inside};
 ghost use Rattle.embedding.specs.Embedding.{Emb, lettersFit};
 ghost use Rattle.embedding.specs.Places.{Ordered, Lettered, Has, ArcKept, ArcsKept};

@@ -1,6 +1,6 @@
 // Answers as text.
 use embedding::Verified;
-use strand::Refusal;
+use refusals::Refusal;
 use testing::output::number;
 use testing::output::say;
 

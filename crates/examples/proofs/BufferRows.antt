@@ -1,4 +1,4 @@
--- Rows 10 and 11: a cache of 513 bytes, and a catalog with unsound blocks, refuse every call. Assumes nothing.
+-- Rows 10 and 11: a cache of 513 bytes, and a catalog with unsound blocks, refuse every call.
 use Prim.Native.Nat.{ℕ, _*_, _%_, _<_}
 use native.Mathlib.Omega.{arith}
 use mathlib.Core.Path.{_≡_, refl, sym, ap, _∙_}
@@ -7,29 +7,28 @@ use mathlib.Core.Bool.{true, false, not}
 use mathlib.Core.List.{List, [], _∷_}
 use lib.ListN.{length, replicate, set, length-replicate, length-set}
 use lib.Seq.{length-sets, getD-set-same}
-use Rattle.strand.specs.Vocabulary.{nth, choose, some, lowestFrom, lowest}
-use Rattle.strand.specs.Strands.{noSide, isLetter, notLetter, mateOutside, notMutual, crosses, crossedAt}
-use Rattle.strand.specs.Refusals.{refusal, first, refuseIf, refuseAtLowest, strandVerdict}
-use Rattle.strand.specs.declared.Verdict.the-variants.{Accepted}
-use Rattle.strand.proofs.ListLaws.{zeros-not, lowest-all, lowest-found}
+use Rattle.lists.specs.Vocabulary.{nth, choose, some, lowestFrom, lowest}
+use Rattle.refusals.specs.Rules.{noSide, refusal, first, refuseIf, refuseAtLowest}
+use Rattle.strand.specs.Strands.{isLetter, notLetter, mateOutside, notMutual, crosses, crossedAt}
+use Rattle.strand.specs.StrandRules.{strandVerdict}
+use Rattle.refusals.specs.declared.Verdict.the-variants.{Accepted}
+use Rattle.lists.proofs.ListLaws.{lowest-all, lowest-found}
 use Rattle.octets.specs.Numbers.{bytes32}
-use Rattle.octets.specs.Checksum.{blockSize, checksumAt, checksumOf, rechecked}
+use Rattle.block.specs.Checksum.{blockSize, checksumAt, checksumOf, rechecked}
 use Rattle.block.specs.Block.{blockOf, soundMolecule, blockCount}
 use Rattle.buffer.specs.Buffer.{putBlock}
-use Rattle.block.specs.Content.{moleculeKind, emptyBlock, isEmpty, encodeMolecule}
-use Rattle.block.proofs.SoundLaws.{content-1, molecule-content}
+use Rattle.block.specs.Content.{emptyBlock, encodeMolecule}
+use Rattle.block.proofs.ContentLaws.{other-first}
 use Rattle.calls.specs.Limits.{moleculeVerdict}
 use Rattle.calls.specs.Motifs.{embeds}
 use Rattle.calls.specs.Buffers.{unsoundAt, buffersVerdict}
 use Rattle.calls.specs.Results.{refused, refusedBy}
 use Rattle.calls.proofs.BlockUse.{empty-molecule, molecule-length}
-use Rattle.calls.proofs.ReadingLaws.{count-is, whole-is, put-length, put-block}
-use Rattle.catalog.proofs.JudgeLaws.{buffers-3, add-1, remove-1, query-1}
+use Rattle.calls.proofs.ReadingLaws.{count-is, whole-is, put-length, put-block, block-zero}
+use Rattle.calls.proofs.JudgeLaws.{block-unsound, add-buffers-refused, remove-buffers-refused, query-buffers-refused}
 use Rattle.history.specs.Events.{Call, add, remove, query, call}
 use Rattle.history.specs.History.{zeroed, bytesResult, bytesLog, AllRefused}
-use Rattle.history.proofs.Base.{block-zero}
-use Rattle.history.proofs.Follows.{bytesVerdict}
-use Rattle.history.proofs.Same.{bytes-refused}
+use Rattle.history.proofs.Follows.{bytesVerdict, bytes-refused}
 use Rattle.history.proofs.Theorem.{not-whole}
 use Rattle.examples.specs.Table.{a, uneven, nine, unsound}
 
@@ -61,9 +60,7 @@ nine-first = rechecked-first (set (encodeMolecule a) 0 9) ∙ getD-set-same (enc
 
 -- By its kind: the first byte of a sound block is 0 or 1.
 nine-unsound : soundMolecule nine ≡ false
-nine-unsound =
-    sym (molecule-content nine nine-length (unfold isEmpty in (zeros-not nine 0 (omega (arith, nine-length)) (λ e. omega (arith, nine-first))))
-    (sym (content-1 moleculeKind (nth nine 1) nine (λ e. omega (arith, nine-first)))))
+nine-unsound = other-first nine (λ e. omega (arith, nine-first)) (λ e. omega (arith, nine-first))
 
 zeros : List ℕ
 zeros = replicate (blockSize * 3) 0
@@ -113,7 +110,8 @@ place = sym (lowest-found (unsoundAt two) (blockCount two) 1 (lowest-all (unsoun
 
 buffers : buffersVerdict two (replicate blockSize 0) ≡ refusal 11 noSide 1
 buffers =
-    sym (buffers-3 two (replicate blockSize 0) (whole-is 512 3 two two-length) (whole-is 64 1 (replicate blockSize 0) (length-replicate {A = ℕ} blockSize 0)) 1 place
+    sym (block-unsound two (replicate blockSize 0) (whole-is 512 3 two two-length)
+    (whole-is 64 1 (replicate blockSize 0) (length-replicate {A = ℕ} blockSize 0)) 1 place
     (omega (arith, count-is two 3 two-length)))
 
 pub unsound-refused : (c : Call) → bytesResult embeds unsound c ≡ refused 11 noSide 1
@@ -121,6 +119,7 @@ unfolding refusedBy
 unsound-refused c = bytes-refused embeds unsound c _ (verdict c) .0
   where
     verdict : (c : Call) → bytesVerdict unsound c ≡ refusal 11 noSide 1
-    verdict (add d q) = unfold bytesVerdict zeroed two one zeros in (sym (add-1 two (replicate blockSize 0) d q _ buffers))
-    verdict (remove d) = unfold bytesVerdict zeroed two one zeros in (sym (remove-1 two (replicate blockSize 0) d _ buffers))
-    verdict (query p work hits) = unfold bytesVerdict zeroed two one zeros in (sym (query-1 two (replicate blockSize 0) p work (length hits) _ buffers))
+    verdict (add d q) = unfold bytesVerdict zeroed two one zeros in (sym (add-buffers-refused two (replicate blockSize 0) d q _ buffers))
+    verdict (remove d) = unfold bytesVerdict zeroed two one zeros in (sym (remove-buffers-refused two (replicate blockSize 0) d _ buffers))
+    verdict (query p work hits) = unfold bytesVerdict zeroed two one zeros in
+        (sym (query-buffers-refused two (replicate blockSize 0) p work (length hits) _ buffers))

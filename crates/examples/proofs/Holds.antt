@@ -1,25 +1,28 @@
--- The theorem of 01's examples: every row of the table holds. Assumes nothing.
+-- The theorem of 01's examples: every row of the table holds.
 use mathlib.Core.Path.{_≡_, refl}
 use mathlib.Core.Bool.{true}
 use mathlib.Core.List.{List, [], _∷_, _++_}
-use Rattle.strand.specs.Vocabulary.{choose, every, some, lowestFrom, lowest, largest, tab, someList}
+use Rattle.lists.specs.Vocabulary.{choose, every, some, lowestFrom, lowest, largest, tab, someList, sameList}
 use Rattle.strand.specs.Strands.{lettersMatch, isLetter, notLetter, mateOutside, notMutual, crosses, crossedAt}
-use Rattle.strand.specs.Refusals.{first, refuseIf, refuseAtLowest, strandVerdict, checkVerdict, pairVerdict}
-use Rattle.strand.proofs.ListLaws.{and-true}
+use Rattle.refusals.specs.Rules.{first, refuseIf, refuseAtLowest, byVerdict}
+use Rattle.strand.specs.StrandRules.{strandVerdict, checkVerdict, checkAnswer, pairVerdict}
+use Rattle.lists.proofs.ListLaws.{and-true}
 use Rattle.embedding.specs.Longest.{longest, prefixOk, closedTo, placesOk, verified}
 use Rattle.embedding.specs.Verify as verify
 use Rattle.embedding.specs.Examples.{exampleOk, examples}
 use Rattle.matcher.specs.Answers as matcher
 use Rattle.block.proofs.Examples.{checksum-of-A}
-use Rattle.calls.specs.Limits.{moleculeVerdict, motifVerdict, workVerdict}
-use Rattle.calls.specs.Results.{refusedBy, resultBy, ifAccepted}
-use Rattle.history.specs.Events.{add, remove}
-use Rattle.history.specs.Model.{start, putAt, isHeld, heldIn, inRange, modelVerdict, modelAnswer, modelNext, modelLog}
+use Rattle.calls.specs.Limits.{inRange, moleculeVerdict, motifVerdict, workVerdict}
+use Rattle.calls.specs.Holdings.{isHeld, putAt}
+use Rattle.calls.specs.Results.{refusedBy, numbersOf}
+use Rattle.history.specs.Events.{add, remove, endsPeriod}
+use Rattle.history.specs.Model.{start, heldIn, modelVerdict, modelAnswer, modelNext, modelResult, modelAfter, modelLog}
 use Rattle.history.specs.History.{atMostOnce, admittedFrom, admitted}
 use Rattle.history.specs.Examples.{Story, resultsOf, sameResult, sameResults, storyOk, storiesOk, stories, bonded, ask, settledStory, reusedStory}
 use Rattle.history.proofs.Computed as computed
 use Rattle.history.proofs.Stories.{on-bytes}
-use Rattle.examples.specs.Table.{Row, story, screenText, VerifiedAt, Holds, AllHold, a, screenInput, screenPrints, longMotif, fewHits, numberTwo, addedTwice, removedEmpty, refusals, settledRows, also, table}
+use Rattle.examples.specs.Table.{Row, story, screenText, VerifiedAt, Holds, AllHold, a, screenInput, screenPrints, longMotif, fewHits, numberTwo}
+use Rattle.examples.specs.Table.{addedTwice, removedEmpty, refusals, settledRows, also, table}
 use Rattle.examples.proofs.BufferRows.{uneven-refused, unsound-refused}
 use Rattle.examples.proofs.ScreenRow.{screen-prints}
 
@@ -33,16 +36,21 @@ by-model : (t : Story) → storyOk t ≡ true → Holds (story t)
 unfolding Holds
 by-model t ok = (ok, on-bytes t ok)
 
-tales : (storyOk longMotif ≡ true) × (storyOk fewHits ≡ true) × (storyOk numberTwo ≡ true) × (storyOk addedTwice ≡ true) × (storyOk removedEmpty ≡ true)
-unfolding longMotif fewHits numberTwo addedTwice removedEmpty storyOk admitted admittedFrom atMostOnce modelLog resultsOf sameResults sameResult choose every some lowestFrom lowest tab first refuseIf refuseAtLowest strandVerdict isLetter notLetter mateOutside notMutual crosses crossedAt moleculeVerdict motifVerdict workVerdict refusedBy resultBy ifAccepted start putAt isHeld heldIn inRange modelVerdict modelAnswer modelNext
-tales = (refl, refl, refl, refl, refl)
+stories-ok : (storyOk longMotif ≡ true) × (storyOk fewHits ≡ true) × (storyOk numberTwo ≡ true) × (storyOk addedTwice ≡ true) × (storyOk removedEmpty ≡ true)
+unfolding longMotif fewHits numberTwo addedTwice removedEmpty storyOk admitted admittedFrom atMostOnce modelLog resultsOf sameResults sameResult choose every
+    some lowestFrom lowest tab first refuseIf refuseAtLowest strandVerdict isLetter notLetter mateOutside notMutual crosses crossedAt moleculeVerdict
+    motifVerdict workVerdict refusedBy byVerdict endsPeriod numbersOf sameList modelResult modelAfter start putAt isHeld heldIn inRange modelVerdict modelAnswer
+    modelNext
+stories-ok = (refl, refl, refl, refl, refl)
 
 refusals-hold : AllHold refusals
-unfolding refusals AllHold Holds checkVerdict motifVerdict matcher.lengthVerdict matcher.lengthAnswer matcher.showVerdict matcher.showAnswer matcher.matchUnless verify.verifyVerdict verify.verifyUnless pairVerdict strandVerdict first refuseIf refuseAtLowest choose every some someList lowestFrom lowest isLetter notLetter mateOutside notMutual crosses crossedAt lettersMatch longest largest prefixOk closedTo placesOk
+unfolding refusals AllHold Holds checkVerdict checkAnswer motifVerdict matcher.lengthVerdict matcher.lengthAnswer matcher.showVerdict matcher.showAnswer
+    verify.verifyVerdict byVerdict pairVerdict strandVerdict first refuseIf refuseAtLowest choose every some someList lowestFrom lowest isLetter notLetter
+    mateOutside notMutual crosses crossedAt lettersMatch longest largest prefixOk closedTo placesOk
 refusals-hold =
     (refl, refl)
     & (refl, refl)
-    & by-model longMotif (tales .0)
+    & by-model longMotif (stories-ok .0)
     & (refl, refl)
     & (refl, refl)
     & (refl, refl)
@@ -51,22 +59,24 @@ refusals-hold =
     & refl
     & refl
     & refl
-    & by-model fewHits (tales .1)
+    & by-model fewHits (stories-ok .1)
     & uneven-refused (add 0 a)
     & uneven-refused (remove 0)
     & uneven-refused (ask bonded)
     & unsound-refused (add 0 a)
     & unsound-refused (remove 0)
     & unsound-refused (ask bonded)
-    & by-model numberTwo (tales .2)
-    & by-model addedTwice (tales .3)
-    & by-model removedEmpty (tales .4)
+    & by-model numberTwo (stories-ok .2)
+    & by-model addedTwice (stories-ok .3)
+    & by-model removedEmpty (stories-ok .4)
     & refl
     & refl
     & tt
 
 settled-hold : AllHold (settledRows examples)
-unfolding settledRows examples exampleOk verified AllHold Holds VerifiedAt matcher.lengthVerdict matcher.lengthAnswer matcher.showVerdict matcher.showAnswer matcher.matchUnless verify.verifyVerdict verify.verifyUnless pairVerdict strandVerdict first refuseIf refuseAtLowest choose every some someList lowestFrom lowest isLetter notLetter mateOutside notMutual crosses crossedAt lettersMatch longest largest prefixOk closedTo placesOk
+unfolding settledRows examples exampleOk verified AllHold Holds VerifiedAt matcher.lengthVerdict matcher.lengthAnswer matcher.showVerdict matcher.showAnswer
+    verify.verifyVerdict byVerdict pairVerdict strandVerdict first refuseIf refuseAtLowest choose every some someList lowestFrom lowest isLetter notLetter
+    mateOutside notMutual crosses crossedAt lettersMatch longest largest prefixOk closedTo placesOk
 settled-hold =
     (refl, refl, refl, tt)
     & (refl, refl, refl, refl)

@@ -1,43 +1,47 @@
 -- The printed example of the screen program: its catalog is what add leaves in zeroed blocks, and its query is that of a story.
--- Assumes nothing.
 use Prim.Native.Nat.{ℕ}
 use native.Mathlib.Omega.{arith}
 use mathlib.Core.Path.{_≡_, refl, sym, ap, ap₂, _∙_}
-use mathlib.Core.Bool.{true}
+use mathlib.Core.Bool.{true, not}
 use mathlib.Core.List.{List, [], _∷_, _++_}
 use lib.Dec.{leb}
 use borrow.Author.Tests.{le-leb}
 use lib.ListN.{length, take, drop, replicate, length-append, length-replicate}
 use lib.Seq.{take-at, drop-at, take-all}
-use Rattle.strand.specs.Vocabulary.{choose, every, some, lowestFrom, lowest, largest, select, someList, total, sameList}
-use Rattle.strand.specs.Strands.{Strand, sameStrand, key, lettersMatch, isLetter, notLetter, mateOutside, notMutual, crosses, crossedAt}
-use Rattle.strand.specs.Refusals.{first, refuseIf, refuseAtLowest, strandVerdict}
-use Rattle.strand.specs.declared.Verdict.the-variants.{Accepted}
+use Rattle.lists.specs.Vocabulary.{choose, every, some, lowestFrom, lowest, largest, select, someList, total, sameList}
+use Rattle.strand.specs.Strands.{Strand, Proper, sameStrand, key, lettersMatch, isLetter, notLetter, mateOutside, notMutual, crosses, crossedAt}
+use Rattle.refusals.specs.Rules.{motifSide, noSide, notWholeBlocks, numberTooLarge, alreadyHeld, first, refuseIf, refuseAtLowest, byVerdict}
+use Rattle.strand.specs.StrandRules.{strandVerdict, leastMotif}
+use Rattle.refusals.specs.declared.Verdict.the-variants.{Accepted}
 use Rattle.embedding.specs.Longest.{longest, prefixOk, closedTo, placesOk}
-use Rattle.octets.specs.Checksum.{blockSize}
-use Rattle.block.specs.Block.{cleaned, blockCount}
+use Rattle.block.specs.Checksum.{blockSize}
+use Rattle.block.specs.Block.{holdsMotif, cleaned, blockCount}
 use Rattle.buffer.specs.Buffer.{putBlock}
-use Rattle.block.specs.Content.{emptyBlock, moleculeIn, encodeMolecule}
-use Rattle.calls.specs.Limits.{moleculeVerdict, motifVerdict, workVerdict}
+use Rattle.block.specs.Content.{blockBases, emptyBlock, motifHandedIn, encodeMolecule, encodeMotif}
+use Rattle.calls.specs.Limits.{inRange, moleculeVerdict, motifVerdict, workVerdict}
+use Rattle.calls.specs.Holdings.{vacant, isHeld, putAt}
 use Rattle.calls.specs.Motifs.{embeds}
 use Rattle.calls.specs.Buffers.{slotOf, cleanCache}
-use Rattle.calls.specs.Calls.{QueryEffect, updateUnless, addVerdict, addOutcome, queryOutcome}
-use Rattle.calls.specs.Results.{Result, done, found, refusedBy, queryResult, resultBy, ifAccepted}
+use Rattle.calls.specs.Calls.{Effect, QueryEffect, addVerdict, queryOutcome}
+use Rattle.calls.specs.declared.Added.{Added}
+use Rattle.calls.specs.Results.{Result, done, found, refusedBy, numbersOf, queryResult}
 use Rattle.calls.specs.declared.Queried.{Queried}
 use Rattle.calls.specs.declared.Queried.the-variants.{Hits, Refused}
-use Rattle.calls.proofs.BlockUse.{empty-length, empty-entry, molecule-length, molecule-sound, molecule-back, molecule-full, sound-clean}
-use Rattle.calls.proofs.ReadingLaws.{clean-length, clean-block}
-use Rattle.history.specs.Events.{Event, add, query, call}
-use Rattle.history.specs.Model.{start, putAt, isHeld, heldIn, knownIn, inRange, modelVerdict, embedsAt, hitList, searchList, modelAnswer, modelNext, modelLog}
+use Rattle.calls.proofs.BlockUse.{empty-length, empty-entry, molecule-length, sound-clean}
+use Rattle.block.proofs.ContentLaws.{motif-bytes, motif-sound, motif-full, motif-back, sound-held}
+use Rattle.strand.proofs.VerdictLaws.{accepted-proper}
+use Rattle.calls.proofs.ReadingLaws.{clean-length, clean-block, block-zero}
+use Rattle.calls.proofs.CallLaws.{add-does}
+use Rattle.calls.proofs.Stores.{stores-zeroed, add-judged}
+use Rattle.history.specs.Events.{Event, add, query, call, endsPeriod}
+use Rattle.history.specs.Model.{start, heldIn, knownIn, modelVerdict, embedsAt, hitList, searchList, asked as afterQuery, modelAnswer, modelNext, modelResult}
+use Rattle.history.specs.Model.{modelAfter, modelLog}
 use Rattle.history.specs.History.{zeroed, bytesResult, bytesNext, bytesLog, atMostOnce, admittedFrom, admitted}
 use Rattle.history.specs.Examples.{Story, resultsOf, sameResult, sameResults, storyOk}
-use Rattle.history.proofs.Base.{block-zero}
-use Rattle.history.proofs.Follows.{bytesVerdict, verdict-agrees}
-use Rattle.history.proofs.Same.{follows-start}
 use Rattle.history.proofs.Stories.{on-bytes}
 use Rattle.screening.specs.Text.{digitsIn, digits, spaced, line, lines, hitsText}
-use Rattle.screening.specs.Screen.{mostScreened, isInput, firstBlock, catalogIn, isMotif, screenWork, answerText, effectText, screenQuery, screenOutput}
-use Rattle.screening.proofs.ScreenLaws.{input-3, output-answer}
+use Rattle.screening.specs.Screen.{mostScreened, isInput, firstBlock, catalogIn, screenWork, answerText, effectText, screenQuery, screenOutput}
+use Rattle.screening.proofs.ScreenLaws.{input-by-most, output-answer}
 use Rattle.examples.specs.Table.{a, screenInput, screenPrints}
 use Rattle.examples.proofs.BufferRows.{a-accepted}
 
@@ -58,7 +62,7 @@ unfolding input
 input-length = omega (arith, length-append code (code ++ emptyBlock), length-append code emptyBlock, code-length, empty-length)
 
 input-ok : isInput input ≡ true
-input-ok = sym (input-3 input (omega (arith, input-length)) (omega (arith, input-length))) ∙ few
+input-ok = sym (input-by-most input (omega (arith, input-length)) (omega (arith, input-length))) ∙ few
   where
     few : leb (blockCount input) 65 ≡ true
     few = le-leb (blockCount input) 65 (omega (arith, input-length))
@@ -71,11 +75,20 @@ catalog-bytes : catalogIn input ≡ code ++ emptyBlock
 unfolding input
 catalog-bytes = drop-at code (code ++ emptyBlock) 512 code-length
 
-motif-ok : isMotif (firstBlock input) ≡ true
-motif-ok = ap isMotif first-block ∙ (unfold isMotif code in (rw (molecule-sound a a-accepted, molecule-full a a-accepted)))
+a-motif : Proper motifSide leastMotif blockBases (a .bases) (a .mates)
+a-motif = accepted-proper motifSide leastMotif blockBases (a .bases) (a .mates) passes
+  where
+    passes : strandVerdict motifSide leastMotif blockBases (a .bases) (a .mates) ≡ Accepted
+    passes = unfold strandVerdict first refuseIf refuseAtLowest choose some lowestFrom lowest isLetter notLetter mateOutside notMutual crosses crossedAt in refl
 
-motif-is : moleculeIn (firstBlock input) ≡ a
-motif-is = ap moleculeIn first-block ∙ (unfold code in (molecule-back a a-accepted))
+first-motif : firstBlock input ≡ encodeMotif a
+first-motif = first-block ∙ unfold code in (sym (motif-bytes a))
+
+motif-ok : holdsMotif (firstBlock input) ≡ true
+motif-ok = ap holdsMotif first-motif ∙ sound-held (encodeMotif a) (motif-sound a a-motif) (motif-full a a-motif)
+
+motif-is : motifHandedIn (firstBlock input) ≡ a
+motif-is = ap motifHandedIn first-motif ∙ motif-back a a-motif
 
 -- ---- the story
 
@@ -88,20 +101,17 @@ adding = call (add 0 a)
 asking : Event
 asking = call (query a screenWork hits)
 
-tale : Story
-tale = record { blocks = 2; slots = 1; events = adding ∷ asking ∷ []; results = done ∷ found 1 (0 ∷ []) 1 ∷ [] }
+screenStory : Story
+screenStory = record { blocks = 2; slots = 1; events = adding ∷ asking ∷ []; results = done ∷ found 1 (0 ∷ []) 1 ∷ [] }
 
-tale-ok : storyOk tale ≡ true
-unfolding tale adding asking hits storyOk admitted admittedFrom atMostOnce modelLog resultsOf sameResults sameResult embeds longest largest prefixOk closedTo placesOk lettersMatch choose every some lowestFrom lowest select someList total sameList sameStrand key first refuseIf refuseAtLowest strandVerdict isLetter notLetter mateOutside notMutual crosses crossedAt moleculeVerdict motifVerdict workVerdict slotOf refusedBy resultBy ifAccepted start putAt isHeld heldIn knownIn inRange modelVerdict embedsAt hitList searchList modelAnswer modelNext
-tale-ok = refl
+screen-story-ok : storyOk screenStory ≡ true
+unfolding screenStory adding asking hits storyOk admitted admittedFrom atMostOnce modelLog resultsOf sameResults sameResult embeds longest largest prefixOk
+    closedTo placesOk lettersMatch choose every some lowestFrom lowest select someList total sameList sameStrand key first refuseIf refuseAtLowest strandVerdict
+    isLetter notLetter mateOutside notMutual crosses crossedAt moleculeVerdict motifVerdict workVerdict slotOf refusedBy byVerdict endsPeriod numbersOf
+    modelResult modelAfter afterQuery start putAt isHeld heldIn knownIn inRange modelVerdict embedsAt hitList searchList modelAnswer modelNext
+screen-story-ok = refl
 
 -- ---- what add leaves
-
-add-accepted : bytesVerdict (zeroed 2 1) (add 0 a) ≡ Accepted
-add-accepted = verdict-agrees embeds 2 1 (zeroed 2 1) start (λ s. 0) (follows-start embeds 2 1) (add 0 a) ∙ by-model
-  where
-    by-model : modelVerdict embeds 2 1 start (add 0 a) ≡ Accepted
-    by-model = unfold modelVerdict start heldIn isHeld inRange moleculeVerdict strandVerdict first refuseIf refuseAtLowest choose some lowestFrom lowest isLetter notLetter mateOutside notMutual crosses crossedAt in refl
 
 clean-zeros : cleanCache (replicate blockSize 0) ≡ emptyBlock
 clean-zeros =
@@ -113,16 +123,27 @@ clean-zeros =
 rest : drop 512 (replicate {A = ℕ} 1024 0) ≡ replicate 512 0
 rest = refl
 
+passed : first
+    (refuseIf notWholeBlocks noSide (not (inRange 2 1)) ∷ refuseIf numberTooLarge noSide (leb 2 0) ∷ refuseIf alreadyHeld noSide (isHeld vacant)
+    ∷ moleculeVerdict a ∷ [])
+    ≡ Accepted
+unfolding isHeld inRange moleculeVerdict strandVerdict first refuseIf refuseAtLowest choose some lowestFrom lowest isLetter notLetter mateOutside notMutual
+    crosses crossedAt
+passed = refl
+
 added : addVerdict (zeroed 2 1 .catalog) (zeroed 2 1 .cache) 0 a ≡ Accepted
-added = unfold bytesVerdict in add-accepted
+unfolding zeroed
+added = add-judged (stores-zeroed 2) 1 (replicate 512 0) (length-replicate {A = ℕ} 512 0) 0 a ∙ passed
 
 left-catalog : bytesNext embeds (zeroed 2 1) (add 0 a) .catalog ≡ code ++ emptyBlock
-unfolding bytesNext addOutcome updateUnless zeroed putBlock code emptyBlock
-left-catalog = rw added (ap (λ (l : List ℕ). encodeMolecule a ++ l) rest)
+unfolding bytesNext zeroed putBlock code emptyBlock
+left-catalog =
+    ap (λ (x : Effect Added). x .catalog) (add-does (zeroed 2 1 .catalog) (zeroed 2 1 .cache) 0 a added)
+    ∙ ap (λ (l : List ℕ). encodeMolecule a ++ l) rest
 
 left-cache : bytesNext embeds (zeroed 2 1) (add 0 a) .cache ≡ emptyBlock
-unfolding bytesNext addOutcome updateUnless zeroed
-left-cache = rw added clean-zeros
+unfolding bytesNext zeroed
+left-cache = ap (λ (x : Effect Added). x .cache) (add-does (zeroed 2 1 .catalog) (zeroed 2 1 .cache) 0 a added) ∙ clean-zeros
 
 -- ---- the query of the story is the query of the input
 
@@ -137,8 +158,9 @@ second (r ∷ s ∷ rs) = s
 asked-found : queryResult (asked .answer) (asked .hits) ≡ found 1 (0 ∷ []) 1
 unfolding asked
 asked-found =
-    ap₂ (λ (u v : List ℕ). queryResult (queryOutcome embeds u v a screenWork hits .answer) (queryOutcome embeds u v a screenWork hits .hits)) (sym left-catalog) (sym left-cache)
-    ∙ (unfold second resultsOf bytesLog bytesResult adding asking tale in (ap second (on-bytes tale tale-ok)))
+    ap₂ (λ (u v : List ℕ). queryResult (queryOutcome embeds u v a screenWork hits .answer) (queryOutcome embeds u v a screenWork hits .hits))
+    (sym left-catalog) (sym left-cache)
+    ∙ (unfold second resultsOf bytesLog bytesResult adding asking screenStory in (ap second (on-bytes screenStory screen-story-ok)))
 
 same-query : screenQuery embeds input screenWork (replicate mostScreened 0) ≡ asked
 unfolding screenQuery asked hits

@@ -1,26 +1,28 @@
 -- All of 01's examples, in its order: the small examples of the table of refusals, row 8's with 136 entries, the printed example of the
 -- screen program, the nine rows of the table of settled examples, the check 1888, the keys 139, the story with B = 2 and S = 1, and the
 -- last of the plausible and false ways, a number used again (the others are in rows 6, 3, 7 and in the story). Each is a row of `table`,
--- and `holds`, in proofs/Holds, proves them all by the definitions that the contracts of the calls cite. Assumes nothing.
+-- and `holds`, in proofs/Holds, proves them all by the definitions that the contracts of the calls cite.
 use Prim.Native.Nat.{ℕ}
 use mathlib.Core.Path.{_≡_}
 use mathlib.Core.Bool.{true}
 use mathlib.Core.List.{List, [], _∷_, _++_}
 use lib.ListN.{length, replicate, set}
-use Rattle.strand.specs.declared.Refusal.{Refusal}
-use Rattle.strand.specs.Vocabulary.{tab}
-use Rattle.strand.specs.Strands.{Strand, strandOf, key, motifSide, moleculeSide, noSide}
-use Rattle.strand.specs.Refusals.{refusal, checkVerdict}
+use Rattle.refusals.specs.declared.Refusal.{Refusal}
+use Rattle.lists.specs.Vocabulary.{tab}
+use Rattle.strand.specs.Strands.{Strand, strandOf, key}
+use Rattle.refusals.specs.Rules.{motifSide, moleculeSide, noSide, refusal}
+use Rattle.strand.specs.declared.Checked.the-variants as checked
+use Rattle.strand.specs.StrandRules.{checkAnswer}
 use Rattle.embedding.specs.declared.Verified.{Verified}
 use Rattle.embedding.specs.declared.Verified.the-variants as verified
 use Rattle.embedding.specs.Verify.{verifyAnswer}
 use Rattle.embedding.specs.Examples.{Example, exampleOk, examples}
 use Rattle.matcher.specs.declared.Matched.{Matched}
 use Rattle.matcher.specs.declared.Matched.the-variants as matched
-use Rattle.rows.specs.Rows.{workSize}
+use Rattle.refusals.specs.Work.{workSize}
 use Rattle.matcher.specs.Answers.{lengthAnswer, showAnswer}
 use Rattle.octets.specs.Numbers.{word32}
-use Rattle.octets.specs.Checksum.{blockSize, checksumAt, rechecked}
+use Rattle.block.specs.Checksum.{blockSize, checksumAt, rechecked}
 use Rattle.block.specs.Content.{emptyBlock, encodeMolecule}
 use Rattle.buffer.specs.Buffer.{putBlock}
 use Rattle.calls.specs.Limits.{motifVerdict}
@@ -61,7 +63,8 @@ VerifiedAt e (v ∷ places) = verifyAnswer (e .pb) (e .pm) (e .qb) (e .qm) (v �
 unfoldable pub Holds : Row → Type 0
 -- as the molecule of check, and as the motif of a query
 Holds (refusedStrand q number place) =
-    (checkVerdict (q .bases) (q .mates) ≡ refusal number moleculeSide place) × (motifVerdict q ≡ refusal number motifSide place)
+    (checkAnswer (q .bases) (q .mates) ≡ checked.Refused (record { number = number; side = moleculeSide; place = place }))
+    × (motifVerdict q ≡ refusal number motifSide place)
 Holds (lengthCall p q work answer) = lengthAnswer (p .bases) (p .mates) (q .bases) (q .mates) work ≡ answer
 Holds (showCall p q places work answer) = showAnswer (p .bases) (p .mates) (q .bases) (q .mates) places work ≡ answer
 Holds (verifyCall p q places answer) = verifyAnswer (p .bases) (p .mates) (q .bases) (q .mates) places ≡ answer

@@ -1,6 +1,7 @@
--- What is claimed of histories holds: the record of `specs/Statements` from the theorems. Assumes nothing.
+-- What is claimed of histories holds: the record of `specs/Statements` from the theorems.
 use Rattle.history.specs.Statements.{Claims}
 use Rattle.history.proofs.Theorem as theorem
+use Rattle.history.proofs.Right.{query-right}
 use Rattle.history.proofs.Runs.{runs}
 use Rattle.history.proofs.Computed as computed
 use Rattle.history.proofs.Stories as stories
@@ -11,6 +12,7 @@ claims =
       decides = theorem.decides;
       history = theorem.demand-3;
       runs = runs;
+      queries = λ B S es log r. query-right r;
       not-whole = theorem.not-whole;
       by-model = computed.settled;
       on-bytes = stories.settled-bytes;

@@ -1,101 +1,120 @@
--- The bytes follow the model: the relation, and that the same calls are refused. Assumes nothing.
+-- The bytes follow the model, and what it is for a call to agree: the same result, and the bytes follow afterwards.
 use Prim.Native.Nat.{ℕ, _*_, _<_, _≤_}
-use mathlib.Core.Path.{_≡_}
-use mathlib.Core.Logic.{⊎-elim}
+use mathlib.Core.Path.{_≡_, refl, sym, ap, _∙_}
 use mathlib.Core.Bool.{Bool, true, false}
-use lib.Dec.{ltb}
 use lib.ListN.{length}
-use borrow.Author.Tests.{ltb-true, ltb-false}
-use Rattle.strand.specs.Vocabulary.{choose}
-use Rattle.strand.specs.Strands.{Strand, noSide}
-use Rattle.strand.specs.Refusals.{unsoundBlock, first, refuseIf, refuseAtLowest}
-use Rattle.strand.specs.declared.Verdict.{Verdict}
-use Rattle.strand.specs.declared.Verdict.the-variants.{Accepted}
-use Rattle.strand.proofs.ListLaws.{by-bool, and-true}
-use Rattle.octets.specs.Checksum.{blockSize}
-use Rattle.block.specs.Block.{blockOf, soundEntry, cleaned, blockCount}
-use Rattle.calls.specs.Limits.{mostCatalogBlocks, mostCacheBlocks}
-use Rattle.calls.specs.Buffers.{areWhole, unsoundAt, held, moleculeAt, buffersVerdict}
+use Rattle.strand.specs.Strands.{Strand}
+use Rattle.refusals.specs.declared.Refusal.{Refusal}
+use Rattle.refusals.specs.declared.Verdict.{Verdict}
+use Rattle.refusals.specs.declared.Verdict.the-variants.{Accepted, Refused}
+use Rattle.refusals.proofs.RuleLaws.{by-accepted, by-refused}
+use Rattle.block.specs.Checksum.{blockSize}
+use Rattle.block.specs.Block.{blockOf, cleaned}
 use Rattle.calls.specs.Calls.{addVerdict, removeVerdict, queryVerdict}
-use Rattle.calls.proofs.ReadingLaws.{count-is, whole-is, no-place}
-use Rattle.history.specs.Events.{Call, add, remove, query}
-use Rattle.history.specs.Model.{Holding, holds, Slot, nothing, keeps, State, isHeld, heldIn, inRange, modelVerdict, slotBlock}
-use Rattle.history.specs.History.{Buffers}
-use Rattle.calls.proofs.BlockUse as leaf
-use Rattle.history.proofs.Sane.{SlotOk, Sane}
+use Rattle.calls.specs.Results.{refusedBy, addResult, removeResult, queryResult}
+use Rattle.calls.proofs.Claims.{add-refused, remove-refused, query-refused}
+use Rattle.calls.proofs.Stores.{Stores}
+use Rattle.history.specs.Events.{Call, add, remove, query, endsPeriod}
+use Rattle.history.specs.Model.{State, modelVerdict, modelAnswer, modelNext, modelResult, modelAfter, slotBlock}
+use Rattle.history.specs.History.{Buffers, bytesResult, bytesNext}
+use Rattle.history.proofs.StateLaws.{StateOk}
+use Rattle.history.proofs.Slots.{slot-clean}
 
--- The block of a slot
+-- No block was altered twice.
+abbrev pub Few : ℕ → (ℕ → ℕ) → Type 0
+Few S times = (s : ℕ) → s < S → times s ≤ 1
 
-module _ (embeds : Strand → Strand → Bool) (B S : ℕ) (mols : ℕ → Holding) where
-  pub slot-length : (s : Slot) → SlotOk mols s → length (slotBlock embeds B S mols s) ≡ blockSize
-  unfolding slotBlock
-  slot-length nothing k = leaf.empty-length
-  slot-length (keeps m set) k = leaf.entry-length m (k .0) set _
+-- The alterations counted after a call that ends a period, or not.
+unfoldable pub timesAfter : Bool → (ℕ → ℕ) → ℕ → ℕ
+timesAfter true times s = 0
+timesAfter false times s = times s
 
-  pub slot-sound : (s : Slot) → SlotOk mols s → soundEntry (slotBlock embeds B S mols s) ≡ true
-  unfolding slotBlock
-  slot-sound nothing k = leaf.empty-entry
-  slot-sound (keeps m set) k = leaf.entry-sound m (k .0) set _ (λ d e. and-true (set d) _ e .0)
-
-  pub slot-clean : (s : Slot) → SlotOk mols s → cleaned (slotBlock embeds B S mols s) ≡ slotBlock embeds B S mols s
-  slot-clean s k = leaf.sound-clean _ (slot-sound s k)
-
--- `times` says how often each block was altered since the last accepted call. Of a block altered once the cleaned bytes are known; of one
--- altered more often nothing is.
-pub record Follows (embeds : Strand → Strand → Bool) (B S : ℕ) (β : Buffers) (σ : State) (times : ℕ → ℕ) : Type 0 where
-  pub sane : Sane B σ
-  pub cat-length : length (β .catalog) ≡ blockSize * B
-  pub cache-length : length (β .cache) ≡ blockSize * S
-  pub none-unsound : (d : ℕ) → d < B → unsoundAt (β .catalog) d ≡ false
-  pub held-is : (d : ℕ) → d < B → held (β .catalog) d ≡ heldIn σ d
-  pub molecule-is : (d : ℕ) → d < B → (q : Strand) → σ .molecules d ≡ holds q → moleculeAt (β .catalog) d ≡ q
-  pub once : (s : ℕ) → s < S → times s ≤ 1 → cleaned (blockOf s (β .cache)) ≡ slotBlock embeds B S (σ .molecules) (σ .slots s)
-  pub never : (s : ℕ) → s < S → times s ≡ 0 → blockOf s (β .cache) ≡ slotBlock embeds B S (σ .molecules) (σ .slots s)
-
--- The verdict of a call on the bytes
+-- The verdict of a call on the bytes.
 unfoldable pub bytesVerdict : Buffers → Call → Verdict
 bytesVerdict β (add d q) = addVerdict (β .catalog) (β .cache) d q
 bytesVerdict β (remove d) = removeVerdict (β .catalog) (β .cache) d
 bytesVerdict β (query p work hits) = queryVerdict (β .catalog) (β .cache) p work (length hits)
 
-pub range-is : (B S : ℕ) (β : Buffers) → length (β .catalog) ≡ blockSize * B → length (β .cache) ≡ blockSize * S → areWhole (β .catalog) (β .cache) ≡ inRange B S
-unfolding areWhole inRange
-range-is B S β hc hs = rw (whole-is mostCatalogBlocks B (β .catalog) hc, whole-is mostCacheBlocks S (β .cache) hs)
+module _ (embeds : Strand → Strand → Bool) where
+  -- a refused call changes nothing
+  pub bytes-refused : (β : Buffers) (c : Call) (r : Refusal) → bytesVerdict β c ≡ Refused r
+      → (bytesResult embeds β c ≡ refusedBy r) × (bytesNext embeds β c ≡ β)
+  unfolding bytesVerdict bytesResult bytesNext addResult removeResult queryResult
+  bytes-refused β (add d q) r e = let x = add-refused (β .catalog) (β .cache) d q r e in (rw x, rw x)
+  bytes-refused β (remove d) r e = let x = remove-refused (β .catalog) (β .cache) d r e in (rw x, rw x)
+  bytes-refused β (query p work hits) r e = let x = query-refused embeds (β .catalog) (β .cache) p work hits r e in (rw x, rw x)
 
-module _ (embeds : Strand → Strand → Bool) (B S : ℕ) (β : Buffers) (σ : State) (times : ℕ → ℕ) (f : Follows embeds B S β σ times) where
-  pub count-cat : blockCount (β .catalog) ≡ B
-  count-cat = count-is (β .catalog) B (f .cat-length)
+  module _ (B S : ℕ) where
+    -- `times` says how often each block was altered since the last call that ended a period. Of a block altered once the cleaned bytes are
+    -- known; of one altered more often nothing is.
+    pub record Follows (β : Buffers) (σ : State) (times : ℕ → ℕ) : Type 0 where
+      pub ok : StateOk B σ
+      pub stored : Stores B (β .catalog) (σ .molecules)
+      pub sized : length (β .cache) ≡ blockSize * S
+      pub once : (s : ℕ) → s < S → times s ≤ 1 → cleaned (blockOf s (β .cache)) ≡ slotBlock embeds B S (σ .molecules) (σ .slots s)
+      pub never : (s : ℕ) → s < S → times s ≡ 0 → blockOf s (β .cache) ≡ slotBlock embeds B S (σ .molecules) (σ .slots s)
 
-  pub count-cache : blockCount (β .cache) ≡ S
-  count-cache = count-is (β .cache) S (f .cache-length)
+    -- where each cache block is as the model has the slot
+    pub fresh : (β : Buffers) (σ : State) → StateOk B σ → Stores B (β .catalog) (σ .molecules) → length (β .cache) ≡ blockSize * S
+        → ((s : ℕ) → s < S → blockOf s (β .cache) ≡ slotBlock embeds B S (σ .molecules) (σ .slots s)) → Follows β σ (λ s. 0)
+    fresh β σ good stored sized is =
+        record {
+          ok = good;
+          stored = stored;
+          sized = sized;
+          once = λ s l e. ap cleaned (is s l) ∙ slot-clean embeds B S (σ .molecules) (σ .slots s) (good .slot-ok s);
+          never = λ s l e. is s l;
+        }
 
-  -- row 11 never applies
-  no-row-11 : refuseAtLowest unsoundBlock noSide (blockCount (β .catalog)) (unsoundAt (β .catalog)) ≡ Accepted
-  no-row-11 = rw count-cat (no-place unsoundBlock noSide B (unsoundAt (β .catalog)) (f .none-unsound))
+    -- One call: the same result, and the bytes follow afterwards.
+    pub record Agrees (β : Buffers) (σ : State) (times : ℕ → ℕ) (c : Call) : Type 0 where
+      pub same : bytesResult embeds β c ≡ modelResult embeds B S σ c
+      pub follows : Follows (bytesNext embeds β c) (modelAfter embeds B S σ c) (timesAfter (endsPeriod (modelResult embeds B S σ c)) times)
 
-  buffers-pass : inRange B S ≡ true → buffersVerdict (β .catalog) (β .cache) ≡ Accepted
-  unfolding buffersVerdict refuseIf choose first
-  buffers-pass range = rw (no-row-11, range-is B S β (f .cat-length) (f .cache-length), range)
+    -- What is asked of a call: that no block was altered twice is known where it ends a period.
+    abbrev pub CallAgrees : Call → Type 0
+    CallAgrees c =
+        (β : Buffers) (σ : State) (times : ℕ → ℕ) → Follows β σ times → (endsPeriod (modelResult embeds B S σ c) ≡ true → Few S times) → Agrees β σ times c
 
-  pub held-all : (d : ℕ) → held (β .catalog) d ≡ heldIn σ d
-  held-all d =
-      ⊎-elim
-      (λ (e : ltb d B ≡ true). f .held-is d (ltb-true d B e))
-      (λ (e : ltb d B ≡ false). unfold held heldIn isHeld in (rw (count-cat, e, f .sane .above d (ltb-false d B e))))
-      (by-bool (ltb d B))
+    module _ (β : Buffers) (σ : State) (times : ℕ → ℕ) (c : Call) where
+      result-accepted : modelVerdict embeds B S σ c ≡ Accepted → modelResult embeds B S σ c ≡ modelAnswer embeds B S σ c
+      unfolding modelResult
+      result-accepted e = by-accepted (modelVerdict embeds B S σ c) refusedBy (modelAnswer embeds B S σ c) e
 
-  refused-10 : inRange B S ≡ false → (c : Call) → bytesVerdict β c ≡ modelVerdict embeds B S σ c
-  unfolding bytesVerdict addVerdict removeVerdict queryVerdict buffersVerdict modelVerdict first refuseIf choose
-  refused-10 range (add d q) = rw (range-is B S β (f .cat-length) (f .cache-length), range)
-  refused-10 range (remove d) = rw (range-is B S β (f .cat-length) (f .cache-length), range)
-  refused-10 range (query p work hits) = rw (range-is B S β (f .cat-length) (f .cache-length), range)
+      after-accepted : modelVerdict embeds B S σ c ≡ Accepted → modelAfter embeds B S σ c ≡ modelNext embeds B S σ c
+      unfolding modelAfter
+      after-accepted e = by-accepted (modelVerdict embeds B S σ c) (λ r. σ) (modelNext embeds B S σ c) e
 
-  in-range : inRange B S ≡ true → (c : Call) → bytesVerdict β c ≡ modelVerdict embeds B S σ c
-  unfolding bytesVerdict addVerdict removeVerdict queryVerdict modelVerdict first refuseIf choose
-  in-range range (add d q) = rw (buffers-pass range, range, count-cat, held-all d)
-  in-range range (remove d) = rw (buffers-pass range, range, count-cat, held-all d)
-  in-range range (query p work hits) = rw (buffers-pass range, range, count-cat)
+      result-refused : (r : Refusal) → modelVerdict embeds B S σ c ≡ Refused r → modelResult embeds B S σ c ≡ refusedBy r
+      unfolding modelResult
+      result-refused r e = by-refused (modelVerdict embeds B S σ c) refusedBy (modelAnswer embeds B S σ c) r e
 
-  -- the bytes and the model refuse the same calls: what the calls read for it is not altered
-  pub verdict-agrees : (c : Call) → bytesVerdict β c ≡ modelVerdict embeds B S σ c
-  verdict-agrees c = ⊎-elim (λ (e : inRange B S ≡ true). in-range e c) (λ (e : inRange B S ≡ false). refused-10 e c) (by-bool (inRange B S))
+      after-refused : (r : Refusal) → modelVerdict embeds B S σ c ≡ Refused r → modelAfter embeds B S σ c ≡ σ
+      unfolding modelAfter
+      after-refused r e = by-refused (modelVerdict embeds B S σ c) (λ r. σ) (modelNext embeds B S σ c) r e
+
+      accepted-agrees : modelVerdict embeds B S σ c ≡ Accepted → endsPeriod (modelAnswer embeds B S σ c) ≡ true
+          → bytesResult embeds β c ≡ modelAnswer embeds B S σ c → Follows (bytesNext embeds β c) (modelNext embeds B S σ c) (λ s. 0)
+          → Agrees β σ times c
+      unfolding timesAfter
+      accepted-agrees e ends same f =
+          record { same = same ∙ sym (result-accepted e); follows = rw (result-accepted e, after-accepted e, ends) f }
+
+      refused-agrees : (r : Refusal) → modelVerdict embeds B S σ c ≡ Refused r → bytesVerdict β c ≡ Refused r → Follows β σ times → Agrees β σ times c
+      unfolding timesAfter endsPeriod refusedBy
+      refused-agrees r e b f =
+          let y = bytes-refused β c r b in
+          record { same = y .0 ∙ sym (result-refused r e); follows = rw (result-refused r e, after-refused r e, y .1) f }
+
+      -- a call whose rules agree and which agrees where they accept it
+      pub by-verdict : bytesVerdict β c ≡ modelVerdict embeds B S σ c → endsPeriod (modelAnswer embeds B S σ c) ≡ true
+          → (modelVerdict embeds B S σ c ≡ Accepted → bytesVerdict β c ≡ Accepted → Few S times
+          → (bytesResult embeds β c ≡ modelAnswer embeds B S σ c) × Follows (bytesNext embeds β c) (modelNext embeds B S σ c) (λ s. 0))
+          → Follows β σ times → (endsPeriod (modelResult embeds B S σ c) ≡ true → Few S times) → Agrees β σ times c
+      by-verdict v ends accepted f few = go (modelVerdict embeds B S σ c) refl
+        where
+          go : (w : Verdict) → modelVerdict embeds B S σ c ≡ w → Agrees β σ times c
+          go Accepted e =
+              let x = accepted e (v ∙ e) (few (ap endsPeriod (result-accepted e) ∙ ends)) in
+              accepted-agrees e ends (x .0) (x .1)
+          go (Refused r) e = refused-agrees r e (v ∙ e) f

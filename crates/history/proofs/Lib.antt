@@ -1,11 +1,15 @@
-pub mod Base
 pub mod Computed
-pub mod Sane
+mod StateLaws
+mod Slots
 pub mod Follows
-pub mod Steps
-pub mod Same
-pub mod Right
+mod AddAgrees
+mod RemoveAgrees
+mod QueryAgrees
+mod AlterFollows
+mod SameLog
+mod NotWhole
+mod Right
 pub mod Theorem
-pub mod Runs
+mod Runs
 pub mod Stories
 pub mod Claims

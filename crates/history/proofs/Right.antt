@@ -1,42 +1,77 @@
--- Every accepted query of the model's log is right, in the words of the demand. Assumes nothing.
+-- Every query of the model's log is right, in the words of the demand.
 use Prim.Native.Nat.{ℕ, _<_, _≤_}
 use native.Mathlib.Omega.{arith}
-use mathlib.Core.Path.{_≡_, refl, sym, _∙_, ap}
-use mathlib.Core.Logic.{⊎-elim, _↔_}
-use mathlib.Core.Bool.{Bool, true, false, false≢true}
+use native.Mathlib.Decide.{decLt}
+use mathlib.Core.Path.{_≡_, refl, sym, _∙_}
+use mathlib.Core.Logic.{_↔_}
+use mathlib.Core.Bool.{Bool, true}
 use mathlib.Core.List.{List, [], _∷_, _++_}
-use lib.Dec.{leb}
 use lib.ListN.{length}
-use borrow.Author.Tests.{leb-true, leb-false}
-use Rattle.strand.specs.Vocabulary.{nth, select}
+use Rattle.lists.specs.Vocabulary.{nth, select}
+use Rattle.lists.proofs.ListLaws.{never}
+use Rattle.lists.proofs.Ranges.{Selected, selected}
 use Rattle.strand.specs.Strands.{Strand}
-use Rattle.strand.specs.declared.Verdict.{Verdict}
-use Rattle.strand.specs.declared.Verdict.the-variants.{Accepted, Refused}
-use Rattle.strand.proofs.ListLaws.{by-bool}
+use Rattle.refusals.specs.declared.Refusal.{Refusal}
+use Rattle.refusals.specs.declared.Verdict.{Verdict}
+use Rattle.refusals.specs.declared.Verdict.the-variants.{Accepted, Refused}
+use Rattle.refusals.specs.Rules.{byVerdict}
+use Rattle.refusals.proofs.RuleLaws.{by-accepted, by-refused}
 use Rattle.calls.specs.Limits.{motifVerdict}
-use Rattle.calls.specs.Results.{found, refusedBy, resultBy, ifAccepted}
+use Rattle.calls.specs.Holdings.{Holding, vacant, holds, putAt}
+use Rattle.calls.specs.Results.{found, refusedBy}
 use Rattle.history.specs.Events.{Call, add, remove, query, Event, call, alter, Line, gave}
-use Rattle.history.specs.Model.{Holding, vacant, holds, State, start, putAt, modelVerdict, embedsAt, hitList, searchList, modelAnswer, modelNext, modelAlter, modelLog}
-use Rattle.history.specs.History.{holdingAfter, holdingSince, Among, RightHits, Decides}
-use Rattle.history.proofs.Base.{Selected, selected}
-use Rattle.history.proofs.Sane.{Sane, sane-start, query-passed, molecules-same, sane-step, sane-alter}
+use Rattle.history.specs.Model.{State, start, modelVerdict, embedsAt, hitList, searchList, asked, modelAnswer, modelNext, modelResult}
+use Rattle.history.specs.Model.{modelAfter, modelAlter, modelLog}
+use Rattle.history.specs.History.{holdingBy, holdingAfter, holdingSince, Ask, motifsOf, asksBy, asksOf, Stands, Among, RightHits, RightLog, QueriesRight}
+use Rattle.history.specs.History.{Decides}
+use Rattle.history.proofs.StateLaws.{StateOk, start-ok, query-passed, molecules-same, after-ok, alter-ok}
 
-lt-of : (B : ℕ) (x : Holding) (d : ℕ) (q : Strand) → x ≡ holds q → (B ≤ d → x ≡ vacant) → d < B
-lt-of B x d q e h =
-    ⊎-elim
-    (λ (k : leb B d ≡ true). let v : x ≡ vacant = h (leb-true B d k) in let z : _≡_ {A = ℕ} 0 1 = cc in omega arith)
-    (λ (k : leb B d ≡ false). leb-false B d k)
-    (by-bool (leb B d))
+-- A line of an accepted query stands in the log as a query.
+pub query-stands : (log before after : List Line) (p : Strand) (work : ℕ) (slice : List ℕ) (count : ℕ) (hits : List ℕ) (searched : ℕ)
+    → log ≡ before ++ (gave (query p work slice) (found count hits searched) ∷ after)
+    → Stands log before (record { motif = p; count = count; hits = hits; searched = searched })
+query-stands log before after p work slice count hits searched e =
+    record {
+      line = gave (query p work slice) (found count hits searched);
+      after = after;
+      here = e;
+      front = [];
+      back = [];
+      among = unfold asksOf motifsOf asksBy in refl;
+    }
 
-found-parts : (v : Verdict) (n : ℕ) (l : List ℕ) (k n′ : ℕ) (l′ : List ℕ) (k′ : ℕ) → resultBy v (found n l k) ≡ found n′ l′ k′ → (n ≡ n′) × (l ≡ l′) × (v ≡ Accepted)
-unfolding resultBy refusedBy
-found-parts Accepted n l k n′ l′ k′ e = (cc, cc, refl)
-found-parts (Refused r) n l k n′ l′ k′ e = (cc, cc, cc)
+-- So each accepted query of a right log is right.
+pub query-right : {Relation : Strand → Strand → Type 0} {embeds : Strand → Strand → Bool} {B S : ℕ} {es : List Event} {log : List Line}
+    → RightLog Relation embeds B S es log → QueriesRight Relation log
+query-right {log = log} r before after p work slice count hits searched e =
+    r .right before _ (query-stands log before after p work slice count hits searched e)
+
+-- A list of no query, and one of a single query
+
+none-among : (a : Ask) (front back : List Ask) → [] ≡ front ++ (a ∷ back) → ⊥
+none-among a [] back e = let z : _≡_ {A = ℕ} 0 1 = cc in omega arith
+none-among a (b ∷ front) back e = let z : _≡_ {A = ℕ} 0 1 = cc in omega arith
+
+one-among : (x a : Ask) (front back : List Ask) → x ∷ [] ≡ front ++ (a ∷ back) → x ≡ a
+one-among x a [] back e = cc
+one-among x a (b ∷ front) back e = let r : [] ≡ front ++ (a ∷ back) = cc in absurd (none-among a front back r)
+
+-- a refused call makes no query
+asks-refused : (c : Call) (r : Refusal) (all : List Line) (a : Ask) (front back : List Ask) → asksOf all c (refusedBy r) ≡ front ++ (a ∷ back) → ⊥
+unfolding asksOf refusedBy
+asks-refused c r all a front back h = none-among a front back h
+
+below-of : (B : ℕ) (x : Holding) (d : ℕ) (q : Strand) → x ≡ holds q → (B ≤ d → x ≡ vacant) → d < B
+below-of B x d q e h =
+    elim (decLt d B) [
+      | yes l ↦ l
+      | no l ↦ let v : x ≡ vacant = h (omega arith) in let z : _≡_ {A = ℕ} 0 1 = cc in absurd (omega arith)
+    ]
 
 module _ (embeds : Strand → Strand → Bool) (Relation : Strand → Strand → Type 0) (B S : ℕ) where
   some-embeds : (p : Strand) (x : Holding) → embedsAt embeds B S p x ≡ true → (q : Strand) × (x ≡ holds q) × (embeds p q ≡ true)
   unfolding embedsAt
-  some-embeds p vacant e = absurd (false≢true e)
+  some-embeds p vacant e = never e
   some-embeds p (holds q) e = (q, refl, e)
 
   embeds-some : (p : Strand) (x : Holding) (q : Strand) → x ≡ holds q → embeds p q ≡ true → embedsAt embeds B S p x ≡ true
@@ -44,80 +79,100 @@ module _ (embeds : Strand → Strand → Bool) (Relation : Strand → Strand →
   embeds-some p x q e h = rw e h
 
   -- RightHits of a log that starts with these holdings
-  record RightFrom (holdings : ℕ → Holding) (before : List Line) (p : Strand) (count : ℕ) (hits : List ℕ) : Type 0 where
-    exact : (d : ℕ) → Among d hits ↔ ((q : Strand) × (holdingSince d (holdings d) before ≡ holds q) × Relation p q)
-    rising : (i j : ℕ) → i < j → j < length hits → nth hits i < nth hits j
-    counted : count ≡ length hits
+  record RightFrom (holdings : ℕ → Holding) (before : List Line) (a : Ask) : Type 0 where
+    exact : (d : ℕ) → Among d (a .hits) ↔ ((q : Strand) × (holdingSince d (holdings d) before ≡ holds q) × Relation (a .motif) q)
+    rising : (i j : ℕ) → i < j → j < length (a .hits) → nth (a .hits) i < nth (a .hits) j
+    counted : a .count ≡ length (a .hits)
 
   -- what a call does to the holdings
-  holding-step : (σ : State) (d : ℕ) (c : Call) (v : Verdict)
-      → holdingAfter d (σ .molecules d) c (resultBy v (modelAnswer embeds B S σ c)) ≡ ifAccepted v (modelNext embeds B S σ c) σ .molecules d
-  unfolding holdingAfter resultBy refusedBy modelAnswer ifAccepted modelNext putAt
-  holding-step σ d (add n q) Accepted = refl
-  holding-step σ d (add n q) (Refused r) = refl
-  holding-step σ d (remove n) Accepted = refl
-  holding-step σ d (remove n) (Refused r) = refl
-  holding-step σ d (query p work slice) Accepted = refl
-  holding-step σ d (query p work slice) (Refused r) = refl
+  holding-accepted : (σ : State) (d : ℕ) (c : Call) → holdingAfter d (σ .molecules d) c (modelAnswer embeds B S σ c) ≡ modelNext embeds B S σ c .molecules d
+  unfolding holdingAfter holdingBy modelAnswer modelNext asked putAt
+  holding-accepted σ d (add n q) = refl
+  holding-accepted σ d (remove n) = refl
+  holding-accepted σ d (query p work slice) = refl
 
-  right-after : (holdings holdings′ : ℕ → Holding) (y : Line) (before : List Line) (p : Strand) (count : ℕ) (hits : List ℕ)
+  holding-step : (σ : State) (d : ℕ) (c : Call) → holdingAfter d (σ .molecules d) c (modelResult embeds B S σ c) ≡ modelAfter embeds B S σ c .molecules d
+  unfolding modelResult modelAfter
+  holding-step σ d c = go (modelVerdict embeds B S σ c)
+    where
+      go : (v : Verdict) → holdingAfter d (σ .molecules d) c (byVerdict v refusedBy (modelAnswer embeds B S σ c))
+          ≡ byVerdict v (λ r. σ) (modelNext embeds B S σ c) .molecules d
+      go Accepted = unfold byVerdict in (holding-accepted σ d c)
+      go (Refused r) = unfold byVerdict holdingAfter refusedBy in refl
+
+  right-after : (holdings holdings′ : ℕ → Holding) (y : Line) (before : List Line) (a : Ask)
       → ((d : ℕ) → holdingAfter d (holdings d) (y .of) (y .result) ≡ holdings′ d)
-      → RightFrom holdings′ before p count hits → RightFrom holdings (y ∷ before) p count hits
+      → RightFrom holdings′ before a → RightFrom holdings (y ∷ before) a
   unfolding holdingSince
-  right-after holdings holdings′ y before p count hits h r =
+  right-after holdings holdings′ y before a h r =
       record { exact = λ d. rw (h d) (r .exact d); rising = r .rising; counted = r .counted }
 
   module _ (decides : Decides Relation embeds) where
-    -- a query that is accepted now
-    right-now : (σ : State) → Sane B σ → (p : Strand) (work : ℕ) (slice : List ℕ) (count : ℕ) (hits : List ℕ) (searched : ℕ)
-        → resultBy (modelVerdict embeds B S σ (query p work slice)) (modelAnswer embeds B S σ (query p work slice)) ≡ found count hits searched
-        → RightFrom (σ .molecules) [] p count hits
-    unfolding modelAnswer hitList holdingSince Decides
-    right-now σ sane p work slice count hits searched e =
+    -- an accepted query of a motif, now
+    right-query : (σ : State) → StateOk B σ → (p : Strand) → motifVerdict p ≡ Accepted
+        → RightFrom (σ .molecules) []
+        (record { motif = p; count = length (hitList embeds B S σ p); hits = hitList embeds B S σ p; searched = length (searchList embeds B S σ p) })
+    unfolding hitList holdingSince Decides
+    right-query σ ok p fit =
         let t : ℕ → Bool = λ d. embedsAt embeds B S p (σ .molecules d) in
-        let x = found-parts (modelVerdict embeds B S σ (query p work slice)) (length (select B t)) (select B t) (length (searchList embeds B S σ p)) count hits searched e in
-        let fit : motifVerdict p ≡ Accepted = query-passed embeds B S σ p work slice (x .2) in
-        let s : Selected B t hits = rw (x .1) at (selected B t) in
+        let s : Selected B t (select B t) = selected B t in
         record {
           exact = λ d. (
             λ m.
                 let y = s .each (m .0) (m .1) .1 in
                 let z = some-embeds p (σ .molecules d) (rw (m .2) at y) in
-                (z .0, z .1, decides p (z .0) fit (rw (z .1) at (sane .holding-ok d)) .0 (z .2)),
+                (z .0, z .1, decides p (z .0) fit (rw (z .1) at (ok .holding-ok d)) .0 (z .2)),
             λ m.
                 let y : σ .molecules d ≡ holds (m .0) = m .1 in
-                let z : t d ≡ true = embeds-some p (σ .molecules d) (m .0) y (decides p (m .0) fit (rw y at (sane .holding-ok d)) .1 (m .2)) in
-                s .has d (lt-of B (σ .molecules d) d (m .0) y (sane .above d)) z,
+                let z : t d ≡ true = embeds-some p (σ .molecules d) (m .0) y (decides p (m .0) fit (rw y at (ok .holding-ok d)) .1 (m .2)) in
+                s .has d (below-of B (σ .molecules d) d (m .0) y (ok .above d)) z,
           );
           rising = s .rising;
-          counted = sym (x .0) ∙ ap length (x .1);
+          counted = refl;
         }
 
-    right-log : (es : List Event) (σ : State) → Sane B σ
-        → (before after : List Line) (p : Strand) (work : ℕ) (slice : List ℕ) (count : ℕ) (hits : List ℕ) (searched : ℕ)
-        → modelLog embeds B S σ es ≡ before ++ (gave (query p work slice) (found count hits searched) ∷ after)
-        → RightFrom (σ .molecules) before p count hits
-    unfolding modelLog
-    right-log [] σ sane [] after p work slice count hits searched e = let z : _≡_ {A = ℕ} 0 1 = cc in absurd (omega arith)
-    right-log [] σ sane (y ∷ before) after p work slice count hits searched e = let z : _≡_ {A = ℕ} 0 1 = cc in absurd (omega arith)
-    right-log (alter s i v ∷ es) σ sane before after p work slice count hits searched e =
-        rw (molecules-same embeds B S σ s i v) at (right-log es (modelAlter embeds B S σ s i v) (sane-alter embeds B S σ sane s i v) before after p work slice count hits searched e)
-    right-log (call c ∷ es) σ sane [] after p work slice count hits searched e =
-        let l : gave c (resultBy (modelVerdict embeds B S σ c) (modelAnswer embeds B S σ c)) ≡ gave (query p work slice) (found count hits searched) = cc in
-        let k : c ≡ query p work slice = ap (λ (x : Line). x .of) l in
-        let r : resultBy (modelVerdict embeds B S σ c) (modelAnswer embeds B S σ c) ≡ found count hits searched = ap (λ (x : Line). x .result) l in
-        right-now σ sane p work slice count hits searched (rw k at r)
-    right-log (call c ∷ es) σ sane (y ∷ before) after p work slice count hits searched e =
-        let v : Verdict = modelVerdict embeds B S σ c in
-        let l : y ≡ gave c (resultBy (modelVerdict embeds B S σ c) (modelAnswer embeds B S σ c)) = cc in
-        let t : modelLog embeds B S (ifAccepted (modelVerdict embeds B S σ c) (modelNext embeds B S σ c) σ) es ≡ before ++ (gave (query p work slice) (found count hits searched) ∷ after) = cc in
-        right-after (σ .molecules) (ifAccepted (modelVerdict embeds B S σ c) (modelNext embeds B S σ c) σ .molecules) y before p count hits
-        (λ d. rw l (holding-step σ d c (modelVerdict embeds B S σ c)))
-        (right-log es (ifAccepted (modelVerdict embeds B S σ c) (modelNext embeds B S σ c) σ) (sane-step embeds B S σ sane c (modelVerdict embeds B S σ c) refl) before after p work slice count hits searched t)
+    -- the queries of a call that is accepted now
+    asks-accepted : (σ : State) → StateOk B σ → (c : Call) → modelVerdict embeds B S σ c ≡ Accepted → (all : List Line) (a : Ask) (front back : List Ask)
+        → asksOf all c (modelAnswer embeds B S σ c) ≡ front ++ (a ∷ back) → RightFrom (σ .molecules) [] a
+    unfolding asksOf modelAnswer motifsOf asksBy
+    asks-accepted σ ok (add d q) e all a front back h = absurd (none-among a front back h)
+    asks-accepted σ ok (remove d) e all a front back h = absurd (none-among a front back h)
+    asks-accepted σ ok (query p work slice) e all a front back h =
+        rw (one-among _ a front back h) at (right-query σ ok p (query-passed embeds B S σ p work slice e))
 
-    pub right-start : (es : List Event) (before after : List Line) (p : Strand) (work : ℕ) (slice : List ℕ) (count : ℕ) (hits : List ℕ) (searched : ℕ)
-        → modelLog embeds B S start es ≡ before ++ (gave (query p work slice) (found count hits searched) ∷ after)
-        → RightHits Relation before p count hits
-    right-start es before after p work slice count hits searched e =
-        let r = right-log es start (sane-start B) before after p work slice count hits searched e in
-        record { exact = unfold start in (r .exact); rising = r .rising; counted = r .counted }
+    asks-right : (σ : State) → StateOk B σ → (c : Call) (all : List Line) (a : Ask) (front back : List Ask)
+        → asksOf all c (modelResult embeds B S σ c) ≡ front ++ (a ∷ back) → RightFrom (σ .molecules) [] a
+    unfolding modelResult
+    asks-right σ ok c all a front back h = go (modelVerdict embeds B S σ c) refl
+      where
+        go : (v : Verdict) → modelVerdict embeds B S σ c ≡ v → RightFrom (σ .molecules) [] a
+        go Accepted e =
+            asks-accepted σ ok c e all a front back (rw (by-accepted (modelVerdict embeds B S σ c) refusedBy (modelAnswer embeds B S σ c) e) at h)
+        go (Refused r) e =
+            absurd (asks-refused c r all a front back (rw (by-refused (modelVerdict embeds B S σ c) refusedBy (modelAnswer embeds B S σ c) r e) at h))
+
+    -- `all` is the log in front of the query's line from the start of the history, `before` from here
+    right-log : (es : List Event) (σ : State) → StateOk B σ → (all before after : List Line) (line : Line) (a : Ask) (front back : List Ask)
+        → modelLog embeds B S σ es ≡ before ++ (line ∷ after) → asksOf all (line .of) (line .result) ≡ front ++ (a ∷ back)
+        → RightFrom (σ .molecules) before a
+    unfolding modelLog
+    right-log [] σ ok all [] after line a front back e h = let z : _≡_ {A = ℕ} 0 1 = cc in absurd (omega arith)
+    right-log [] σ ok all (y ∷ before) after line a front back e h = let z : _≡_ {A = ℕ} 0 1 = cc in absurd (omega arith)
+    right-log (alter s i v ∷ es) σ ok all before after line a front back e h =
+        rw (molecules-same embeds B S σ s i v)
+        at (right-log es (modelAlter embeds B S σ s i v) (alter-ok embeds B S σ ok s i v) all before after line a front back e h)
+    right-log (call c ∷ es) σ ok all [] after line a front back e h =
+        let l : line ≡ gave c (modelResult embeds B S σ c) = cc in
+        asks-right σ ok c all a front back (rw l at h)
+    right-log (call c ∷ es) σ ok all (y ∷ before) after line a front back e h =
+        let l : y ≡ gave c (modelResult embeds B S σ c) = cc in
+        let t : modelLog embeds B S (modelAfter embeds B S σ c) es ≡ before ++ (line ∷ after) = cc in
+        right-after (σ .molecules) (modelAfter embeds B S σ c .molecules) y before a (λ d. rw l (holding-step σ d c))
+        (right-log es (modelAfter embeds B S σ c) (after-ok embeds B S σ ok c) all before after line a front back t h)
+
+    pub right-start : (es : List Event) (log before : List Line) (a : Ask) → log ≡ modelLog embeds B S start es
+        → Stands log before a → RightHits Relation before a
+    unfolding start
+    right-start es log before a same s =
+        let r = right-log es start (start-ok B) before before (s .after) (s .line) a (s .front) (s .back) (sym same ∙ s .here) (s .among) in
+        record { exact = r .exact; rising = r .rising; counted = r .counted }

@@ -1,11 +1,13 @@
--- Every run of the calls has the log of the definitions that their contracts cite, so the history theorem is about it. Assumes nothing.
+-- Every run of the calls has the log of the definitions that their contracts cite, so the history theorem is about it.
 use mathlib.Core.Path.{_≡_, refl, _∙_, ap}
 use mathlib.Core.List.{List, [], _∷_}
 use mathlib.Core.Bool.{Bool}
 use Rattle.strand.specs.Strands.{Strand}
+use Rattle.calls.specs.declared.Added.{Added}
+use Rattle.calls.specs.declared.Removed.{Removed}
 use Rattle.calls.specs.Motifs.{embeds, EmbedsIn}
-use Rattle.calls.specs.Calls.{UpdateEffect, addOutcome, removeOutcome, QueryEffect, queryOutcome}
-use Rattle.calls.specs.Results.{updateResult, queryResult}
+use Rattle.calls.specs.Calls.{Effect, addOutcome, removeOutcome, QueryEffect, queryOutcome}
+use Rattle.calls.specs.Results.{addResult, removeResult, queryResult}
 use Rattle.history.specs.Events.{add, remove, query, Event, call, alter, Line, gave}
 use Rattle.history.specs.History.{Buffers, altered, bytesResult, bytesNext, bytesLog, HistoryTheorem}
 use Rattle.history.specs.Runs.{left, Ran, runEnd, runAdd, runRemove, runQuery, runAlter, RunTheorem}
@@ -17,11 +19,11 @@ module _ (test : Strand → Strand → Bool) where
   unfolding bytesLog bytesResult bytesNext
   ran-log runEnd = refl
   ran-log (runAdd {β} {es} {log} d q r catalog cache e ran) =
-      ap (λ (x : List Line). gave (add d q) (updateResult r) ∷ x) (ran-log ran)
-      ∙ ap (λ (x : UpdateEffect). gave (add d q) (updateResult (x .answer)) ∷ bytesLog test (left (x .catalog) (x .cache)) es) e
+      ap (λ (x : List Line). gave (add d q) (addResult r) ∷ x) (ran-log ran)
+      ∙ ap (λ (x : Effect Added). gave (add d q) (addResult (x .answer)) ∷ bytesLog test (left (x .catalog) (x .cache)) es) e
   ran-log (runRemove {β} {es} {log} d r catalog cache e ran) =
-      ap (λ (x : List Line). gave (remove d) (updateResult r) ∷ x) (ran-log ran)
-      ∙ ap (λ (x : UpdateEffect). gave (remove d) (updateResult (x .answer)) ∷ bytesLog test (left (x .catalog) (x .cache)) es) e
+      ap (λ (x : List Line). gave (remove d) (removeResult r) ∷ x) (ran-log ran)
+      ∙ ap (λ (x : Effect Removed). gave (remove d) (removeResult (x .answer)) ∷ bytesLog test (left (x .catalog) (x .cache)) es) e
   ran-log (runQuery {β} {es} {log} p work hits r cache slice e ran) =
       ap (λ (x : List Line). gave (query p work hits) (queryResult r slice) ∷ x) (ran-log ran)
       ∙ ap (λ (x : QueryEffect). gave (query p work hits) (queryResult (x .answer) (x .hits)) ∷ bytesLog test (left (β .catalog) (x .cache)) es) e
@@ -32,10 +34,10 @@ module _ (test : Strand → Strand → Bool) where
   unfolding bytesLog bytesResult bytesNext
   some-run β [] = runEnd
   some-run β (call (add d q) ∷ es) =
-      let x : UpdateEffect = addOutcome (β .catalog) (β .cache) d q in
+      let x : Effect Added = addOutcome (β .catalog) (β .cache) d q in
       runAdd d q (x .answer) (x .catalog) (x .cache) refl (some-run (left (x .catalog) (x .cache)) es)
   some-run β (call (remove d) ∷ es) =
-      let x : UpdateEffect = removeOutcome (β .catalog) (β .cache) d in
+      let x : Effect Removed = removeOutcome (β .catalog) (β .cache) d in
       runRemove d (x .answer) (x .catalog) (x .cache) refl (some-run (left (x .catalog) (x .cache)) es)
   some-run β (call (query p work hits) ∷ es) =
       let x : QueryEffect = queryOutcome test (β .catalog) (β .cache) p work hits in

@@ -1,19 +1,18 @@
--- The example histories on the bytes: by the theorem, from what the model makes of them. Assumes nothing.
+-- The example histories on the bytes: by the theorem, from what the model makes of them.
 use Prim.Native.Nat.{ℕ, _+_, _*_}
 use mathlib.Core.Path.{_≡_, refl, _∙_, ap, ap₂}
-use mathlib.Core.Bool.{true, _&&_, false≢true}
+use mathlib.Core.Bool.{true, false≢true}
 use mathlib.Core.List.{List, [], _∷_}
-use lib.Dec.{eqb}
 use lib.Seq.{set-set}
-use borrow.Author.Tests.{eqb-true}
-use Rattle.strand.specs.Vocabulary.{sameList}
-use Rattle.strand.proofs.ListLaws.{and-true, same-eq}
-use Rattle.octets.specs.Checksum.{blockSize}
+use Rattle.lists.proofs.ListLaws.{and-true, same-eq}
+use Rattle.block.specs.Checksum.{blockSize}
 use Rattle.calls.specs.Motifs.{embeds}
-use Rattle.calls.specs.Results.{Result, refused, done, found}
+use Rattle.calls.specs.Results.{Result, numbersOf}
+use Rattle.calls.proofs.ResultLaws.{same-numbers}
 use Rattle.history.specs.Events.{Call, Event, call, alter, Line, gave}
 use Rattle.history.specs.History.{Buffers, zeroed, altered, bytesResult, bytesNext, bytesLog, admitted, HistoryTheorem}
-use Rattle.history.specs.Examples.{Story, resultsOf, sameResult, sameResults, storyOk, stories, storiesOk, OnBytes, AllOnBytes, alteredOnce, alteredTwice, AlterationsLimited}
+use Rattle.history.specs.Examples.{Story, resultsOf, sameResult, sameResults, storyOk, stories, storiesOk, OnBytes, AllOnBytes, alteredOnce}
+use Rattle.history.specs.Examples.{alteredTwice, AlterationsLimited}
 use Rattle.history.proofs.Theorem.{demand-3}
 use Rattle.history.proofs.Computed.{settled, computed}
 
@@ -21,27 +20,7 @@ use Rattle.history.proofs.Computed.{settled, computed}
 
 same-result : (q r : Result) → sameResult q r ≡ true → q ≡ r
 unfolding sameResult
-same-result (refused n s p) (refused n′ s′ p′) e =
-    let a = and-true (eqb n n′ && eqb s s′) (eqb p p′) e in
-    let b = and-true (eqb n n′) (eqb s s′) (a .0) in
-    let x = eqb-true n n′ (b .0) in
-    let y = eqb-true s s′ (b .1) in
-    let z = eqb-true p p′ (a .1) in
-    cc
-same-result (refused n s p) done e = absurd (false≢true e)
-same-result (refused n s p) (found c h k) e = absurd (false≢true e)
-same-result done (refused n s p) e = absurd (false≢true e)
-same-result done done e = refl
-same-result done (found c h k) e = absurd (false≢true e)
-same-result (found c h k) (refused n s p) e = absurd (false≢true e)
-same-result (found c h k) done e = absurd (false≢true e)
-same-result (found c h k) (found c′ h′ k′) e =
-    let a = and-true (eqb c c′ && sameList h h′) (eqb k k′) e in
-    let b = and-true (eqb c c′) (sameList h h′) (a .0) in
-    let x = eqb-true c c′ (b .0) in
-    let y = same-eq h h′ (b .1) in
-    let z = eqb-true k k′ (a .1) in
-    cc
+same-result q r e = same-numbers q r (same-eq (numbersOf q) (numbersOf r) e)
 
 same-results : (qs rs : List Result) → sameResults qs rs ≡ true → qs ≡ rs
 unfolding sameResults

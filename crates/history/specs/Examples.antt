@@ -1,15 +1,13 @@
 -- Example histories: 01's story, a number used again, one with alterations and refused calls between, and two that are not admitted.
--- Assumes nothing.
 use Prim.Native.Nat.{ℕ}
 use mathlib.Core.Path.{_≡_}
 use mathlib.Core.List.{List, [], _∷_}
 use mathlib.Core.Bool.{Bool, true, false, _&&_}
-use lib.Dec.{eqb}
-use Rattle.strand.specs.Vocabulary.{sameList}
-use Rattle.strand.specs.Strands.{Strand, strandOf, motifSide, noSide}
-use Rattle.strand.specs.Refusals.{noBases, numberTooLarge, alreadyHeld, notHeld}
+use Rattle.lists.specs.Vocabulary.{sameList}
+use Rattle.strand.specs.Strands.{Strand, strandOf}
+use Rattle.refusals.specs.Rules.{motifSide, noSide, noBases, numberTooLarge, alreadyHeld, notHeld}
 use Rattle.calls.specs.Motifs.{embeds}
-use Rattle.calls.specs.Results.{Result, refused, done, found}
+use Rattle.calls.specs.Results.{Result, refused, done, found, numbersOf}
 use Rattle.history.specs.Events.{Call, add, remove, query, Event, call, alter, Line}
 use Rattle.history.specs.Model.{start, modelLog}
 use Rattle.history.specs.History.{admitted, zeroed, bytesLog}
@@ -27,15 +25,7 @@ resultsOf [] = []
 resultsOf (line ∷ log) = line .result ∷ resultsOf log
 
 unfoldable pub sameResult : Result → Result → Bool
-sameResult (refused n s p) (refused n′ s′ p′) = eqb n n′ && eqb s s′ && eqb p p′
-sameResult (refused n s p) done = false
-sameResult (refused n s p) (found c h k) = false
-sameResult done (refused n s p) = false
-sameResult done done = true
-sameResult done (found c h k) = false
-sameResult (found c h k) (refused n s p) = false
-sameResult (found c h k) done = false
-sameResult (found c h k) (found c′ h′ k′) = eqb c c′ && sameList h h′ && eqb k k′
+sameResult q r = sameList (numbersOf q) (numbersOf r)
 
 unfoldable pub sameResults : List Result → List Result → Bool
 sameResults [] [] = true

@@ -1,25 +1,23 @@
--- The reference model (01: the plain machine of demand 3). The quotations are 01's. Assumes nothing.
+-- The reference model (01: the plain machine of demand 3). The quotations are 01's.
 use Prim.Native.Nat.{ℕ}
 use mathlib.Core.List.{List, [], _∷_}
-use mathlib.Core.Bool.{Bool, true, false, not, _&&_}
+use mathlib.Core.Bool.{Bool, false, not, _&&_}
 use lib.Dec.{ltb, leb, eqb}
 use lib.ListN.{length}
-use Rattle.strand.specs.Vocabulary.{nth, choose, select}
-use Rattle.strand.specs.Strands.{Strand, sameStrand, noSide}
-use Rattle.strand.specs.Refusals.{wrongSlice, notWholeBlocks, numberTooLarge, alreadyHeld, notHeld, first, refuseIf}
-use Rattle.strand.specs.declared.Verdict.{Verdict}
+use Rattle.lists.specs.Vocabulary.{nth, choose, select}
+use Rattle.strand.specs.Strands.{Strand, sameStrand}
+use Rattle.refusals.specs.Rules.{noSide, wrongSlice, notWholeBlocks, numberTooLarge, alreadyHeld, notHeld, first, refuseIf, byVerdict}
+use Rattle.refusals.specs.declared.Verdict.{Verdict}
 use Rattle.octets.specs.Maps.{without}
 use Rattle.block.specs.Content.{emptyBlock, encodeEntry}
-use Rattle.calls.specs.Limits.{mostCatalogBlocks, mostCacheBlocks, moleculeVerdict, motifVerdict, workVerdict}
+use Rattle.calls.specs.Limits.{inRange, moleculeVerdict, motifVerdict, workVerdict}
+use Rattle.calls.specs.Holdings.{Holding, vacant, holds, isHeld, putAt}
 use Rattle.calls.specs.Buffers.{slotOf}
-use Rattle.calls.specs.Results.{Result, done, found, ifAccepted, resultBy}
+use Rattle.calls.specs.Results.{Result, done, found, refusedBy}
 use Rattle.history.specs.Events.{Call, add, remove, query, Event, call, alter, Line, gave}
 
 -- "State: the molecules by number, and for each slot nothing or a motif with a set of numbers."
-pub data Holding : Type 0 where
-  vacant : Holding
-  holds : Strand → Holding
-
+-- (`Holding`, in calls, is what stands under a number.)
 pub data Slot : Type 0 where
   nothing : Slot
   keeps : Strand → (ℕ → Bool) → Slot
@@ -32,15 +30,7 @@ pub record State : Type 0 where
 unfoldable pub start : State
 start = record { molecules = λ d. vacant; slots = λ s. nothing }
 
--- f with the value v at d.
-unfoldable pub putAt : {A : Type 0} → (ℕ → A) → ℕ → A → ℕ → A
-putAt f d v e = choose (eqb e d) v (f e)
-
 -- Number d is held.
-unfoldable pub isHeld : Holding → Bool
-isHeld vacant = false
-isHeld (holds q) = true
-
 unfoldable pub heldIn : State → ℕ → Bool
 heldIn σ d = isHeld (σ .molecules d)
 
@@ -54,23 +44,19 @@ unfoldable pub dropped : ℕ → Slot → Slot
 dropped d nothing = nothing
 dropped d (keeps m set) = keeps m (without d set)
 
--- B is from 1 to 512, S from 1 to 64.
-unfoldable pub inRange : ℕ → ℕ → Bool
-inRange B S = (leb 1 B && leb B mostCatalogBlocks) && (leb 1 S && leb S mostCacheBlocks)
-
 -- "It is given B and S"; `embeds` tells whether an embedding of a motif into a molecule exists.
 module _ (embeds : Strand → Strand → Bool) (B S : ℕ) where
-  -- "It refuses by the table below, reading the call's inputs, B, S and the molecules held." Row 11 speaks of blocks, and it has none.
-  abbrev pub rangeRow : Verdict
-  rangeRow = refuseIf notWholeBlocks noSide (not (inRange B S))
+  -- "It refuses by the table below, reading the call's inputs, B, S and the molecules held." Rule 11 speaks of blocks, and it has none.
+  abbrev pub rangeRule : Verdict
+  rangeRule = refuseIf notWholeBlocks noSide (not (inRange B S))
 
   unfoldable pub modelVerdict : State → Call → Verdict
   modelVerdict σ (add d q) =
-      first (rangeRow ∷ refuseIf numberTooLarge noSide (leb B d) ∷ refuseIf alreadyHeld noSide (heldIn σ d) ∷ moleculeVerdict q ∷ [])
+      first (rangeRule ∷ refuseIf numberTooLarge noSide (leb B d) ∷ refuseIf alreadyHeld noSide (heldIn σ d) ∷ moleculeVerdict q ∷ [])
   modelVerdict σ (remove d) =
-      first (rangeRow ∷ refuseIf numberTooLarge noSide (leb B d) ∷ refuseIf notHeld noSide (not (heldIn σ d)) ∷ [])
+      first (rangeRule ∷ refuseIf numberTooLarge noSide (leb B d) ∷ refuseIf notHeld noSide (not (heldIn σ d)) ∷ [])
   modelVerdict σ (query p work hits) =
-      first (rangeRow ∷ motifVerdict p ∷ refuseIf wrongSlice noSide (ltb (length hits) B) ∷ workVerdict p work ∷ [])
+      first (rangeRule ∷ motifVerdict p ∷ refuseIf wrongSlice noSide (ltb (length hits) B) ∷ workVerdict p work ∷ [])
 
   -- The motif embeds in what stands under a number.
   unfoldable pub embedsAt : Strand → Holding → Bool
@@ -85,18 +71,28 @@ module _ (embeds : Strand → Strand → Bool) (B S : ℕ) where
   unfoldable pub searchList : State → Strand → List ℕ
   searchList σ p = select B (λ d. heldIn σ d && not (knownIn (σ .slots (slotOf S p)) p d))
 
+  -- After a query "the slot is this motif with all held numbers".
+  unfoldable pub asked : State → Strand → State
+  asked σ p = record { molecules = σ .molecules; slots = putAt (σ .slots) (slotOf S p) (keeps p (heldIn σ)) }
+
   -- What an accepted call answers.
   unfoldable pub modelAnswer : State → Call → Result
   modelAnswer σ (add d q) = done
   modelAnswer σ (remove d) = done
   modelAnswer σ (query p work hits) = found (length (hitList σ p)) (hitList σ p) (length (searchList σ p))
 
-  -- "Add and remove change the molecules; remove also takes d out of every set."
-  -- After a query "the slot is this motif with all held numbers".
+  -- What it leaves. "Add and remove change the molecules; remove also takes d out of every set."
   unfoldable pub modelNext : State → Call → State
   modelNext σ (add d q) = record { molecules = putAt (σ .molecules) d (holds q); slots = σ .slots }
   modelNext σ (remove d) = record { molecules = putAt (σ .molecules) d vacant; slots = λ s. dropped d (σ .slots s) }
-  modelNext σ (query p work hits) = record { molecules = σ .molecules; slots = putAt (σ .slots) (slotOf S p) (keeps p (heldIn σ)) }
+  modelNext σ (query p work hits) = asked σ p
+
+  -- What a call comes to, and the state afterwards. "A refused call changes nothing."
+  unfoldable pub modelResult : State → Call → Result
+  modelResult σ c = byVerdict (modelVerdict σ c) refusedBy (modelAnswer σ c)
+
+  unfoldable pub modelAfter : State → Call → State
+  modelAfter σ c = byVerdict (modelVerdict σ c) (λ r. σ) (modelNext σ c)
 
   -- "The block which the rules above give to the slot's motif and set, with a hit bit for each number of the set into which an embedding
   -- exists, or zero where the slot has nothing."
@@ -111,9 +107,8 @@ module _ (embeds : Strand → Strand → Bool) (B S : ℕ) where
       σ
       (record { molecules = σ .molecules; slots = putAt (σ .slots) s nothing })
 
-  -- "Fed, in their order," with a list of events, from any state: the log of its calls. "A refused call changes nothing."
+  -- "Fed, in their order," with a list of events, from any state: the log of its calls.
   unfoldable pub modelLog : State → List Event → List Line
   modelLog σ [] = []
-  modelLog σ (call c ∷ es) =
-      gave c (resultBy (modelVerdict σ c) (modelAnswer σ c)) ∷ modelLog (ifAccepted (modelVerdict σ c) (modelNext σ c) σ) es
+  modelLog σ (call c ∷ es) = gave c (modelResult σ c) ∷ modelLog (modelAfter σ c) es
   modelLog σ (alter s i v ∷ es) = modelLog (modelAlter σ s i v) es

@@ -1,13 +1,14 @@
--- Runs of the calls, known by the contracts of add, remove and query alone, and what is claimed of every run. Assumes nothing.
+-- Runs of the calls, known by the contracts of add, remove and query alone, and what is claimed of every run.
 use Prim.Native.Nat.{ℕ}
 use mathlib.Core.Path.{_≡_}
 use mathlib.Core.List.{List, [], _∷_}
 use mathlib.Core.Bool.{Bool, true}
 use Rattle.strand.specs.Strands.{Strand}
-use Rattle.calls.specs.declared.Updated.{Updated}
+use Rattle.calls.specs.declared.Added.{Added}
+use Rattle.calls.specs.declared.Removed.{Removed}
 use Rattle.calls.specs.declared.Queried.{Queried}
-use Rattle.calls.specs.Calls.{updated, addOutcome, removeOutcome, queried, queryOutcome}
-use Rattle.calls.specs.Results.{updateResult, queryResult}
+use Rattle.calls.specs.Calls.{effect, addOutcome, removeOutcome, queried, queryOutcome}
+use Rattle.calls.specs.Results.{addResult, removeResult, queryResult}
 use Rattle.history.specs.Events.{add, remove, query, Event, call, alter, Line, gave}
 use Rattle.history.specs.History.{Buffers, zeroed, altered, admitted, RightLog}
 
@@ -21,15 +22,15 @@ pub data Ran (embeds : Strand → Strand → Bool) : Buffers → List Event → 
   -- no event is left
   runEnd : {β : Buffers} → Ran embeds β [] []
   -- 01: "Add (number d, molecule)"
-  runAdd : {β : Buffers} {es : List Event} {log : List Line} (d : ℕ) (q : Strand) (r : Updated) (catalog′ cache′ : List ℕ)
-      → updated r catalog′ cache′ ≡ addOutcome (β .catalog) (β .cache) d q
+  runAdd : {β : Buffers} {es : List Event} {log : List Line} (d : ℕ) (q : Strand) (r : Added) (catalog′ cache′ : List ℕ)
+      → effect r catalog′ cache′ ≡ addOutcome (β .catalog) (β .cache) d q
       → Ran embeds (left catalog′ cache′) es log
-      → Ran embeds β (call (add d q) ∷ es) (gave (add d q) (updateResult r) ∷ log)
+      → Ran embeds β (call (add d q) ∷ es) (gave (add d q) (addResult r) ∷ log)
   -- 01: "Remove (d)"
-  runRemove : {β : Buffers} {es : List Event} {log : List Line} (d : ℕ) (r : Updated) (catalog′ cache′ : List ℕ)
-      → updated r catalog′ cache′ ≡ removeOutcome (β .catalog) (β .cache) d
+  runRemove : {β : Buffers} {es : List Event} {log : List Line} (d : ℕ) (r : Removed) (catalog′ cache′ : List ℕ)
+      → effect r catalog′ cache′ ≡ removeOutcome (β .catalog) (β .cache) d
       → Ran embeds (left catalog′ cache′) es log
-      → Ran embeds β (call (remove d) ∷ es) (gave (remove d) (updateResult r) ∷ log)
+      → Ran embeds β (call (remove d) ∷ es) (gave (remove d) (removeResult r) ∷ log)
   -- 01: "Query (motif)", with a work slice of any length and any slice for the hits; the catalog is only read
   runQuery : {β : Buffers} {es : List Event} {log : List Line} (p : Strand) (work : ℕ) (hits : List ℕ) (r : Queried) (cache′ hits′ : List ℕ)
       → queried r cache′ hits′ ≡ queryOutcome embeds (β .catalog) (β .cache) p work hits

@@ -1,3 +1,3 @@
-pub mod Whole
+mod Whole
 pub mod CallLaws
 pub mod Claims

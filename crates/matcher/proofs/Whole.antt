@@ -1,17 +1,17 @@
--- The whole motif and the whole molecule: room for the rows, and the walk's end. Assumes nothing.
+-- The whole motif and the whole molecule: room for the rows, and the walk's end.
 use Prim.Native.Nat.{ℕ, _+_, _-_, _≤_, _<_}
 use mathlib.Core.Path.{_≡_}
 use mathlib.Core.List.{List}
 use native.Mathlib.Omega.{arith}
 use lib.ListN.{length}
-use Rattle.strand.specs.Vocabulary.{nth}
+use Rattle.lists.specs.Vocabulary.{nth}
 use Rattle.strand.specs.Strands.{lettersMatch}
 use Rattle.embedding.specs.Embedding.{lettersFit}
 use Rattle.embedding.specs.Row.{Best}
 use Rattle.embedding.specs.Longest.{longest}
 use Rattle.embedding.proofs.Recurrence.{unique}
 use Rattle.embedding.proofs.Computed.{longest-best}
-use Rattle.rows.specs.Rows.{workSize}
+use Rattle.refusals.specs.Work.{workSize}
 use Rattle.arcs.specs.Arcs.{Room}
 use Rattle.arcs.proofs.Arcs.{room-any}
 

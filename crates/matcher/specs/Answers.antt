@@ -1,41 +1,34 @@
--- The calls length and show: what they answer, and what is claimed of it. Assumes nothing.
+-- The calls length and show: what they answer, and what is claimed of it.
 use Prim.Native.Nat.{ℕ, _≤_}
 use mathlib.Core.Path.{_≡_}
 use mathlib.Core.Logic.{_↔_}
 use mathlib.Core.List.{List, [], _∷_}
 use lib.Dec.{ltb}
 use lib.ListN.{length}
-use Rattle.strand.specs.declared.Verdict.{Verdict}
-use Rattle.strand.specs.declared.Verdict.the-variants as verdict
-use Rattle.strand.specs.Vocabulary.{nth}
-use Rattle.strand.specs.Strands.{lettersMatch, noSide}
-use Rattle.strand.specs.Refusals.{workTooShort, wrongSlice, refuseIf, first, pairVerdict}
+use Rattle.refusals.specs.declared.Verdict.{Verdict}
+use Rattle.refusals.specs.declared.Verdict.the-variants as verdict
+use Rattle.lists.specs.Vocabulary.{nth}
+use Rattle.strand.specs.Strands.{lettersMatch}
+use Rattle.refusals.specs.Rules.{noSide, wrongSlice, refuseIf, first, byVerdict}
+use Rattle.strand.specs.StrandRules.{pairVerdict}
 use Rattle.embedding.specs.Embedding.{lettersFit, Emb}
 use Rattle.embedding.specs.Longest.{longest}
 use Rattle.embedding.specs.Statements.{IsLongest}
-use Rattle.rows.specs.Rows.{workSize}
+use Rattle.refusals.specs.Work.{workSize, workRule}
 use Rattle.arcs.specs.Arcs.{Setting}
 use Rattle.matcher.specs.declared.Matched.{Matched}
 use Rattle.matcher.specs.declared.Matched.the-variants.{Prefix, Refused}
 
--- Row 8: work too short. Row 9: show's slice below m.
-abbrev pub workRow : ℕ → ℕ → ℕ → Verdict
-workRow m n work = refuseIf workTooShort noSide (ltb work (workSize m n))
-
-abbrev pub placesRow : ℕ → ℕ → Verdict
-placesRow m places = refuseIf wrongSlice noSide (ltb places m)
-
--- The length of the prefix, unless the inputs are refused.
-unfoldable pub matchUnless : Verdict → ℕ → Matched
-matchUnless (verdict.Refused x) L = Refused x
-matchUnless verdict.Accepted L = Prefix L
+-- Rule 9: show's slice below m.
+abbrev pub placesRule : ℕ → ℕ → Verdict
+placesRule m places = refuseIf wrongSlice noSide (ltb places m)
 
 -- The call length, with a work slice of so many entries: motif, molecule, then 8; else L.
 unfoldable pub lengthVerdict : List ℕ → List ℕ → List ℕ → List ℕ → ℕ → Verdict
-lengthVerdict p pm q qm work = first (pairVerdict p pm q qm ∷ workRow (length p) (length q) work ∷ [])
+lengthVerdict p pm q qm work = first (pairVerdict p pm q qm ∷ workRule (length p) (length q) work ∷ [])
 
 unfoldable pub lengthAnswer : List ℕ → List ℕ → List ℕ → List ℕ → ℕ → Matched
-lengthAnswer p pm q qm work = matchUnless (lengthVerdict p pm q qm work) (longest lettersMatch p pm q qm)
+lengthAnswer p pm q qm work = byVerdict (lengthVerdict p pm q qm work) Refused (Prefix (longest lettersMatch p pm q qm))
 
 -- 01, Length: an accepted call answers L exactly when the closed prefix of L bases embeds and no longer one does.
 abbrev pub LengthSays : List ℕ → List ℕ → List ℕ → List ℕ → ℕ → ℕ → Type 0
@@ -46,10 +39,10 @@ LengthSays p pm q qm work L =
 -- The call show, with a slice of so many places: motif, molecule, 9, then 8; else L.
 unfoldable pub showVerdict : List ℕ → List ℕ → List ℕ → List ℕ → ℕ → ℕ → Verdict
 showVerdict p pm q qm places work =
-    first (pairVerdict p pm q qm ∷ placesRow (length p) places ∷ workRow (length p) (length q) work ∷ [])
+    first (pairVerdict p pm q qm ∷ placesRule (length p) places ∷ workRule (length p) (length q) work ∷ [])
 
 unfoldable pub showAnswer : List ℕ → List ℕ → List ℕ → List ℕ → ℕ → ℕ → Matched
-showAnswer p pm q qm places work = matchUnless (showVerdict p pm q qm places work) (longest lettersMatch p pm q qm)
+showAnswer p pm q qm places work = byVerdict (showVerdict p pm q qm places work) Refused (Prefix (longest lettersMatch p pm q qm))
 
 -- 01, Show: an accepted call answers L exactly when the closed prefix of L bases embeds and no longer one does.
 abbrev pub ShowSays : List ℕ → List ℕ → List ℕ → List ℕ → ℕ → ℕ → ℕ → Type 0
@@ -68,12 +61,7 @@ pub record Shown (p pm q qm : List ℕ) (L : ℕ) (old new : List ℕ) : Type 0 
 abbrev pub Searchable : List ℕ → List ℕ → List ℕ → List ℕ → Type 0
 Searchable p pm q qm = Setting p pm q qm 0 (length p)
 
--- After a refusal the work slice and the places are as before. After an accepted call the work slice keeps its length, and the places are
--- as `Shown` says.
-unfoldable pub WorkKept : Matched → List ℕ → List ℕ → Type 0
-WorkKept (Prefix L) before after = length after ≡ length before
-WorkKept (Refused x) before after = after ≡ before
-
+-- After a refusal the places are as before, after an accepted call they are as `Shown` says.
 unfoldable pub PlacesShown : Matched → List ℕ → List ℕ → List ℕ → List ℕ → List ℕ → List ℕ → Type 0
 PlacesShown (Prefix L) p pm q qm before after = Shown p pm q qm L before after
 PlacesShown (Refused x) p pm q qm before after = after ≡ before

@@ -1,11 +1,13 @@
 // The matcher: the longest closed prefix of a motif that embeds in a molecule, and an embedding of it.
 pub mod walk;
 
-use strand::Refusal;
-use strand::Verdict;
+use refusals::Refusal;
+use refusals::Verdict;
+use refusals::numbers;
 ghost use mathlib.Core.Path.{_≡_};
 ghost use lib.ListN.{length as len};
-ghost use Rattle.matcher.specs.Answers.{lengthVerdict, lengthAnswer, showVerdict, showAnswer, WorkKept, PlacesShown};
+ghost use Rattle.refusals.specs.Work.{WorkKept};
+ghost use Rattle.matcher.specs.Answers.{lengthVerdict, lengthAnswer, showVerdict, showAnswer, PlacesShown};
 
 // The answer of length and show: the length of the longest closed prefix that embeds.
 pub enum Matched {
@@ -14,7 +16,7 @@ pub enum Matched {
 }
 
 // The refusals of length: motif, molecule, then 8.
-fn judge_length(p: &[u8], pm: &[u16], q: &[u8], qm: &[u16], work: usize) -> Verdict
+pub fn judge_length(p: &[u8], pm: &[u16], q: &[u8], qm: &[u16], work: usize) -> Verdict
     ensures { λ r. ⌜ r ≡ lengthVerdict (now (p .entry)) (now (pm .entry)) (now (q .entry)) (now (qm .entry)) work ⌝ }
 {
     let pair = strand::check_pair(p, pm, q, qm);
@@ -22,7 +24,7 @@ fn judge_length(p: &[u8], pm: &[u16], q: &[u8], qm: &[u16], work: usize) -> Verd
         return Verdict::Refused(x);
     }
     if work < 64 * (p.len() + 1) + 8 * q.len() {
-        return strand::refuse(8, 2, 0);
+        return refusals::refuse(numbers::WORK_TOO_SHORT, numbers::NEITHER, 0);
     }
     Verdict::Accepted
 }
@@ -36,10 +38,10 @@ fn judge_show(p: &[u8], pm: &[u16], q: &[u8], qm: &[u16], places: usize, work: u
         return Verdict::Refused(x);
     }
     if places < p.len() {
-        return strand::refuse(9, 2, 0);
+        return refusals::refuse(numbers::WRONG_SLICE, numbers::NEITHER, 0);
     }
     if work < 64 * (p.len() + 1) + 8 * q.len() {
-        return strand::refuse(8, 2, 0);
+        return refusals::refuse(numbers::WORK_TOO_SHORT, numbers::NEITHER, 0);
     }
     Verdict::Accepted
 }
@@ -47,7 +49,7 @@ fn judge_show(p: &[u8], pm: &[u16], q: &[u8], qm: &[u16], places: usize, work: u
 // The call length: the length of the longest closed prefix of the motif that embeds in the molecule.
 pub fn length(p: &[u8], pm: &[u16], q: &[u8], qm: &[u16], work: &mut [u16]) -> Matched
     ensures { λ r. ⌜ (r ≡ lengthAnswer (now (p .entry)) (now (pm .entry)) (now (q .entry)) (now (qm .entry)) (len (now (work .entry))))
-        × WorkKept r (now (work .entry)) (now (work .exit)) ⌝ }
+        × WorkKept (lengthVerdict (now (p .entry)) (now (pm .entry)) (now (q .entry)) (now (qm .entry)) (len (now (work .entry)))) (now (work .entry)) (now (work .exit)) ⌝ }
 {
     let verdict = judge_length(p, pm, q, qm, work.len());
     if let Verdict::Refused(x) = verdict {
@@ -67,7 +69,7 @@ pub fn show(
 ) -> Matched
     ensures { λ r. ⌜ (r ≡ showAnswer (now (p .entry)) (now (pm .entry)) (now (q .entry)) (now (qm .entry)) (len (now (places .entry))) (len (now (work .entry))))
         × PlacesShown r (now (p .entry)) (now (pm .entry)) (now (q .entry)) (now (qm .entry)) (now (places .entry)) (now (places .exit))
-        × WorkKept r (now (work .entry)) (now (work .exit)) ⌝ }
+        × WorkKept (showVerdict (now (p .entry)) (now (pm .entry)) (now (q .entry)) (now (qm .entry)) (len (now (places .entry))) (len (now (work .entry)))) (now (work .entry)) (now (work .exit)) ⌝ }
 {
     let verdict = judge_show(p, pm, q, qm, places.len(), work.len());
     if let Verdict::Refused(x) = verdict {

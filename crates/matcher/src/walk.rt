@@ -4,66 +4,67 @@ use rows::tables;
 ghost use mathlib.Core.Path.{_≡_};
 ghost use Prim.Native.Nat.{_+_, _*_, _≤_, _<_};
 ghost use lib.ListN.{length};
-ghost use Rattle.strand.specs.Vocabulary.{nth};
+ghost use Rattle.lists.specs.Vocabulary.{nth};
 ghost use Rattle.strand.specs.Strands.{lettersMatch};
 ghost use Rattle.embedding.specs.Row.{Best};
 ghost use Rattle.embedding.specs.Embedding.{lettersFit};
 ghost use Rattle.embedding.specs.Longest.{longest};
-ghost use Rattle.rows.specs.Rows.{Tables, workSize};
+ghost use Rattle.rows.specs.Rows.{Tables};
+ghost use Rattle.refusals.specs.Work.{workSize};
 ghost use Rattle.arcs.specs.Arcs.{Setting};
 ghost use Rattle.matcher.specs.Answers.{Searchable};
 
-// How far the arc l, r takes the motif from cur on. An arc takes no more positions than it has bases: its row is made for that window alone.
+// How far the arc l, r takes the motif from `from` on. An arc takes no more positions than it has bases: its row is made for that window alone.
 fn arc_end(
     p: &[u8],
     pm: &[u16],
+    tables: &[u16],
     q: &[u8],
     qm: &[u16],
-    cur: usize,
+    from: usize,
     l: usize,
     r: usize,
     work: &mut [u16],
-    tables: &[u16],
 ) -> usize
-    requires { ⌜ Setting (now p) (now pm) (now q) (now qm) cur (length (now p)) ⌝ }
-    requires { ⌜ cur < length (now p) ⌝ }
+    requires { ⌜ Setting (now p) (now pm) (now q) (now qm) from (length (now p)) ⌝ }
+    requires { ⌜ from < length (now p) ⌝ }
     requires { ⌜ (l < r) × ((r < length (now q)) × (nth (now qm) l ≡ r)) ⌝ }
     requires { ⌜ workSize (length (now p)) (length (now q)) ≤ length (now work) ⌝ }
     requires { ⌜ Tables (now p) (now pm) (now tables) ⌝ }
-    ensures { λ k. ⌜ Best (lettersFit (now (p .entry)) (now (q .entry))) (nth (now (pm .entry))) (nth (now (qm .entry))) (length (now (p .entry))) cur k l (r + 1) ⌝ }
+    ensures { λ k. ⌜ Best (lettersFit (now (p .entry)) (now (q .entry))) (nth (now (pm .entry))) (nth (now (qm .entry))) (length (now (p .entry))) from k l (r + 1) ⌝ }
 {
-    let to = arcs::smaller(p.len(), cur + (r + 1 - l));
-    arcs::inner_row(p, pm, cur, to, q, qm, l, r, q.len(), work, tables);
-    row::arc_entry(p, pm, to, cur, q[l], q[r], work[cur], work[cur + 1]) as usize
+    let to = arcs::smaller(p.len(), from + (r + 1 - l));
+    arcs::inner_row(p, pm, tables, q, qm, from, to, l, r, q.len(), work);
+    row::arc_entry(p, pm, from, to, q[l], q[r], work[from], work[from + 1]) as usize
 }
 
 // How far the whole motif is taken by the whole molecule.
-fn whole_end(p: &[u8], pm: &[u16], q: &[u8], qm: &[u16], work: &mut [u16], tables: &[u16]) -> usize
+fn whole_end(p: &[u8], pm: &[u16], tables: &[u16], q: &[u8], qm: &[u16], work: &mut [u16]) -> usize
     requires { ⌜ Setting (now p) (now pm) (now q) (now qm) 0 (length (now p)) ⌝ }
     requires { ⌜ workSize (length (now p)) (length (now q)) ≤ length (now work) ⌝ }
     requires { ⌜ Tables (now p) (now pm) (now tables) ⌝ }
     ensures { λ k. ⌜ k ≡ longest lettersMatch (now (p .entry)) (now (pm .entry)) (now (q .entry)) (now (qm .entry)) ⌝ }
 {
     let m = p.len();
-    let mut cur = 0;
-    let mut i = 0;
-    while i < q.len() {
-        if m <= cur {
-            return cur;
+    let mut from = 0;
+    let mut l = 0;
+    while l < q.len() {
+        if m <= from {
+            return from;
         }
-        let r = arcs::mate(qm, i);
-        if i < r {
-            cur = arc_end(p, pm, q, qm, cur, i, r, work, tables);
+        let r = arcs::mate(qm, l);
+        if l < r {
+            from = arc_end(p, pm, tables, q, qm, from, l, r, work);
         } else {
-            cur = row::unit(p, pm, m, cur, q[i]);
+            from = row::unit(p, pm, from, m, q[l]);
         }
-        i = r + 1;
+        l = r + 1;
     }
-    cur
+    from
 }
 
-// As `prefix_length`, with room lent for the tables of the motif.
-fn prepared_end(
+// As `prefix_length`, with borrowed room for the tables of the motif.
+fn prefix_length_lent(
     p: &[u8],
     pm: &[u16],
     q: &[u8],
@@ -76,12 +77,12 @@ fn prepared_end(
     requires { ⌜ 5 * (length (now p) + 1) ≤ length (now tables) ⌝ }
     ensures { λ k. ⌜ k ≡ longest lettersMatch (now (p .entry)) (now (pm .entry)) (now (q .entry)) (now (qm .entry)) ⌝ }
 {
-    tables::fill(tables, p, pm);
-    whole_end(p, pm, q, qm, work, tables)
+    tables::fill(p, pm, tables);
+    whole_end(p, pm, tables, q, qm, work)
 }
 
 // As `prefix_length`, for a motif of a query: its tables take little room.
-fn short_end(p: &[u8], pm: &[u16], q: &[u8], qm: &[u16], work: &mut [u16]) -> usize
+fn prefix_length_short(p: &[u8], pm: &[u16], q: &[u8], qm: &[u16], work: &mut [u16]) -> usize
     requires { ⌜ Searchable (now p) (now pm) (now q) (now qm) ⌝ }
     requires { ⌜ workSize (length (now p)) (length (now q)) ≤ length (now work) ⌝ }
     requires { ⌜ length (now p) ≤ 120 ⌝ }
@@ -89,7 +90,7 @@ fn short_end(p: &[u8], pm: &[u16], q: &[u8], qm: &[u16], work: &mut [u16]) -> us
 {
     // five rows of 121 entries
     let mut tables = [0u16; 605];
-    prepared_end(p, pm, q, qm, work, &mut tables)
+    prefix_length_lent(p, pm, q, qm, work, &mut tables)
 }
 
 // The length of the longest closed prefix of the motif that embeds in the molecule. What it asks of its inputs holds where both strands are accepted:
@@ -100,9 +101,9 @@ pub fn prefix_length(p: &[u8], pm: &[u16], q: &[u8], qm: &[u16], work: &mut [u16
     ensures { λ k. ⌜ k ≡ longest lettersMatch (now (p .entry)) (now (pm .entry)) (now (q .entry)) (now (qm .entry)) ⌝ }
 {
     if p.len() <= 120 {
-        return short_end(p, pm, q, qm, work);
+        return prefix_length_short(p, pm, q, qm, work);
     }
     // five rows of 4,097 entries
     let mut tables = [0u16; 20485];
-    prepared_end(p, pm, q, qm, work, &mut tables)
+    prefix_length_lent(p, pm, q, qm, work, &mut tables)
 }

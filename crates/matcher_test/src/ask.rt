@@ -1,12 +1,14 @@
-// One call: length or show on the strands and with the slices of a line, its answer against the wanted one, and every lent slice.
+// One call: length or show on the strands and with the slices of a line, its answer against the wanted one, and every slice that it gets.
 use super::brute;
 use super::strands;
 use embedding::Verified;
 use matcher::Matched;
+use testing::answer::WRONG;
+use testing::answer::is_refused;
+use testing::answer::refused;
 use testing::input::digit_at;
 use testing::input::kind;
 use testing::input::number;
-use testing::refusal::code;
 
 // The number that a call answered, how many bases its motif has, and whether all is as it should be.
 pub struct Asked {
@@ -19,11 +21,11 @@ pub struct Asked {
 fn code_of(a: Matched) -> usize {
     match a {
         Matched::Prefix(n) => n,
-        Matched::Refused(r) => code(r.number as usize, r.side as usize, r.place),
+        Matched::Refused(r) => refused(r.number as usize, r.side as usize, r.place),
     }
 }
 
-// All slices are lent filled with 51966, which is no position.
+// All slices are filled with 51966, which is no position.
 fn untouched(s: &[u16], from: usize) -> bool {
     let mut i = from;
     while i < s.len() {
@@ -56,9 +58,9 @@ fn verified(p: &[u8], pm: &[u16], q: &[u8], qm: &[u16], places: &[u16], k: usize
     }
 }
 
-// After a refusal no entry is changed; else none behind the lent part of the work slice or behind the places of the prefix.
+// After a refusal no entry is changed; else none behind its part of the work slice or behind the places of the prefix.
 fn kept(line: &[u8], call: usize, got: usize, places: &[u16], work: &[u16]) -> bool {
-    if 4096 < got {
+    if is_refused(got) {
         if untouched(places, 0) {
             return untouched(work, 0);
         }
@@ -83,7 +85,7 @@ fn wanted(line: &[u8], p: &[u8], pm: &[u16], q: &[u8], qm: &[u16]) -> usize {
     if kind(line) == b'r' {
         return searched(p, pm, q, qm);
     }
-    code(digit_at(line, 66), digit_at(line, 68), number(line, 70, 6))
+    refused(number(line, 65, 2), digit_at(line, 68), number(line, 70, 6))
 }
 
 fn right(
@@ -106,13 +108,13 @@ fn right(
     if call == 0 {
         return true;
     }
-    if 4096 < got {
+    if is_refused(got) {
         return true;
     }
     verified(p, pm, q, qm, places, got)
 }
 
-// Calls length (0) or show (1), which are lent as many places and entries of work as the line says.
+// Calls length (0) or show (1), which get as many places and entries of work as the line says.
 fn answer(
     line: &[u8],
     call: usize,
@@ -126,10 +128,10 @@ fn answer(
     let e = number(line, 52, 6);
     let f = number(line, 59, 6);
     if places.len() < e {
-        return 999999999;
+        return WRONG;
     }
     if work.len() < f {
-        return 999999999;
+        return WRONG;
     }
     if call == 0 {
         return code_of(matcher::length(p, pm, q, qm, &mut work[0..f]));

@@ -1,13 +1,13 @@
-// Tests of the crate matcher: the calls length and show on the cases of the input, which tools/matcher_cases.py writes.
+// Tests of the crate matcher: the calls length and show on the cases of the input, which tools/matcher_cases.py makes.
 // A line of 112 bytes has
 // - in column 0 the calls: `l` length, `s` show, `b` and `r` both, `=` none;
 // - from columns 2 and 27 the motif and the molecule (see `strands`);
-// - from columns 52 and 59 how many places and how many entries of work are lent;
-// - the wanted answer: in column 66 the row of a refusal or 0, in 68 its side, from 70 its place or the length;
+// - from columns 52 and 59 how many places and how many entries of work the call gets;
+// - the wanted answer: in columns 65 and 66 the row of a refusal or 0, in 68 its side, from 70 its place or the length;
 // - from column 77 what the case is about.
 // A line `r` stands for so many random pairs, of rising seeds, as it has from column 70; what is wanted of them says `brute`.
 // A line `=` ends a group: its name is written with the group's counts, and counting begins anew.
-// An answer is right when it is the wanted one, a refused call changed nothing, and an accepted one changed only the lent work and the places
+// An answer is right when it is the wanted one, a refused call changed nothing, and an accepted one changed only its part of the work and the places
 // of the prefix, which verify accepts.
 mod ask;
 mod brute;

@@ -1,5 +1,6 @@
 // Counts of calls, and their report.
 use super::ask::Asked;
+use testing::answer::is_refused;
 use testing::output::number;
 use testing::output::say;
 
@@ -26,7 +27,7 @@ pub fn none() -> Tally {
 fn counted(t: Tally, a: Asked) -> Tally {
     Tally {
         calls: t.calls % 1000000 + 1,
-        refused: t.refused % 1000000 + (4096 < a.got) as usize % 2,
+        refused: t.refused % 1000000 + is_refused(a.got) as usize % 2,
         whole: t.whole % 1000000 + (a.got == a.motif) as usize % 2,
         empty: t.empty % 1000000 + (a.got == 0) as usize % 2,
         wrong: t.wrong % 1000000 + (!a.right) as usize % 2,

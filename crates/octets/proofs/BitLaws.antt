@@ -1,5 +1,4 @@
 -- What the masks do to a byte, and what a set and a cleared bit say of the others: tests over all bytes and places that antt computes.
--- Assumes nothing.
 use mathlib.Core.Path.{_≡_, refl, sym, ap, _∙_}
 use mathlib.Core.Bool.{Bool, true, false, not, _&&_, _||_}
 use mathlib.Core.List.{List}
@@ -12,9 +11,9 @@ use lib.Bits.{bitAnd, bitOr, and-mask, and-shr, and-mod, and-le-l}
 use lib.ListN.{length, set, List·getD-eq-default}
 use lib.Seq.{getD-set-same, getD-set-other, set-out}
 use borrow.Author.Tests.{eq-eqb, ne-eqb, eqb-true}
-use Rattle.strand.specs.Vocabulary.{nth, choose, every}
+use Rattle.lists.specs.Vocabulary.{nth, choose, every}
 use Rattle.octets.specs.Bits.{bitOf, withBit, withoutBit, mapBit, setMap, clearMap, bitsWithin}
-use Rattle.strand.proofs.ListLaws.{every-at, every-true, both-ways}
+use Rattle.lists.proofs.ListLaws.{every-at, every-true, both-ways}
 use Rattle.octets.proofs.Table.{same, same→eq, below, below-at, below₂-at, below₃-at}
 
 -- ---- shifts and masks, as the machine computes them at 8 bits
@@ -194,4 +193,5 @@ within-mask h b hh hb = both-ways (eqb (bitAnd h (255 - b)) 0) (every 8 (λ k. n
     from : every 8 (λ k. not (bitOf h k) || bitOf b k) ≡ true → eqb x 0 ≡ true
     from e =
         eq-eqb x 0 (no-bits x (omega (arith, and-le-l h (255 - b)))
-        (every-true (λ k. not (bitOf x k)) 8 (λ k l. ap not (masked k l) ∙ flop (bitOf h k) (bitOf b k) (every-at (λ k. not (bitOf h k) || bitOf b k) 8 k e l))))
+        (every-true (λ k. not (bitOf x k)) 8 (λ k l. ap not (masked k l)
+        ∙ flop (bitOf h k) (bitOf b k) (every-at (λ k. not (bitOf h k) || bitOf b k) 8 k e l))))

@@ -1,11 +1,11 @@
--- Lists of bytes stay lists of bytes: one more list, zeros, the bytes of numbers, an entry stored, and parts. Assumes nothing.
+-- Lists of bytes stay lists of bytes: one more list, zeros, the bytes of numbers, an entry stored, and parts.
 use mathlib.Core.List.{List, [], _∷_, _++_}
 use Prim.Native.Nat.{ℕ, zero, suc, _+_, _-_, _<_}
 use native.Mathlib.Omega.{arith}
 use lib.ListN.{replicate, set, take, drop}
 use lib.Seq.{getD-drop}
 use lib.Dec.{lit<}
-use Rattle.strand.specs.Vocabulary.{between}
+use Rattle.lists.specs.Vocabulary.{between}
 use Rattle.octets.specs.Numbers.{Bytes, bytesOf}
 
 pub small-append : (a b : List ℕ) → Bytes a → Bytes b → Bytes (a ++ b)

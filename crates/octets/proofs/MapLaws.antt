@@ -1,5 +1,4 @@
 -- The bytes of a set of numbers and the set of the bits of bytes are each other's inverse.
--- Assumes nothing.
 use mathlib.Core.Path.{_≡_, refl, sym, ap, ap₂, _∙_}
 use mathlib.Core.Bool.{Bool, true, false, not}
 use mathlib.Core.List.{List, [], _∷_, _++_}
@@ -16,10 +15,10 @@ use Rattle.octets.specs.Numbers.{Bytes}
 use Rattle.octets.specs.Bits.{bitOf, mapBit, setMap, clearMap, withoutBit}
 use Rattle.octets.proofs.ByteLaws.{small-set}
 use Rattle.octets.proofs.BitLaws.{set-same, set-other, clear-same, clear-other, apart-in-map, with-small, without-small}
-use Rattle.strand.specs.Vocabulary.{nth, choose, tab}
+use Rattle.lists.specs.Vocabulary.{nth, choose, tab}
 use Rattle.octets.specs.Maps.{bitSum, mapBytes, without}
 use Rattle.octets.proofs.Table.{same, same→eq, both, both-left, both-right, below, below-at}
-use Rattle.strand.proofs.ListLaws.{length-tab, nth-tab, tab-ext}
+use Rattle.lists.proofs.ListLaws.{length-tab, nth-tab, tab-ext}
 
 -- ---- a test at both truth values, and at all values of eight of them
 

@@ -1,6 +1,6 @@
 -- Loops over slices, a turn at a time: copies, zeros, two-byte numbers, and two lists compared.
--- Assumes nothing.
 use mathlib.Core.Path.{_≡_, refl, sym, ap, _∙_}
+use mathlib.Core.Bool.{true, false}
 use mathlib.Core.List.{List, [], _∷_, _++_, append-nil}
 use Prim.Native.Nat.{ℕ, suc, _+_, _*_, _/_, _%_, _<_, _≤_}
 use native.Mathlib.Omega.{arith}
@@ -8,8 +8,9 @@ use native.Mathlib.Numerals.{add-one}
 use native.Mathlib.Decide.{ℕ-discrete}
 use lib.ListN.{length, set, take, drop, replicate, length-append, length-drop, drop-of-length-le}
 use lib.Seq.{drop-cons, set-at, append-snoc, take-suc, take-all, take-at, drop-at, length-take-le, sets-eq, drop-drop}
-use Rattle.strand.specs.Vocabulary.{nth}
-use Rattle.octets.specs.Numbers.{bytesOf}
+use Rattle.lists.specs.Vocabulary.{nth, sameList}
+use Rattle.octets.specs.Numbers.{word16, words, bytesOf}
+use Rattle.lists.proofs.ListLaws.{length-tab, nth-tab, same-place, same-all}
 
 -- ---- a copy, one entry a turn
 
@@ -92,3 +93,21 @@ words-end i m d e = rw e (ap (λ (l : List ℕ). bytesOf l ++ drop (2 * length m
 
 pub same-next : (a b : List ℕ) (i : ℕ) → ((k : ℕ) → k < i → nth a k ≡ nth b k) → nth a i ≡ nth b i → (k : ℕ) → k < i + 1 → nth a k ≡ nth b k
 same-next a b i h e k l = elim (ℕ-discrete k i) [ yes q ↦ rw q e | no q ↦ h k (omega arith) ]
+
+-- The two-byte numbers at the start of s compared with m, one a turn.
+module _ (s m : List ℕ) (i : ℕ) (h : i < length m) where
+  pub word-there : nth (words (length m) s) i ≡ word16 s (2 * i)
+  word-there = nth-tab (λ k. word16 s (2 * k)) (length m) i h
+
+  pub other-word : (x : ℕ) → x ≡ word16 s (2 * i) → (x ≡ nth m i → ⊥) → false ≡ sameList (words (length m) s) m
+  other-word x e n =
+      sym (same-place (words (length m) s) m i (omega (arith, length-tab (λ k. word16 s (2 * k)) (length m))) h (λ q. n (e ∙ sym word-there ∙ q)))
+
+  pub same-word : (x : ℕ) → x ≡ word16 s (2 * i) → x ≡ nth m i → ((k : ℕ) → k < i → nth (words (length m) s) k ≡ nth m k)
+      → (k : ℕ) → k < i + 1 → nth (words (length m) s) k ≡ nth m k
+  same-word x e q before = same-next (words (length m) s) m i before (word-there ∙ sym e ∙ q)
+
+pub all-words : (s m : List ℕ) → ((k : ℕ) → k < length m → nth (words (length m) s) k ≡ nth m k) → true ≡ sameList (words (length m) s) m
+all-words s m f =
+    let l : length (words (length m) s) ≡ length m = length-tab (λ k. word16 s (2 * k)) (length m) in
+    sym (same-all (words (length m) s) m l (λ k h. f k (omega arith)))

@@ -1,5 +1,4 @@
 -- A test at every number below n, which antt computes at a numeral n, and the test at one of them; and equal Booleans as a test.
--- Assumes nothing.
 use mathlib.Core.Path.{_≡_, refl, sym, subst}
 use mathlib.Core.Logic.{⊎-elim}
 use mathlib.Core.Bool.{Bool, true, false, not}

@@ -1,10 +1,10 @@
--- Bits of a byte and of a map: number d is bit d mod 8, lowest first, of the map's byte d div 8. Assumes nothing.
+-- Bits of a byte and of a map: number d is bit d mod 8, lowest first, of the map's byte d div 8.
 use Prim.Native.Nat.{ℕ, _+_, _-_, _/_, _%_, _^_}
 use mathlib.Core.List.{List}
 use mathlib.Core.Bool.{Bool, not, _||_}
 use lib.ListN.{set}
 use lib.Dec.{eqb}
-use Rattle.strand.specs.Vocabulary.{nth, choose, every}
+use Rattle.lists.specs.Vocabulary.{nth, choose, every}
 
 -- Bit k of byte b, lowest first; b with it set; b without it.
 unfoldable pub bitOf : ℕ → ℕ → Bool

@@ -1,4 +1,3 @@
 pub mod Numbers
-pub mod Checksum
 pub mod Bits
 pub mod Maps

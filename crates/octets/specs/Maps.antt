@@ -1,9 +1,9 @@
--- Sets of numbers below 512, and the 64 bytes of one. Assumes nothing.
+-- Sets of numbers below 512, and the 64 bytes of one.
 use Prim.Native.Nat.{ℕ, zero, suc, _+_, _*_, _^_}
 use mathlib.Core.List.{List}
 use mathlib.Core.Bool.{Bool, not, _&&_}
 use lib.Dec.{eqb}
-use Rattle.strand.specs.Vocabulary.{choose, tab}
+use Rattle.lists.specs.Vocabulary.{choose, tab}
 
 -- A map has 64 bytes, for the numbers below 512.
 abbrev pub mapSize : ℕ

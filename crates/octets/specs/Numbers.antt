@@ -1,9 +1,9 @@
--- Bytes, those that are zero, and little-endian numbers of two and of four bytes. Assumes nothing.
+-- Bytes, those that are zero, and little-endian numbers of two and of four bytes.
 use Prim.Native.Nat.{ℕ, _+_, _*_, _/_, _%_, _<_}
 use mathlib.Core.List.{List, [], _∷_}
 use mathlib.Core.Bool.{Bool}
 use lib.Dec.{eqb}
-use Rattle.strand.specs.Vocabulary.{nth, tab}
+use Rattle.lists.specs.Vocabulary.{nth, tab}
 
 -- Every entry is a byte.
 abbrev pub Bytes : List ℕ → Type 0

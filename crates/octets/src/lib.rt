@@ -1,4 +1,3 @@
-// Bytes: little-endian numbers, the checksum of a block, bit maps, and passes over slices.
+// Bytes: little-endian numbers, bit maps, and passes over slices.
 pub mod bits;
-pub mod checksum;
 pub mod scan;

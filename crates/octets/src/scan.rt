@@ -1,10 +1,10 @@
 // Passes over slices: zeros, comparisons, copies, two-byte numbers.
 ghost use mathlib.Core.Path.{_≡_};
-ghost use Prim.Native.Nat.{_*_, _<_, _≤_};
+ghost use Prim.Native.Nat.{_+_, _*_, _<_, _≤_};
 ghost use mathlib.Core.List.{_++_};
 ghost use lib.ListN.{length, drop, replicate};
-ghost use Rattle.strand.specs.Vocabulary.{all, sameList};
-ghost use Rattle.octets.specs.Numbers.{isZero, words, bytesOf};
+ghost use Rattle.lists.specs.Vocabulary.{all, sameList};
+ghost use Rattle.octets.specs.Numbers.{isZero, word16, words, bytesOf};
 
 // Whether every byte is 0.
 pub fn all_zero(s: &[u8]) -> bool
@@ -20,24 +20,8 @@ pub fn all_zero(s: &[u8]) -> bool
     true
 }
 
-// Whether two slices have the same length and the same entries: of bytes, and of 16-bit numbers.
+// Whether two slices have the same length and the same bytes.
 pub fn same_bytes(a: &[u8], b: &[u8]) -> bool
-    ensures { λ r. ⌜ r ≡ sameList (now (a .entry)) (now (b .entry)) ⌝ }
-{
-    if a.len() != b.len() {
-        return false;
-    }
-    let mut i = 0;
-    while i < a.len() {
-        if a[i] != b[i] {
-            return false;
-        }
-        i += 1;
-    }
-    true
-}
-
-pub fn same_words(a: &[u16], b: &[u16]) -> bool
     ensures { λ r. ⌜ r ≡ sameList (now (a .entry)) (now (b .entry)) ⌝ }
 {
     if a.len() != b.len() {
@@ -64,8 +48,8 @@ pub fn zero(s: &mut [u8])
     }
 }
 
-// Copy a slice into one of the same length. The crates above, whose inner layer this is, meet what this and the next two ask by the lengths of
-// the parts that it lends.
+// Copy a slice into one of the same length. The crates above, whose inner layer this is, meet what this and the next ones ask by the lengths of
+// the parts that it hands on.
 pub fn copy(src: &[u8], dst: &mut [u8])
     requires { ⌜ length (now src) ≡ length (now dst) ⌝ }
     ensures { λ _. ⌜ now (dst .exit) ≡ now (src .entry) ⌝ }
@@ -84,6 +68,15 @@ fn wide16(x: u8) -> u16
     x as u16
 }
 
+// The i-th two-byte number of s.
+fn word_at(s: &[u8], i: usize) -> u16
+    requires { ⌜ 2 * i + 1 < length (now s) ⌝ }
+    ensures { λ r. ⌜ r ≡ word16 (now (s .entry)) (2 * i) ⌝ }
+{
+    let k = 2 * i;
+    wide16(s[k]) + 256 * wide16(s[k + 1])
+}
+
 // The two-byte numbers of s, as many as `out` has entries.
 pub fn read_words(s: &[u8], out: &mut [u16])
     requires { ⌜ 2 * length (now out) ≤ length (now s) ⌝ }
@@ -91,10 +84,24 @@ pub fn read_words(s: &[u8], out: &mut [u16])
 {
     let mut i = 0;
     while i < out.len() {
-        let k = 2 * i;
-        out[i] = wide16(s[k]) + 256 * wide16(s[k + 1]);
+        out[i] = word_at(s, i);
         i += 1;
     }
+}
+
+// Whether the two-byte numbers at the start of s are those of `src`.
+pub fn same_words(s: &[u8], src: &[u16]) -> bool
+    requires { ⌜ 2 * length (now src) ≤ length (now s) ⌝ }
+    ensures { λ r. ⌜ r ≡ sameList (words (length (now (src .entry))) (now (s .entry))) (now (src .entry)) ⌝ }
+{
+    let mut i = 0;
+    while i < src.len() {
+        if word_at(s, i) != src[i] {
+            return false;
+        }
+        i += 1;
+    }
+    true
 }
 
 // Write two-byte numbers at the start of s.

@@ -1,5 +1,4 @@
-pub mod Pass
+mod Pass
 pub mod Parts
-pub mod Entries
-pub mod Passes
-pub mod TableLaws
+mod Passes
+mod TableLaws

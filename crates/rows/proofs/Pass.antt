@@ -1,5 +1,4 @@
--- A pass over a slice in place, from a upwards: `Written` before it, after a store and after a turn that stores nothing.
--- Assumes nothing.
+-- A pass over a slice in place, from a upwards: `Written` before it, after a store and after a round that stores nothing.
 use mathlib.Core.Path.{_≡_, refl, subst, _∙_}
 use mathlib.Core.List.{List}
 use Prim.Native.Nat.{ℕ, _+_, _≤_, _<_}
@@ -17,7 +16,8 @@ pub pass-set : (f : ℕ → ℕ) (old new : List ℕ) (a e v : ℕ) → Written 
 pass-set f old new a e v w le lt q = record {
   long = length-set new e v ∙ w .long;
   under = λ k h. getD-set-other new e k v 0 (λ r. omega arith) ∙ w .under k h;
-  done = λ k h g. below-more (λ k. a ≤ k → getD (set new e v) k 0 ≡ f k) e (λ k h g. getD-set-other new e k v 0 (λ r. omega arith) ∙ w .done k g h) (λ g. getD-set-same new e v 0 (omega (arith, w .long)) ∙ q) k g h;
+  done = λ k h g. below-more (λ k. a ≤ k → getD (set new e v) k 0 ≡ f k) e (λ k h g. getD-set-other new e k v 0 (λ r. omega arith) ∙ w .done k g h)
+      (λ g. getD-set-same new e v 0 (omega (arith, w .long)) ∙ q) k g h;
   past = λ k h. getD-set-other new e k v 0 (λ r. omega arith) ∙ w .past k (omega arith);
 }
 

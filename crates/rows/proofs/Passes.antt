@@ -1,5 +1,5 @@
--- The passes that close an arc over a long window: what each writes beside the row, and that together they make the row of the arc. Assumes nothing.
-use mathlib.Core.Path.{_≡_, ap, ap₂, _∙_}
+-- The passes that close an arc over a long window: what each writes beside the row, and that together they make the row of the arc.
+use mathlib.Core.Path.{_≡_, sym, ap, ap₂, _∙_}
 use mathlib.Core.Bool.{Bool}
 use mathlib.Core.List.{List}
 use Prim.Native.Nat.{ℕ, _+_, _-_, _≤_, _<_, min, max}
@@ -8,12 +8,11 @@ use native.Mathlib.Omega.{arith}
 use native.Mathlib.Decide.{decLt}
 use lib.Dec.{leb}
 use lib.ListN.{length, set}
-use borrow.Author.Tests.{lt-ltb, le-ltb}
-use Rattle.strand.specs.Vocabulary.{nth, choose}
+use Rattle.lists.specs.Vocabulary.{nth, choose}
 use Rattle.embedding.specs.Row.{unitAt, overAt, arcAt, overBy}
 use Rattle.rows.specs.Rows.{Written, Remade}
 use Rattle.rows.proofs.Pass.{pass-set}
-use Rattle.rows.proofs.Entries.{by-over}
+use Rattle.embedding.proofs.Entries.{unit-end, unit-in, by-over}
 
 -- An entry beside the row, in the loop that has come to j.
 module _ (left right : ℕ → Bool) (pm : ℕ → ℕ) (z at : ℕ) (row₀ row : List ℕ) (from j r : ℕ) where
@@ -22,18 +21,17 @@ module _ (left right : ℕ → Bool) (pm : ℕ → ℕ) (z at : ℕ) (row₀ row
       → r ≡ overAt left right pm z (nth row₀ (at + j - at + 1)) (at + j - at)
   over-step W a b d t e =
       let i : at + j - at ≡ j = omega arith in
-      rw i (e ∙ ap (λ (x : Bool). overBy (left j) x (pm j) z (nth row (j + 1)) j) t ∙ rw (W .under (j + 1) (omega arith)) (by-over left right pm z (nth row₀ (j + 1)) j a))
+      rw i (e ∙ ap (λ (x : Bool). overBy (left j) x (pm j) z (nth row (j + 1)) j) t
+      ∙ rw (W .under (j + 1) (omega arith)) (by-over left right pm z (nth row₀ (j + 1)) j a))
 
 module _ (has : ℕ → Bool) (pm : ℕ → ℕ) (z at j r : ℕ) where
   pub unit-step : j < z → r ≡ choose (leb (pm j) j) (choose (has j) (j + 1) j) j → r ≡ unitAt has pm z (at + j - at)
-  unfolding unitAt choose
   unit-step a e =
       let i : at + j - at ≡ j = omega arith in
-      rw (i, lt-ltb j z a) (e ∙ ap (λ (x : ℕ). choose (leb (pm j) j) (choose (has j) x j) j) (add-one j))
+      rw i (e ∙ ap (λ (x : ℕ). choose (leb (pm j) j) (choose (has j) x j) j) (add-one j) ∙ sym (unit-in has pm z j a))
 
   pub unit-last : z ≤ j → r ≡ j → r ≡ unitAt has pm z (at + j - at)
-  unfolding unitAt choose
-  unit-last a e = let i : at + j - at ≡ j = omega arith in rw (i, le-ltb j z a) e
+  unit-last a e = let i : at + j - at ≡ j = omega arith in rw i (e ∙ sym (unit-end has pm z j a))
 
 -- One less where the value is past z by one.
 module _ (k z s : ℕ) (h : (z < k → s ≡ 1) × (k ≤ z → s ≡ 0)) where
@@ -43,7 +41,7 @@ module _ (k z s : ℕ) (h : (z < k → s ≡ 1) × (k ≤ z → s ≡ 0)) where
   pub past-less : k ≤ z + 1 → k - s ≡ min k z
   past-less b = elim (decLt z k) [ yes a ↦ omega (arith, h .0 a) | no a ↦ omega (arith, h .1 (omega arith)) ]
 
--- A turn of the loop that takes the entries on by the steps of a base.
+-- A round of the loop that takes the entries on by the steps of a base.
 module _ (steps row₀ row : List ℕ) (from to j : ℕ) (W : Written (λ i. nth steps (nth row₀ i)) row₀ row from j) (lo : from ≤ j) (hi : j ≤ to)
     (h : (i : ℕ) → from ≤ i → i ≤ to → nth row₀ i ≤ to) where
   pub step-index : nth row j ≤ to
@@ -56,7 +54,7 @@ pub raise-step : (f : ℕ → ℕ) (at z : ℕ) (row₀ row : List ℕ) (from j 
     → r ≡ max (min (nth row₀ j) z) (nth row₀ (at + j))
 raise-step f at z row₀ row from j s r W d e = e ∙ rw (d, W .past j (omega arith), W .past (at + j) (omega arith))
 
--- A turn of the loop that closes an arc in one pass.
+-- A round of the loop that closes an arc in one pass.
 module _ (left right : ℕ → Bool) (pm : ℕ → ℕ) (z : ℕ) (steps row₀ row : List ℕ) (from j : ℕ)
     (W : Written (λ i. max (min (nth steps (nth row₀ i)) z) (overAt left right pm z (nth row₀ (i + 1)) i)) row₀ row from j) where
   pub short-index : from ≤ j → j ≤ z → ((i : ℕ) → from ≤ i → i ≤ z → nth row₀ i ≤ z) → nth row j ≤ z
@@ -67,7 +65,8 @@ module _ (left right : ℕ → Bool) (pm : ℕ → ℕ) (z : ℕ) (steps row₀ 
       → r ≡ max (min (nth steps (nth row₀ j)) z) (overAt left right pm z (nth row₀ (j + 1)) j)
   short-step s o r d a e t f g =
       g ∙ ap₂ max (e ∙ ap (λ (k : ℕ). min (nth steps k) z) (W .past j (omega arith)))
-      (f ∙ ap (λ (x : Bool). overBy (left j) x (pm j) z (nth row (j + 1)) j) t ∙ rw (W .past (j + 1) (omega arith)) (by-over left right pm z (nth row₀ (j + 1)) j a))
+      (f ∙ ap (λ (x : Bool). overBy (left j) x (pm j) z (nth row (j + 1)) j) t
+      ∙ rw (W .past (j + 1) (omega arith)) (by-over left right pm z (nth row₀ (j + 1)) j a))
 
 pub cut-step : (f : ℕ → ℕ) (at z : ℕ) (row₀ row : List ℕ) (from j r : ℕ) → Written f row₀ row (at + from) (at + j) → j < at → r ≡ min (nth row j) z
     → r ≡ min (nth row₀ (at + j - at)) z
@@ -112,3 +111,10 @@ module _ (left right : ℕ → Bool) (pm : ℕ → ℕ) (from to : ℕ) (steps :
         let i : w + j - w ≡ j = omega arith in
         M .past (w + j) (omega arith) ∙ O .done (w + j) (omega arith) (omega arith)
         ∙ ap (λ (x : ℕ). overAt left right pm to (nth row (x + 1)) x) i
+
+-- The larger of what was found without and with the left end.
+pub with-none : (r u o : ℕ) → r ≡ u → o ≡ 0 → r ≡ max u o
+with-none r u o e f = omega arith
+
+pub with-some : (r b n u o : ℕ) → r ≡ max b n → b ≡ u → o ≡ n → r ≡ max u o
+with-some r b n u o e f g = rw (e, f, g)

@@ -1,22 +1,24 @@
 -- The tables of a motif: where the row of a base starts, that the passes which fill the tables make them, and what a base's row says in a window that
--- ends before the motif does. Assumes nothing.
+-- ends before the motif does.
 use mathlib.Core.Path.{_≡_, refl, sym, ap, subst, _∙_}
 use mathlib.Core.Bool.{Bool, true, false, _||_}
 use mathlib.Core.List.{List}
-use Prim.Native.Nat.{ℕ, suc, _+_, _-_, _*_, _/_, _%_, _≤_, _<_, min}
+use Prim.Native.Nat.{ℕ, _+_, _-_, _*_, _/_, _%_, _≤_, _<_, min}
 use native.Mathlib.Decide.{decLt}
 use native.Mathlib.Nat.{mul-le-mul-left}
 use native.Mathlib.Omega.{arith}
-use lib.Dec.{ltb, leb, eqb}
+use lib.Dec.{eqb}
 use lib.ListN.{length}
-use borrow.Author.Tests.{lt-ltb, eq-eqb, ne-eqb, eqb-true}
-use Rattle.strand.specs.Vocabulary.{nth, choose}
-use Rattle.strand.specs.Strands.{isLetter, moleculeSide}
+use borrow.Author.Tests.{eq-eqb, ne-eqb, eqb-true}
+use Rattle.lists.specs.Vocabulary.{nth, choose}
+use Rattle.lists.proofs.ListLaws.{choose-yes, choose-no}
+use Rattle.strand.specs.Strands.{isLetter}
+use Rattle.refusals.specs.Rules.{moleculeSide}
 use Rattle.embedding.specs.Row.{unitAt}
 use Rattle.rows.specs.Rows.{Written, Tables, Steps, stepsAt, matches}
 use Rattle.rows.proofs.Pass.{pass-end}
 use Rattle.rows.proofs.Parts.{part, part-at, part-length}
-use Rattle.rows.proofs.Entries.{unit-end, unit-small}
+use Rattle.embedding.proofs.Entries.{unit-end, unit-small, unit-from, unit-next, unit-window}
 
 -- The four letters.
 by-letter : (P : ℕ → Type 0) (side b : ℕ) → isLetter side b ≡ true → P 65 → P 67 → P 71 → P 85 → P b
@@ -53,30 +55,6 @@ module _ (m : ℕ) where
   unfolding stepsAt
   steps-G = omega arith
 
--- The base's entries lie between k and k + 1, and those before the window's end are the same for a longer window.
-module _ (has : ℕ → Bool) (pm : ℕ → ℕ) (z k : ℕ) where
-  unit-from : k ≤ unitAt has pm z k
-  unfolding unitAt choose
-  unit-from = go (ltb k z) (leb (pm k) k) (has k) where
-    go : (a b t : Bool) → k ≤ choose a (choose b (choose t (suc k) k) k) k
-    go false b t = omega arith
-    go true false t = omega arith
-    go true true false = omega arith
-    go true true true = omega arith
-
-  unit-next : unitAt has pm z k ≤ k + 1
-  unfolding unitAt choose
-  unit-next = go (ltb k z) (leb (pm k) k) (has k) where
-    go : (a b t : Bool) → choose a (choose b (choose t (suc k) k) k) k ≤ k + 1
-    go false b t = omega arith
-    go true false t = omega arith
-    go true true false = omega arith
-    go true true true = omega arith
-
-  unit-window : (to : ℕ) → k < to → to ≤ z → unitAt has pm z k ≡ unitAt has pm to k
-  unfolding unitAt
-  unit-window to a b = rw (lt-ltb k z (omega arith), lt-ltb k to a)
-
 -- The row of the base b, as the part of the tables from its start on, in a window that ends at `to`.
 module _ (p pm tables : List ℕ) (b at to : ℕ) (T : Tables p pm tables) (L : isLetter moleculeSide b ≡ true) (e : at ≡ stepsAt (length p) b)
     (le : to ≤ length p) where
@@ -104,10 +82,9 @@ module _ (p pm tables : List ℕ) (b at to : ℕ) (T : Tables p pm tables) (L : 
 
 -- A row with a base in front: its entry, read where the base's row leads.
 step-read : (g : ℕ → ℕ) (s j : ℕ) → j ≤ s → s ≤ j + 1 → choose (eqb s j) (g j) (g (j + 1)) ≡ g s
-unfolding choose
 step-read g s j lo hi = elim (decLt j s) [
-  | yes l ↦ let i : j + 1 ≡ s = omega arith in rw (ne-eqb s j (λ q. omega arith)) (ap g i)
-  | no l ↦ let i : s ≡ j = omega arith in rw (eq-eqb s j i) (ap g (sym i))
+  | yes l ↦ let i : j + 1 ≡ s = omega arith in choose-no _ _ _ (ne-eqb s j (λ q. omega arith)) ∙ ap g i
+  | no l ↦ let i : s ≡ j = omega arith in choose-yes _ _ _ (eq-eqb s j i) ∙ ap g (sym i)
 ]
 
 pub extend-step : (steps row₀ row : List ℕ) (from to j r : ℕ) → Steps steps to → Written (λ k. nth row₀ (nth steps k)) row₀ row from j → j < to
@@ -125,7 +102,8 @@ steps-end f old new at j m W a b =
 abbrev pub StepsPut : List ℕ → List ℕ → ℕ → ℕ → List ℕ → List ℕ → Type 0
 StepsPut p pm b at old new = Written (λ k. unitAt (matches p b) (nth pm) (length p) (k - at)) old new at (at + length p + 1)
 
-pub put-at : (p pm : List ℕ) (b at : ℕ) (old new : List ℕ) → at ≡ stepsAt (length p) b → StepsPut p pm b at old new → StepsPut p pm b (stepsAt (length p) b) old new
+pub put-at : (p pm : List ℕ) (b at : ℕ) (old new : List ℕ) → at ≡ stepsAt (length p) b → StepsPut p pm b at old new
+    → StepsPut p pm b (stepsAt (length p) b) old new
 put-at p pm b at old new e W = subst (λ (x : ℕ). StepsPut p pm b x old new) e W
 
 put-entry : (p pm : List ℕ) (b at : ℕ) (old new : List ℕ) → StepsPut p pm b at old new → (k : ℕ) → k ≤ length p

@@ -1,17 +1,14 @@
--- The size of the work slice. All else is for the contracts of this crate and those above it that search: windows, what a pass over a row writes, and the
--- tables of a motif. Assumes nothing.
+-- Only the contracts and laws of this crate and of those above it that search need this file: windows, what a pass over a row writes, and the tables of a
+-- motif.
 use Prim.Native.Nat.{ℕ, _+_, _*_, _/_, _%_, _≤_, _<_}
 use mathlib.Core.Path.{_≡_}
 use mathlib.Core.Bool.{Bool, true}
 use mathlib.Core.List.{List}
 use lib.ListN.{length}
-use Rattle.strand.specs.Vocabulary.{nth}
-use Rattle.strand.specs.Strands.{isLetter, lettersMatch, moleculeSide}
+use Rattle.lists.specs.Vocabulary.{nth}
+use Rattle.strand.specs.Strands.{isLetter, lettersMatch}
+use Rattle.refusals.specs.Rules.{moleculeSide}
 use Rattle.embedding.specs.Row.{unitAt}
-
--- 01: a work slice of at least 64 × (m + 1) + 8 × n entries.
-abbrev pub workSize : ℕ → ℕ → ℕ
-workSize m n = 64 * (m + 1) + 8 * n
 
 -- A window P[from..to) of the motif. A row has an entry for each start from `from` to `to`, at that index of its stretch of the work slice.
 pub record Window (p pm : List ℕ) (from to : ℕ) : Type 0 where
@@ -48,8 +45,8 @@ pub record Tables (p pm tables : List ℕ) : Type 0 where
   pub step : (b : ℕ) → isLetter moleculeSide b ≡ true → (k : ℕ) → k ≤ length p
       → nth tables (stepsAt (length p) b + k) ≡ unitAt (matches p b) (nth pm) (length p) k
 
--- The row of an unbonded base, up to z: it takes no more than one position.
-pub record Steps (steps : List ℕ) (z : ℕ) : Type 0 where
-  pub long : z < length steps
-  pub low : (k : ℕ) → k ≤ z → k ≤ nth steps k
-  pub high : (k : ℕ) → k ≤ z → nth steps k ≤ k + 1
+-- The row of an unbonded base, up to `to`: it takes no more than one position.
+pub record Steps (steps : List ℕ) (to : ℕ) : Type 0 where
+  pub long : to < length steps
+  pub low : (k : ℕ) → k ≤ to → k ≤ nth steps k
+  pub high : (k : ℕ) → k ≤ to → nth steps k ≤ k + 1

@@ -1,32 +1,33 @@
-// The row operations. A row for the motif's window from..to has an entry for each start from `from` to `to`, at that index of the part of the work
-// slice that the operation is lent; a second row starts `at` entries further on. The bodies of the loops are functions of values, with early returns:
-// the compiler makes vector code of them.
+// The row operations. A row for the motif's window from..to has an entry for each start from `from` to `to`, at that index of the slice that the
+// operation borrows; a second row starts `at` entries further on. The bodies of the loops are functions of values, with early returns: the compiler
+// makes vector code of them.
 use crate::tables;
 ghost use mathlib.Core.Path.{_≡_};
 ghost use Prim.Native.Nat.{ℕ, _+_, _-_, _*_, _≤_, _<_, min, max};
 ghost use lib.ListN.{length};
 ghost use lib.Dec.{eqb};
-ghost use Rattle.strand.specs.Vocabulary.{nth, choose};
+ghost use Rattle.lists.specs.Vocabulary.{nth, choose};
 ghost use mathlib.Core.Bool.{true};
-ghost use Rattle.strand.specs.Strands.{isLetter, lettersMatch, moleculeSide};
+ghost use Rattle.strand.specs.Strands.{isLetter, lettersMatch};
+ghost use Rattle.refusals.specs.Rules.{moleculeSide};
 ghost use Rattle.embedding.specs.Row.{unitAt, overAt, arcAt, overBy};
 ghost use Rattle.rows.specs.Rows.{Window, Written, Remade, Tables, Steps, matches};
 
 // The larger and the smaller of two entries.
-pub fn larger(a: u16, b: u16) -> u16
+fn larger(a: u16, b: u16) -> u16
     ensures { λ r. ⌜ r ≡ max a b ⌝ }
 {
     if a < b { b } else { a }
 }
 
-pub fn smaller(a: u16, b: u16) -> u16
+fn smaller(a: u16, b: u16) -> u16
     ensures { λ r. ⌜ r ≡ min a b ⌝ }
 {
     if a < b { a } else { b }
 }
 
 // The row of an empty stretch.
-pub fn identity(row: &mut [u16], from: usize, to: usize)
+pub fn identity(from: usize, to: usize, row: &mut [u16])
     requires { ⌜ (from ≤ to) × ((to ≤ 4096) × (to < length (now row))) ⌝ }
     ensures { λ _. ⌜ Written (λ j. j) (now (row .entry)) (now (row .exit)) from (to + 1) ⌝ }
 {
@@ -48,7 +49,7 @@ fn extend_entry(step: u16, j: u16, here: u16, next: u16) -> u16
 }
 
 // The row with the unbonded base in front whose own row is `steps`.
-fn extend_by(row: &mut [u16], steps: &[u16], from: usize, to: usize)
+fn extend_by(steps: &[u16], from: usize, to: usize, row: &mut [u16])
     requires { ⌜ (from ≤ to) × ((to ≤ 4096) × (to < length (now row))) ⌝ }
     requires { ⌜ Steps (now steps) to ⌝ }
     ensures { λ _. ⌜ Written (λ j. nth (now (row .entry)) (nth (now (steps .entry)) j)) (now (row .entry)) (now (row .exit)) from to ⌝ }
@@ -61,7 +62,7 @@ fn extend_by(row: &mut [u16], steps: &[u16], from: usize, to: usize)
 }
 
 // The row with the unbonded base b put in front of its stretch.
-pub fn extend(row: &mut [u16], p: &[u8], pm: &[u16], tables: &[u16], from: usize, to: usize, b: u8)
+pub fn extend(p: &[u8], pm: &[u16], tables: &[u16], from: usize, to: usize, b: u8, row: &mut [u16])
     requires { ⌜ Window (now p) (now pm) from to ⌝ }
     requires { ⌜ Tables (now p) (now pm) (now tables) ⌝ }
     requires { ⌜ isLetter moleculeSide b ≡ true ⌝ }
@@ -69,11 +70,11 @@ pub fn extend(row: &mut [u16], p: &[u8], pm: &[u16], tables: &[u16], from: usize
     ensures { λ _. ⌜ Written (λ j. nth (now (row .entry)) (unitAt (matches (now (p .entry)) b) (nth (now (pm .entry))) to j)) (now (row .entry)) (now (row .exit)) from to ⌝ }
 {
     let at = tables::steps_at(p.len(), b);
-    extend_by(row, &tables[at..], from, to);
+    extend_by(&tables[at..], from, to, row);
 }
 
 // Copies the entries of a base's row.
-fn copy_steps(row: &mut [u16], steps: &[u16], from: usize, to: usize)
+fn copy_steps(steps: &[u16], from: usize, to: usize, row: &mut [u16])
     requires { ⌜ (from ≤ to) × ((to ≤ 4096) × (to < length (now row))) ⌝ }
     requires { ⌜ Steps (now steps) to ⌝ }
     ensures { λ _. ⌜ Written (nth (now (steps .entry))) (now (row .entry)) (now (row .exit)) from to ⌝ }
@@ -86,7 +87,7 @@ fn copy_steps(row: &mut [u16], steps: &[u16], from: usize, to: usize)
 }
 
 // The row of the unbonded base b.
-pub fn single(row: &mut [u16], p: &[u8], pm: &[u16], tables: &[u16], from: usize, to: usize, b: u8)
+pub fn single(p: &[u8], pm: &[u16], tables: &[u16], from: usize, to: usize, b: u8, row: &mut [u16])
     requires { ⌜ Window (now p) (now pm) from to ⌝ }
     requires { ⌜ Tables (now p) (now pm) (now tables) ⌝ }
     requires { ⌜ isLetter moleculeSide b ≡ true ⌝ }
@@ -94,40 +95,26 @@ pub fn single(row: &mut [u16], p: &[u8], pm: &[u16], tables: &[u16], from: usize
     ensures { λ _. ⌜ Written (unitAt (matches (now (p .entry)) b) (nth (now (pm .entry))) to) (now (row .entry)) (now (row .exit)) from (to + 1) ⌝ }
 {
     let at = tables::steps_at(p.len(), b);
-    copy_steps(row, &tables[at..], from, to);
+    copy_steps(&tables[at..], from, to, row);
     row[to] = to as u16;
 }
 
-// The row with the stretch put in front whose row starts at `at`.
-pub fn combine(row: &mut [u16], from: usize, to: usize, at: usize)
-    requires { ⌜ (from ≤ to) × ((to ≤ 4096) × ((to < at) × (at + to < length (now row)))) ⌝ }
-    requires { ⌜ ((j : ℕ) → from ≤ j → j ≤ to → (j ≤ nth (now row) (at + j)) × (nth (now row) (at + j) ≤ to)) ⌝ }
-    ensures { λ _. ⌜ Written (λ j. nth (now (row .entry)) (nth (now (row .entry)) (at + j))) (now (row .entry)) (now (row .exit)) from (to + 1) ⌝ }
+// The row of two stretches, in the place of the first row: `first` is where the row of the one in front starts, `then` where that of the one behind does.
+pub fn combine(from: usize, to: usize, first: usize, then: usize, row: &mut [u16])
+    requires { ⌜ (from ≤ to) × ((to ≤ 4096) × ((first + to < length (now row)) × (then + to < length (now row)))) ⌝ }
+    requires { ⌜ ((j : ℕ) → from ≤ j → j ≤ to → (j ≤ nth (now row) (first + j)) × (nth (now row) (first + j) ≤ to)) ⌝ }
+    ensures { λ _. ⌜ Written (λ j. nth (now (row .entry)) (then + nth (now (row .entry)) (first + j))) (now (row .entry)) (now (row .exit)) from (to + 1) ⌝ }
 {
     let mut j = from;
     while j <= to {
-        let k = row[at + j] as usize;
-        row[j] = row[k];
-        j += 1;
-    }
-}
-
-// The row with the stretch put behind it whose row starts at `at`.
-pub fn combine_into(row: &mut [u16], from: usize, to: usize, at: usize)
-    requires { ⌜ (from ≤ to) × ((to ≤ 4096) × ((to < at) × (at + to < length (now row)))) ⌝ }
-    requires { ⌜ ((j : ℕ) → from ≤ j → j ≤ to → nth (now row) j ≤ to) ⌝ }
-    ensures { λ _. ⌜ Written (λ j. nth (now (row .entry)) (at + nth (now (row .entry)) j)) (now (row .entry)) (now (row .exit)) from (to + 1) ⌝ }
-{
-    let mut j = from;
-    while j <= to {
-        let k = row[j] as usize;
-        row[j] = row[at + k];
+        let k = row[first + j] as usize;
+        row[j] = row[then + k];
         j += 1;
     }
 }
 
 // Writes at `at` the row for the window that ends at `to`: no entry goes past it.
-pub fn cut(row: &mut [u16], from: usize, to: usize, at: usize)
+pub fn cut(from: usize, to: usize, at: usize, row: &mut [u16])
     requires { ⌜ (from ≤ to) × ((to ≤ 4096) × ((to < at) × (at + to < length (now row)))) ⌝ }
     ensures { λ _. ⌜ Written (λ k. min (nth (now (row .entry)) (k - at)) to) (now (row .entry)) (now (row .exit)) (at + from) (at + to + 1) ⌝ }
 {
@@ -138,44 +125,44 @@ pub fn cut(row: &mut [u16], from: usize, to: usize, at: usize)
     }
 }
 
-// Where an unbonded base y takes the motif from k on, in a window that ends at `to`: k + 1 or k.
-pub fn unit(p: &[u8], pm: &[u16], to: usize, k: usize, y: u8) -> usize
+// Where an unbonded base y takes the motif's window from..to: from + 1 or `from`.
+pub fn unit(p: &[u8], pm: &[u16], from: usize, to: usize, y: u8) -> usize
     requires { ⌜ (length (now pm) ≡ length (now p)) × (to ≤ length (now p)) ⌝ }
-    ensures { λ r. ⌜ r ≡ unitAt (matches (now (p .entry)) y) (nth (now (pm .entry))) to k ⌝ }
+    ensures { λ r. ⌜ r ≡ unitAt (matches (now (p .entry)) y) (nth (now (pm .entry))) to from ⌝ }
 {
-    if to <= k {
-        return k;
+    if to <= from {
+        return from;
     }
-    if k < pm[k] as usize {
-        return k;
+    if from < pm[from] as usize {
+        return from;
     }
-    if strand::letters_match(p[k], y) {
-        return k + 1;
+    if strand::letters_match(p[from], y) {
+        return from + 1;
     }
-    k
+    from
 }
 
-// The entry for j of an arc with the bases x and y, from its inner row's entries for j and j + 1.
+// The entry for `from` of an arc with the bases x and y, from its inner row's entries for `from` and from + 1.
 pub fn arc_entry(
     p: &[u8],
     pm: &[u16],
+    from: usize,
     to: usize,
-    j: usize,
     x: u8,
     y: u8,
     here: u16,
     next: u16,
 ) -> u16
     requires { ⌜ (length (now pm) ≡ length (now p)) × ((to ≤ length (now p)) × (to ≤ 4096)) ⌝ }
-    requires { ⌜ j < to ⌝ }
-    ensures { λ r. ⌜ r ≡ arcAt (matches (now (p .entry)) x) (matches (now (p .entry)) y) (nth (now (pm .entry))) to here next j ⌝ }
+    requires { ⌜ from < to ⌝ }
+    ensures { λ r. ⌜ r ≡ arcAt (matches (now (p .entry)) x) (matches (now (p .entry)) y) (nth (now (pm .entry))) to here next from ⌝ }
 {
-    let both = unit(p, pm, to, here as usize, y) as u16;
-    if !strand::letters_match(p[j], x) {
+    let both = unit(p, pm, here as usize, to, y) as u16;
+    if !strand::letters_match(p[from], x) {
         return both;
     }
-    let k = pm[j];
-    if k <= j as u16 {
+    let k = pm[from];
+    if k <= from as u16 {
         return larger(both, next);
     }
     if to as u16 <= k {
@@ -215,15 +202,15 @@ pub fn over_entry(c: u8, x: u8, k: u16, j: u16, to: u16, d: u16, y: u16, next: u
 
 // Writes at `at` what an arc with the bases x and y takes with its left end, from its inner row.
 fn over(
-    row: &mut [u16],
     p: &[u8],
     pm: &[u16],
     tables: &[u16],
     from: usize,
     to: usize,
-    at: usize,
     x: u8,
     y: u8,
+    at: usize,
+    row: &mut [u16],
 )
     requires { ⌜ Window (now p) (now pm) from to ⌝ }
     requires { ⌜ Tables (now p) (now pm) (now tables) ⌝ }
@@ -247,7 +234,7 @@ fn over(
 }
 
 // Takes each entry of the row on by the unbonded base behind whose own row is `steps`.
-fn step(row: &mut [u16], steps: &[u16], from: usize, to: usize)
+fn step(steps: &[u16], from: usize, to: usize, row: &mut [u16])
     requires { ⌜ (from ≤ to) × ((to ≤ 4096) × (to < length (now row))) ⌝ }
     requires { ⌜ Steps (now steps) to ⌝ }
     requires { ⌜ ((j : ℕ) → from ≤ j → j ≤ to → nth (now row) j ≤ to) ⌝ }
@@ -262,7 +249,7 @@ fn step(row: &mut [u16], steps: &[u16], from: usize, to: usize)
 }
 
 // Raises the row to the row at `at`, no entry past `to`.
-fn raise(row: &mut [u16], from: usize, to: usize, at: usize)
+fn raise(from: usize, to: usize, at: usize, row: &mut [u16])
     requires { ⌜ (from ≤ to) × ((to ≤ 4096) × ((to < at) × (at + to < length (now row)))) ⌝ }
     ensures { λ _. ⌜ Written (λ j. max (min (nth (now (row .entry)) j) to) (nth (now (row .entry)) (at + j))) (now (row .entry)) (now (row .exit)) from to ⌝ }
 {
@@ -290,7 +277,6 @@ fn capped(k: u16, to: u16) -> u16
 
 // The row of an arc with the bases x and y, in the place of its inner row: in one pass, for a short window. `steps` is the row of an unbonded y.
 fn close_short(
-    row: &mut [u16],
     p: &[u8],
     pm: &[u16],
     tables: &[u16],
@@ -299,6 +285,7 @@ fn close_short(
     to: usize,
     x: u8,
     y: u8,
+    row: &mut [u16],
 )
     requires { ⌜ Window (now p) (now pm) from to ⌝ }
     requires { ⌜ Tables (now p) (now pm) (now tables) ⌝ }
@@ -331,7 +318,6 @@ fn close_short(
 // The row of an arc with the bases x and y, in the place of its inner row. A short window is done in one pass; for a long one short loops over whole
 // rows are faster, and the next row is written too.
 pub fn close_arc(
-    row: &mut [u16],
     p: &[u8],
     pm: &[u16],
     tables: &[u16],
@@ -339,6 +325,7 @@ pub fn close_arc(
     to: usize,
     x: u8,
     y: u8,
+    row: &mut [u16],
 )
     requires { ⌜ Window (now p) (now pm) from to ⌝ }
     requires { ⌜ Tables (now p) (now pm) (now tables) ⌝ }
@@ -351,10 +338,10 @@ pub fn close_arc(
     let at = tables::steps_at(p.len(), y);
     let steps = &tables[at..];
     if to < from + 40 {
-        close_short(row, p, pm, tables, steps, from, to, x, y);
+        close_short(p, pm, tables, steps, from, to, x, y, row);
         return;
     }
-    over(row, p, pm, tables, from, to, w, x, y);
-    step(row, steps, from, to);
-    raise(row, from, to, w);
+    over(p, pm, tables, from, to, x, y, w, row);
+    step(steps, from, to, row);
+    raise(from, to, w, row);
 }

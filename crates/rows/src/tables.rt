@@ -3,13 +3,13 @@ ghost use mathlib.Core.Path.{_≡_};
 ghost use Prim.Native.Nat.{_+_, _-_, _*_, _≤_, _<_};
 ghost use lib.ListN.{length};
 ghost use lib.Dec.{leb};
-ghost use Rattle.strand.specs.Vocabulary.{nth, choose};
+ghost use Rattle.lists.specs.Vocabulary.{nth, choose};
 ghost use Rattle.strand.specs.Strands.{Nested, lettersMatch};
 ghost use Rattle.embedding.specs.Row.{unitAt};
 ghost use Rattle.rows.specs.Rows.{Written, Tables, stepsAt, matches};
 
 // Where the row of an unbonded base b starts in the tables of a motif of m bases.
-pub fn steps_at(m: usize, b: u8) -> usize
+pub(crate) fn steps_at(m: usize, b: u8) -> usize
     requires { ⌜ m ≤ 4096 ⌝ }
     ensures { λ r. ⌜ (r ≡ stepsAt m b) × (r ≤ 4 * (m + 1)) ⌝ }
 {
@@ -31,52 +31,52 @@ fn unit_entry(c: u8, b: u8, k: u16, j: u16) -> u16
 }
 
 // Writes the row of the unbonded base b from `at` on.
-fn put_steps(rows: &mut [u16], p: &[u8], pm: &[u16], at: usize, b: u8)
+fn put_steps(p: &[u8], pm: &[u16], b: u8, at: usize, tables: &mut [u16])
     requires { ⌜ (length (now pm) ≡ length (now p)) × (length (now p) ≤ 4096) ⌝ }
-    requires { ⌜ (at ≤ 16388) × (at + length (now p) < length (now rows)) ⌝ }
-    ensures { λ _. ⌜ Written (λ k. unitAt (matches (now (p .entry)) b) (nth (now (pm .entry))) (length (now (p .entry))) (k - at)) (now (rows .entry)) (now (rows .exit)) at (at + length (now (p .entry)) + 1) ⌝ }
+    requires { ⌜ (at ≤ 16388) × (at + length (now p) < length (now tables)) ⌝ }
+    ensures { λ _. ⌜ Written (λ k. unitAt (matches (now (p .entry)) b) (nth (now (pm .entry))) (length (now (p .entry))) (k - at)) (now (tables .entry)) (now (tables .exit)) at (at + length (now (p .entry)) + 1) ⌝ }
 {
     let mut j = 0;
     while j < p.len() {
-        rows[at + j] = unit_entry(p[j], b, pm[j], j as u16);
+        tables[at + j] = unit_entry(p[j], b, pm[j], j as u16);
         j += 1;
     }
-    rows[at + p.len()] = p.len() as u16;
+    tables[at + p.len()] = p.len() as u16;
 }
 
 // Writes the letters of the mates.
-fn put_letters(rows: &mut [u16], p: &[u8], pm: &[u16])
-    requires { ⌜ (length (now pm) ≡ length (now p)) × (length (now p) ≤ length (now rows)) ⌝ }
+fn put_letters(p: &[u8], pm: &[u16], tables: &mut [u16])
+    requires { ⌜ (length (now pm) ≡ length (now p)) × (length (now p) ≤ length (now tables)) ⌝ }
     requires { ⌜ Nested (nth (now pm)) (length (now p)) ⌝ }
-    ensures { λ _. ⌜ Written (λ j. nth (now (p .entry)) (nth (now (pm .entry)) j)) (now (rows .entry)) (now (rows .exit)) 0 (length (now (p .entry))) ⌝ }
+    ensures { λ _. ⌜ Written (λ j. nth (now (p .entry)) (nth (now (pm .entry)) j)) (now (tables .entry)) (now (tables .exit)) 0 (length (now (p .entry))) ⌝ }
 {
     let mut j = 0;
     while j < p.len() {
-        rows[j] = p[pm[j] as usize] as u16;
+        tables[j] = p[pm[j] as usize] as u16;
         j += 1;
     }
 }
 
 // Writes the row of the unbonded base b to its place.
-fn put_base(rows: &mut [u16], p: &[u8], pm: &[u16], b: u8)
+fn put_base(p: &[u8], pm: &[u16], b: u8, tables: &mut [u16])
     requires { ⌜ (length (now pm) ≡ length (now p)) × (length (now p) ≤ 4096) ⌝ }
-    requires { ⌜ 5 * (length (now p) + 1) ≤ length (now rows) ⌝ }
-    ensures { λ _. ⌜ Written (λ k. unitAt (matches (now (p .entry)) b) (nth (now (pm .entry))) (length (now (p .entry))) (k - stepsAt (length (now (p .entry))) b)) (now (rows .entry)) (now (rows .exit)) (stepsAt (length (now (p .entry))) b) (stepsAt (length (now (p .entry))) b + length (now (p .entry)) + 1) ⌝ }
+    requires { ⌜ 5 * (length (now p) + 1) ≤ length (now tables) ⌝ }
+    ensures { λ _. ⌜ Written (λ k. unitAt (matches (now (p .entry)) b) (nth (now (pm .entry))) (length (now (p .entry))) (k - stepsAt (length (now (p .entry))) b)) (now (tables .entry)) (now (tables .exit)) (stepsAt (length (now (p .entry))) b) (stepsAt (length (now (p .entry))) b + length (now (p .entry)) + 1) ⌝ }
 {
     let at = steps_at(p.len(), b);
-    put_steps(rows, p, pm, at, b);
+    put_steps(p, pm, b, at, tables);
 }
 
 // Makes the tables of a motif.
-pub fn fill(rows: &mut [u16], p: &[u8], pm: &[u16])
+pub fn fill(p: &[u8], pm: &[u16], tables: &mut [u16])
     requires { ⌜ (length (now pm) ≡ length (now p)) × (length (now p) ≤ 4096) ⌝ }
     requires { ⌜ Nested (nth (now pm)) (length (now p)) ⌝ }
-    requires { ⌜ 5 * (length (now p) + 1) ≤ length (now rows) ⌝ }
-    ensures { λ _. ⌜ Tables (now (p .entry)) (now (pm .entry)) (now (rows .exit)) ⌝ }
+    requires { ⌜ 5 * (length (now p) + 1) ≤ length (now tables) ⌝ }
+    ensures { λ _. ⌜ Tables (now (p .entry)) (now (pm .entry)) (now (tables .exit)) ⌝ }
 {
-    put_letters(rows, p, pm);
-    put_base(rows, p, pm, b'A');
-    put_base(rows, p, pm, b'C');
-    put_base(rows, p, pm, b'G');
-    put_base(rows, p, pm, b'U');
+    put_letters(p, pm, tables);
+    put_base(p, pm, b'A', tables);
+    put_base(p, pm, b'C', tables);
+    put_base(p, pm, b'G', tables);
+    put_base(p, pm, b'U', tables);
 }

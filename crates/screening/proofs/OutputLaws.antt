@@ -1,4 +1,4 @@
--- No output of the screen program is longer than `mostOutput`: the numbers of a query's refusal are small. Assumes nothing.
+-- No output of the screen program is longer than `mostOutput`: the numbers of a query's refusal are small.
 use mathlib.Core.Path.{_≡_, refl, ap}
 use mathlib.Core.Bool.{Bool, true, false}
 use mathlib.Core.List.{List, [], _∷_}
@@ -6,19 +6,22 @@ use Prim.Native.Nat.{ℕ, _<_, _≤_}
 use native.Mathlib.Omega.{arith}
 use lib.Dec.{ltb}
 use lib.ListN.{length, replicate}
-use Rattle.strand.specs.Vocabulary.{choose, lowest, select}
+use Rattle.lists.specs.Vocabulary.{choose, lowest, select}
 use Rattle.strand.specs.Strands.{Strand}
-use Rattle.strand.specs.Refusals.{refusal, refuseIf, refuseAtLowest, first, strandVerdict}
-use Rattle.strand.specs.declared.Verdict.{Verdict}
-use Rattle.strand.specs.declared.Verdict.the-variants.{Accepted, Refused}
-use Rattle.strand.proofs.ListLaws.{lowest-upto, select-short}
-use Rattle.block.specs.Block.{blockOf, blockCount}
-use Rattle.block.specs.Content.{emptyBlock, moleculeIn}
+use Rattle.refusals.specs.Rules.{refusal, refuseIf, refuseAtLowest, first, byVerdict}
+use Rattle.strand.specs.StrandRules.{strandVerdict}
+use Rattle.refusals.specs.declared.Verdict.{Verdict}
+use Rattle.refusals.specs.declared.Verdict.the-variants.{Accepted, Refused}
+use Rattle.lists.proofs.ListLaws.{lowest-upto, select-short}
+use Rattle.block.specs.Block.{holdsMotif, blockOf, blockCount}
+use Rattle.block.specs.Content.{emptyBlock, motifHandedIn}
 use Rattle.calls.specs.Limits.{motifVerdict, workVerdict}
 use Rattle.calls.specs.Buffers.{unsoundAt, buffersVerdict, slotOf, cleanCache}
-use Rattle.calls.specs.Calls.{QueryEffect, queryUnless, queryVerdict, queryAccepted, queryOutcome, isHit, toSearch}
+use Rattle.calls.specs.declared.Queried.the-variants.{Refused as NotQueried}
+use Rattle.calls.specs.Calls.{QueryEffect, queried, queryVerdict, queryAccepted, queryOutcome, isHit, toSearch}
 use Rattle.screening.specs.Text.{line, spaced, badLengthText, badMotifText, mostOutput}
-use Rattle.screening.specs.Screen.{mostScreened, isInput, isMotif, firstBlock, catalogIn, screenWork, answerText, effectText, screenQuery, screenOutput, OutputSays}
+use Rattle.screening.specs.Screen.{mostScreened, isInput, firstBlock, catalogIn, screenWork, answerText, effectText, screenQuery, screenOutput}
+use Rattle.screening.specs.Screen.{OutputSays}
 use Rattle.screening.proofs.TextLaws.{most-hits, most-refused}
 use Rattle.screening.proofs.ScreenLaws.{entry-text, input-few, motif-proper, output-bad-length, output-bad-motif, output-answer}
 
@@ -81,8 +84,8 @@ small-query m catalog cache p work room h hb hm =
 -- ---- the text of an answer
 
 unless-short : (v : Verdict) (cache hits : List ℕ) (e : QueryEffect) → Small 160 v → length (effectText e) ≤ mostOutput
-    → length (effectText (queryUnless v cache hits e)) ≤ mostOutput
-unfolding Small queryUnless answerText
+    → length (effectText (byVerdict v (λ r. queried (NotQueried r) cache hits) e)) ≤ mostOutput
+unfolding Small byVerdict answerText
 unless-short Accepted cache hits e a f = f
 unless-short (Refused r) cache hits e a f = most-refused (r .number) (r .side) (r .place) (a .0) (a .1) (omega (arith, a .2))
 
@@ -119,21 +122,21 @@ unfolding badMotifText line spaced
 bad-motif-long = refl
 
 module _ (embeds : Strand → Strand → Bool) (input : List ℕ) where
-  query-short : isInput input ≡ true → isMotif (firstBlock input) ≡ true
+  query-short : isInput input ≡ true → holdsMotif (firstBlock input) ≡ true
       → length (effectText (screenQuery embeds input screenWork (replicate mostScreened 0))) ≤ mostOutput
   unfolding screenQuery
   query-short e m =
       let P = motif-proper (firstBlock input) m in
-      effect-short embeds (catalogIn input) (moleculeIn (firstBlock input)) (input-few input e .1) emptyBlock screenWork (replicate mostScreened 0)
+      effect-short embeds (catalogIn input) (motifHandedIn (firstBlock input)) (input-few input e .1) emptyBlock screenWork (replicate mostScreened 0)
       (P .small) (omega (arith, P .same, P .small))
 
   pub output-says : OutputSays embeds input
   output-says = by-input (isInput input) refl
     where
-      by-motif : isInput input ≡ true → (b : Bool) → isMotif (firstBlock input) ≡ b → length (screenOutput embeds input) ≤ mostOutput
+      by-motif : isInput input ≡ true → (b : Bool) → holdsMotif (firstBlock input) ≡ b → length (screenOutput embeds input) ≤ mostOutput
       by-motif e false m = omega (arith, ap length (output-bad-motif embeds input e m), bad-motif-long)
       by-motif e true m = rw (output-answer embeds input e m) (query-short e m)
 
       by-input : (b : Bool) → isInput input ≡ b → length (screenOutput embeds input) ≤ mostOutput
       by-input false e = omega (arith, ap length (output-bad-length embeds input e), bad-length-long)
-      by-input true e = by-motif e (isMotif (firstBlock input)) refl
+      by-input true e = by-motif e (holdsMotif (firstBlock input)) refl

@@ -1,6 +1,6 @@
--- Laws of the screen's output: which text an input gets, and that the query's own buffers do not show in it. Assumes nothing.
+-- Laws of the screen's output: which text an input gets, and that the query's own buffers do not show in it.
 use mathlib.Core.Path.{_≡_, refl, sym, ap, ap₂, subst, _∙_}
-use mathlib.Core.Bool.{Bool, true, false, not, _&&_}
+use mathlib.Core.Bool.{Bool, true, false, _&&_}
 use mathlib.Core.List.{List, [], _∷_, _++_}
 use Prim.Native.Nat.{ℕ, _+_, _*_, _-_, _%_, _<_, _≤_}
 use native.Mathlib.Omega.{arith}
@@ -8,33 +8,35 @@ use borrow.Author.Tests.{le-ltb, eqb-true, leb-true, lt-leb, le-leb, eq-eqb, ne-
 use lib.Dec.{ltb, leb, eqb}
 use lib.ListN.{length, take, drop, replicate, length-append, length-drop, length-replicate}
 use lib.Seq.{take-at, take-all}
-use Rattle.strand.specs.Vocabulary.{choose, select, all}
-use Rattle.strand.specs.Strands.{Strand, strandOf, motifSide, moleculeSide, noSide, Proper}
-use Rattle.strand.specs.Refusals.{leastLength, wrongSlice, first, refuseIf}
-use Rattle.strand.proofs.ListLaws.{and-true, true-not, select-short}
+use Rattle.lists.specs.Vocabulary.{choose, select}
+use Rattle.strand.specs.Strands.{Strand, strandOf, Proper}
+use Rattle.refusals.specs.Rules.{motifSide, noSide, wrongSlice, first, refuseIf, byVerdict}
+use Rattle.refusals.specs.Work.{WorkKept}
+use Rattle.strand.specs.StrandRules.{leastMotif}
+use Rattle.lists.proofs.ListLaws.{and-true, and-left, never, select-short}
 use Rattle.strand.proofs.VerdictLaws.{accepted-proper}
-use Rattle.octets.specs.Checksum.{blockSize}
-use Rattle.octets.specs.Numbers.{isZero}
-use Rattle.block.proofs.ContentLaws.{molecule-proper}
-use Rattle.strand.specs.declared.Refusal.{Refusal}
-use Rattle.block.specs.Block.{blockOf, soundMolecule, blockCount}
-use Rattle.block.specs.Content.{emptyBlock, isEmpty, moleculeIn}
+use Rattle.block.specs.Checksum.{blockSize}
+use Rattle.block.proofs.ContentLaws.{motif-proper as handed-proper, held-sound}
+use Rattle.refusals.specs.declared.Refusal.{Refusal}
+use Rattle.block.specs.Block.{holdsMotif, blockOf, soundMotif, blockCount}
+use Rattle.block.specs.Content.{emptyBlock, motifHandedIn}
 use Rattle.calls.specs.Limits.{motifVerdict, workVerdict, mostMotifBases}
 use Rattle.calls.specs.Buffers.{buffersVerdict, slotOf, cleanCache}
-use Rattle.calls.specs.Calls.{QueryEffect, queried, queryUnless, queryVerdict, queryAccepted, queryOutcome, QueryWorkKept, isHit, toSearch}
-use Rattle.strand.specs.declared.Verdict.{Verdict}
-use Rattle.strand.specs.declared.Verdict.the-variants.{Accepted, Refused}
+use Rattle.calls.specs.Calls.{QueryEffect, queried, queryVerdict, queryAccepted, queryOutcome, isHit, toSearch}
+use Rattle.refusals.specs.declared.Verdict.{Verdict}
+use Rattle.refusals.specs.declared.Verdict.the-variants.{Accepted, Refused}
 use Rattle.calls.specs.declared.Queried.{Queried}
 use Rattle.calls.specs.declared.Queried.the-variants.{Hits, Refused as NotQueried}
 use Rattle.screening.specs.Text.{line, spaced, hitsText, refusedText, badLengthText, badMotifText, mostOutput, TextPut}
-use Rattle.screening.specs.Screen.{mostScreened, isInput, isMotif, firstBlock, catalogIn, screenWork, answerText, AnswerFits, effectText, screenQuery, screenOutput, hasRoom, screened, isAsked, cacheLeft, hitsLeft, screenOutcome, WorkLeft}
+use Rattle.screening.specs.Screen.{mostScreened, isInput, firstBlock, catalogIn, screenWork, answerText, AnswerFits, effectText, screenQuery}
+use Rattle.screening.specs.Screen.{screenVerdict, screenOutput, hasRoom, screened, isAsked, cacheLeft, hitsLeft, screenOutcome}
 use Rattle.screening.specs.declared.Screened.the-variants.{Written, NoRoom}
 use Rattle.screening.proofs.TextLaws.{most-hits, put-first}
 
 -- An accepted motif has at most 120 bases.
 motif-short : (p : Strand) → motifVerdict p ≡ Accepted → length (p .bases) ≤ 120
 unfolding motifVerdict
-motif-short p e = accepted-proper motifSide leastLength mostMotifBases (p .bases) (p .mates) e .small
+motif-short p e = accepted-proper motifSide leastMotif mostMotifBases (p .bases) (p .mates) e .small
 
 rows-same : (p : Strand) (work room n : ℕ) → n ≤ mostScreened → screenWork ≤ work → mostScreened ≤ room → length (p .bases) ≤ 120
     → first (refuseIf wrongSlice noSide (ltb room n) ∷ workVerdict p work ∷ []) ≡ Accepted
@@ -82,31 +84,34 @@ module _ (embeds : Strand → Strand → Bool) (catalog cache entry : List ℕ) 
       )
 
 unless-text : (v : Verdict) (cache h₁ h₂ : List ℕ) (e₁ e₂ : QueryEffect) → effectText e₁ ≡ effectText e₂
-    → effectText (queryUnless v cache h₁ e₁) ≡ effectText (queryUnless v cache h₂ e₂)
-unfolding queryUnless answerText
+    → effectText (byVerdict v (λ r. queried (NotQueried r) cache h₁) e₁) ≡ effectText (byVerdict v (λ r. queried (NotQueried r) cache h₂) e₂)
+unfolding byVerdict answerText
 unless-text Accepted cache h₁ h₂ e₁ e₂ e = e
 unless-text (Refused r) cache h₁ h₂ e₁ e₂ e = refl
 
 unless-fits : (v : Verdict) (cache h : List ℕ) (e : QueryEffect) → AnswerFits (e .answer) (e .hits) mostOutput
-    → AnswerFits (queryUnless v cache h e .answer) (queryUnless v cache h e .hits) mostOutput
-unfolding queryUnless AnswerFits
+    → AnswerFits (byVerdict v (λ r. queried (NotQueried r) cache h) e .answer) (byVerdict v (λ r. queried (NotQueried r) cache h) e .hits) mostOutput
+unfolding byVerdict AnswerFits
 unless-fits Accepted cache h e f = f
 unless-fits (Refused r) cache h e f = omega arith
 
 module _ (embeds : Strand → Strand → Bool) (catalog cache : List ℕ) (p : Strand) (work : ℕ) (hits : List ℕ)
     (few : blockCount catalog ≤ mostScreened) (long : screenWork ≤ work) (wide : mostScreened ≤ length hits) where
-  pub effect-same : effectText (queryOutcome embeds catalog cache p work hits) ≡ effectText (queryOutcome embeds catalog cache p screenWork (replicate mostScreened 0))
+  pub effect-same : effectText (queryOutcome embeds catalog cache p work hits)
+      ≡ effectText (queryOutcome embeds catalog cache p screenWork (replicate mostScreened 0))
   unfolding queryOutcome
   effect-same =
       let slot : ℕ = slotOf (blockCount cache) p in
       let entry : List ℕ = blockOf slot (cleanCache cache) in
-      ap (λ (v : Verdict). effectText (queryUnless v cache hits (queryAccepted embeds catalog (cleanCache cache) entry slot p hits)))
+      ap (λ (v : Verdict). effectText
+      (byVerdict v (λ r. queried (NotQueried r) cache hits) (queryAccepted embeds catalog (cleanCache cache) entry slot p hits)))
       (verdict-same embeds catalog cache p work hits few long wide)
       ∙ unless-text (queryVerdict catalog cache p screenWork mostScreened) cache hits (replicate mostScreened 0)
       (queryAccepted embeds catalog (cleanCache cache) entry slot p hits)
       (queryAccepted embeds catalog (cleanCache cache) entry slot p (replicate mostScreened 0))
-      (entry-text embeds catalog (cleanCache cache) entry slot p hits ∙ sym (entry-text embeds catalog (cleanCache cache) entry slot p (replicate mostScreened 0)))
-      ∙ ap (λ (k : ℕ). effectText (queryUnless (queryVerdict catalog cache p screenWork k) cache (replicate mostScreened 0)
+      (entry-text embeds catalog (cleanCache cache) entry slot p hits
+      ∙ sym (entry-text embeds catalog (cleanCache cache) entry slot p (replicate mostScreened 0)))
+      ∙ ap (λ (k : ℕ). effectText (byVerdict (queryVerdict catalog cache p screenWork k) (λ r. queried (NotQueried r) cache (replicate mostScreened 0))
       (queryAccepted embeds catalog (cleanCache cache) entry slot p (replicate mostScreened 0))))
       (sym (length-replicate {A = ℕ} mostScreened 0))
 
@@ -136,74 +141,63 @@ module _ (embeds : Strand → Strand → Bool) (input : List ℕ) where
   unfolding screenOutput choose
   output-bad-length e = rw e
 
-  pub output-bad-motif : isInput input ≡ true → isMotif (firstBlock input) ≡ false → screenOutput embeds input ≡ badMotifText
+  pub output-bad-motif : isInput input ≡ true → holdsMotif (firstBlock input) ≡ false → screenOutput embeds input ≡ badMotifText
   unfolding screenOutput choose
   output-bad-motif e m = rw (e, m)
 
-  pub output-answer : isInput input ≡ true → isMotif (firstBlock input) ≡ true → screenOutput embeds input ≡ effectText (screenQuery embeds input screenWork (replicate mostScreened 0))
+  pub output-answer : isInput input ≡ true → holdsMotif (firstBlock input) ≡ true
+      → screenOutput embeds input ≡ effectText (screenQuery embeds input screenWork (replicate mostScreened 0))
   unfolding screenOutput choose
   output-answer e m = rw (e, m)
 
 -- ---- the tests of the code
 
 module _ (out cache work hits : ℕ) where
-  pub room-1 : out < 202 → false ≡ hasRoom out cache work hits
+  pub out-too-short : out < mostOutput → false ≡ hasRoom out cache work hits
   unfolding hasRoom
-  room-1 h = rw (lt-leb 202 out h)
+  out-too-short h = rw (lt-leb mostOutput out h)
 
-  pub room-2 : 202 ≤ out → (cache ≡ 512 → ⊥) → false ≡ hasRoom out cache work hits
+  pub cache-not-one : mostOutput ≤ out → (cache ≡ blockSize → ⊥) → false ≡ hasRoom out cache work hits
   unfolding hasRoom
-  room-2 h k = rw (le-leb 202 out h, ne-eqb cache 512 k)
+  cache-not-one h k = rw (le-leb mostOutput out h, ne-eqb cache blockSize k)
 
-  pub room-3 : 202 ≤ out → cache ≡ 512 → work < 9024 → false ≡ hasRoom out cache work hits
+  pub work-too-short : mostOutput ≤ out → cache ≡ blockSize → work < screenWork → false ≡ hasRoom out cache work hits
   unfolding hasRoom
-  room-3 h k w = rw (le-leb 202 out h, eq-eqb cache 512 k, lt-leb 9024 work w)
+  work-too-short h k w = rw (le-leb mostOutput out h, eq-eqb cache blockSize k, lt-leb screenWork work w)
 
-  pub room-4 : 202 ≤ out → cache ≡ 512 → 9024 ≤ work → leb 64 hits ≡ hasRoom out cache work hits
+  pub room-by-hits : mostOutput ≤ out → cache ≡ blockSize → screenWork ≤ work → leb mostScreened hits ≡ hasRoom out cache work hits
   unfolding hasRoom
-  room-4 h k w = rw (le-leb 202 out h, eq-eqb cache 512 k, le-leb 9024 work w)
+  room-by-hits h k w = rw (le-leb mostOutput out h, eq-eqb cache blockSize k, le-leb screenWork work w)
 
-  pub room-facts : hasRoom out cache work hits ≡ true → (202 ≤ out) × (cache ≡ 512) × (9024 ≤ work) × (64 ≤ hits)
+  pub room-facts : hasRoom out cache work hits ≡ true → (mostOutput ≤ out) × (cache ≡ blockSize) × (screenWork ≤ work) × (mostScreened ≤ hits)
   unfolding hasRoom
   room-facts e =
-      let a = and-true (leb 202 out && eqb cache 512 && leb 9024 work) (leb 64 hits) e in
-      let b = and-true (leb 202 out && eqb cache 512) (leb 9024 work) (a .0) in
-      let d = and-true (leb 202 out) (eqb cache 512) (b .0) in
-      (leb-true 202 out (d .0), eqb-true cache 512 (d .1), leb-true 9024 work (b .1), leb-true 64 hits (a .1))
+      let a = and-true (leb mostOutput out && eqb cache blockSize && leb screenWork work) (leb mostScreened hits) e in
+      let b = and-true (leb mostOutput out && eqb cache blockSize) (leb screenWork work) (a .0) in
+      let d = and-true (leb mostOutput out) (eqb cache blockSize) (b .0) in
+      (leb-true mostOutput out (d .0), eqb-true cache blockSize (d .1), leb-true screenWork work (b .1), leb-true mostScreened hits (a .1))
 
 module _ (input : List ℕ) where
-  pub input-1 : (length input % 512 ≡ 0 → ⊥) → false ≡ isInput input
+  pub input-not-blocks : (length input % blockSize ≡ 0 → ⊥) → false ≡ isInput input
   unfolding isInput
-  input-1 h = rw (ne-eqb (length input % 512) 0 h)
+  input-not-blocks h = rw (ne-eqb (length input % blockSize) 0 h)
 
-  pub input-2 : length input % 512 ≡ 0 → blockCount input < 2 → false ≡ isInput input
+  pub input-too-short : length input % blockSize ≡ 0 → blockCount input < 2 → false ≡ isInput input
   unfolding isInput
-  input-2 h k = rw (eq-eqb (length input % 512) 0 h, lt-leb 2 (blockCount input) k)
+  input-too-short h k = rw (eq-eqb (length input % blockSize) 0 h, lt-leb 2 (blockCount input) k)
 
-  pub input-3 : length input % 512 ≡ 0 → 2 ≤ blockCount input → leb (blockCount input) 65 ≡ isInput input
+  pub input-by-most : length input % blockSize ≡ 0 → 2 ≤ blockCount input → leb (blockCount input) (1 + mostScreened) ≡ isInput input
   unfolding isInput
-  input-3 h k = rw (eq-eqb (length input % 512) 0 h, le-leb 2 (blockCount input) k)
+  input-by-most h k = rw (eq-eqb (length input % blockSize) 0 h, le-leb 2 (blockCount input) k)
 
-pub motif-1 : (s : List ℕ) (r : Bool) → r ≡ soundMolecule s → r ≡ false → false ≡ isMotif s
-unfolding isMotif
-motif-1 s r e h = rw (sym e ∙ h)
-
-pub motif-2 : (s : List ℕ) (r z : Bool) → r ≡ soundMolecule s → r ≡ true → z ≡ all isZero s → not z ≡ isMotif s
-unfolding isMotif isEmpty
-motif-2 s r z e h k = rw (sym e ∙ h, k)
-
-pub motif-sound : (s : List ℕ) → isMotif s ≡ true → soundMolecule s ≡ true
-unfolding isMotif
-motif-sound s e = and-true (soundMolecule s) (not (isEmpty s)) e .0
+pub motif-sound : (s : List ℕ) → holdsMotif s ≡ true → soundMotif s ≡ true
+motif-sound s e = held-sound s e .0
 
 -- A motif's block holds a proper strand.
-pub motif-proper : (s : List ℕ) → isMotif s ≡ true → Proper moleculeSide 1 160 (moleculeIn s .bases) (moleculeIn s .mates)
-unfolding isMotif
-motif-proper s e =
-    let a = and-true (soundMolecule s) (not (isEmpty s)) e in
-    molecule-proper s (a .0) (true-not (isEmpty s) (a .1))
+pub motif-proper : (s : List ℕ) → holdsMotif s ≡ true → Proper motifSide leastMotif 160 (motifHandedIn s .bases) (motifHandedIn s .mates)
+motif-proper s e = let a = held-sound s e in handed-proper s (a .0) (a .1)
 
-pub motif-fits : (s : List ℕ) (n : ℕ) → isMotif s ≡ true → n ≡ length (moleculeIn s .bases) → n ≤ 160
+pub motif-fits : (s : List ℕ) (n : ℕ) → holdsMotif s ≡ true → n ≡ length (motifHandedIn s .bases) → n ≤ 160
 motif-fits s n e k = omega (arith, motif-proper s e .small)
 
 -- A strand read into the start of two slices.
@@ -227,61 +221,75 @@ module _ (embeds : Strand → Strand → Bool) (input out cache : List ℕ) (wor
   -- The cache, the hits and the work slice, for each kind of output.
   pub left-unasked : (w : List ℕ) → isAsked input ≡ false
       → (cache ≡ cacheLeft embeds input cache work hits) × (hits ≡ hitsLeft embeds input work hits)
-      × WorkLeft (isAsked input) (screenQuery embeds input work hits .answer) w w
-  unfolding cacheLeft hitsLeft choose WorkLeft
-  left-unasked w e = (rw e, rw e, rw e refl)
+      × (isAsked input ≡ true → WorkKept (screenVerdict input work (length hits)) w w) × (isAsked input ≡ false → w ≡ w)
+  unfolding cacheLeft hitsLeft choose
+  left-unasked w e = (rw e, rw e, λ t. never (sym e ∙ t), λ t. refl)
 
   pub left-asked : {answer : Queried} {kept left : List ℕ} (before after : List ℕ) → isAsked input ≡ true
-      → queried answer kept left ≡ queryOutcome embeds (catalogIn input) emptyBlock (moleculeIn (firstBlock input)) work hits
-      → QueryWorkKept answer before after
+      → queried answer kept left ≡ queryOutcome embeds (catalogIn input) emptyBlock (motifHandedIn (firstBlock input)) work hits
+      → WorkKept (screenVerdict input work (length hits)) before after
       → (kept ≡ cacheLeft embeds input cache work hits) × (left ≡ hitsLeft embeds input work hits)
-      × WorkLeft (isAsked input) (screenQuery embeds input work hits .answer) before after
-  unfolding cacheLeft hitsLeft screenQuery choose WorkLeft
+      × (isAsked input ≡ true → WorkKept (screenVerdict input work (length hits)) before after) × (isAsked input ≡ false → after ≡ before)
+  unfolding cacheLeft hitsLeft screenQuery choose
   left-asked before after e h w = (
     rw e (ap (λ (q : QueryEffect). q .cache) h),
     rw e (ap (λ (q : QueryEffect). q .hits) h),
-    rw e (subst (λ (q : QueryEffect). QueryWorkKept (q .answer) before after) h w),
+    λ t. w,
+    λ t. never (sym t ∙ e),
   )
 
-pub asked-1 : (input : List ℕ) → isInput input ≡ false → isAsked input ≡ false
+pub not-input : (input : List ℕ) → isInput input ≡ false → isAsked input ≡ false
 unfolding isAsked
-asked-1 input e = rw e
+not-input input e = rw e
 
-pub asked-2 : (input : List ℕ) (b : Bool) → isInput input ≡ true → isMotif (firstBlock input) ≡ b → isAsked input ≡ b
+pub asked-by-motif : (input : List ℕ) (b : Bool) → isInput input ≡ true → holdsMotif (firstBlock input) ≡ b → isAsked input ≡ b
 unfolding isAsked
-asked-2 input b e m = rw (e, m)
+asked-by-motif input b e m = rw (e, m)
 
 -- The work slice of `screen`, with and without room.
-pub work-none : (room asked : Bool) (answer : Queried) (w : List ℕ) → room ≡ false → WorkLeft (room && asked) answer w w
-unfolding WorkLeft
-work-none room asked answer w e = rw e refl
+pub work-none : (room asked : Bool) (v : Verdict) (w : List ℕ) → room ≡ false → ((room && asked) ≡ true → WorkKept v w w) × ((room && asked) ≡ false → w ≡ w)
+work-none room asked v w e = (λ t. never (sym e ∙ and-left room asked t), λ t. refl)
 
-pub work-room : (room asked : Bool) (answer : Queried) (before after : List ℕ) → room ≡ true
-    → WorkLeft asked answer before after → WorkLeft (room && asked) answer before after
-work-room room asked answer before after e w = rw e w
+pub work-room : (room asked : Bool) (v : Verdict) (before after : List ℕ) → room ≡ true
+    → (asked ≡ true → WorkKept v before after) × (asked ≡ false → after ≡ before)
+    → ((room && asked) ≡ true → WorkKept v before after) × ((room && asked) ≡ false → after ≡ before)
+work-room room asked v before after e w = rw e w
 
 -- ---- the query of an input
 
 module _ (embeds : Strand → Strand → Bool) (input cache : List ℕ) (work : ℕ) (hits : List ℕ) where
   -- The motif stands at the start of two slices, and the catalog is the rest of the input.
-  pub asked : (e : QueryEffect) (n : ℕ) (b m b₀ m₀ : List ℕ) → isMotif (firstBlock input) ≡ true
-      → n ≡ length (moleculeIn (firstBlock input) .bases)
-      → b ≡ moleculeIn (firstBlock input) .bases ++ drop n b₀ → m ≡ moleculeIn (firstBlock input) .mates ++ drop n m₀
-      → e ≡ queryOutcome embeds (take (length input - 512) (catalogIn input)) cache (strandOf (take n b) (take n m)) work hits
-      → e ≡ queryOutcome embeds (catalogIn input) cache (moleculeIn (firstBlock input)) work hits
-  asked e n b m b₀ m₀ ok k eb em h =
-      let q : Strand = moleculeIn (firstBlock input) in
-      let rest : take (length input - 512) (catalogIn input) ≡ catalogIn input = take-all (length input - 512) (catalogIn input) (omega (arith, length-drop blockSize input)) in
-      let same : strandOf (take n b) (take n m) ≡ q =
-      ap₂ (λ (u v : List ℕ). strandOf (take n u) (take n v)) eb em ∙ strand-read q (drop n b₀) (drop n m₀) n k (motif-proper (firstBlock input) ok .same) in
-      h ∙ ap₂ (λ (u : List ℕ) (v : Strand). queryOutcome embeds u cache v work hits) rest same
+  module _ (n : ℕ) (b m b₀ m₀ : List ℕ) (ok : holdsMotif (firstBlock input) ≡ true) (k : n ≡ length (motifHandedIn (firstBlock input) .bases))
+      (eb : b ≡ motifHandedIn (firstBlock input) .bases ++ drop n b₀) (em : m ≡ motifHandedIn (firstBlock input) .mates ++ drop n m₀) where
+    rest : take (length input - 512) (catalogIn input) ≡ catalogIn input
+    rest = take-all (length input - 512) (catalogIn input) (omega (arith, length-drop blockSize input))
 
-  pub afresh : (e : QueryEffect) (zeroed : List ℕ) → length cache ≡ 512 → zeroed ≡ replicate (length cache) 0
-      → e ≡ queryOutcome embeds (catalogIn input) zeroed (moleculeIn (firstBlock input)) work hits
-      → e ≡ queryOutcome embeds (catalogIn input) emptyBlock (moleculeIn (firstBlock input)) work hits
-  unfolding emptyBlock
-  afresh e zeroed l z h =
-      h ∙ ap (λ (u : List ℕ). queryOutcome embeds (catalogIn input) u (moleculeIn (firstBlock input)) work hits) (z ∙ ap (λ (k : ℕ). replicate k 0) l)
+    same : strandOf (take n b) (take n m) ≡ motifHandedIn (firstBlock input)
+    same =
+        ap₂ (λ (u v : List ℕ). strandOf (take n u) (take n v)) eb em
+        ∙ strand-read (motifHandedIn (firstBlock input)) (drop n b₀) (drop n m₀) n k (motif-proper (firstBlock input) ok .same)
+
+    pub asked : (e : QueryEffect) → e ≡ queryOutcome embeds (take (length input - 512) (catalogIn input)) cache (strandOf (take n b) (take n m)) work hits
+        → e ≡ queryOutcome embeds (catalogIn input) cache (motifHandedIn (firstBlock input)) work hits
+    asked e h = h ∙ ap₂ (λ (u : List ℕ) (v : Strand). queryOutcome embeds u cache v work hits) rest same
+
+    pub asked-work : (w w′ : List ℕ)
+        → WorkKept (queryVerdict (take (length input - 512) (catalogIn input)) cache (strandOf (take n b) (take n m)) work (length hits)) w w′
+        → WorkKept (queryVerdict (catalogIn input) cache (motifHandedIn (firstBlock input)) work (length hits)) w w′
+    asked-work w w′ h = rw (rest, same) at h
+
+  module _ (zeroed : List ℕ) (l : length cache ≡ 512) (z : zeroed ≡ replicate (length cache) 0) where
+    empty : zeroed ≡ emptyBlock
+    unfolding emptyBlock
+    empty = z ∙ ap (λ (k : ℕ). replicate k 0) l
+
+    pub afresh : (e : QueryEffect) → e ≡ queryOutcome embeds (catalogIn input) zeroed (motifHandedIn (firstBlock input)) work hits
+        → e ≡ queryOutcome embeds (catalogIn input) emptyBlock (motifHandedIn (firstBlock input)) work hits
+    afresh e h = h ∙ ap (λ (u : List ℕ). queryOutcome embeds (catalogIn input) u (motifHandedIn (firstBlock input)) work hits) empty
+
+    pub afresh-work : (w w′ : List ℕ) → WorkKept (queryVerdict (catalogIn input) zeroed (motifHandedIn (firstBlock input)) work (length hits)) w w′
+        → WorkKept (screenVerdict input work (length hits)) w w′
+    afresh-work w w′ h = rw empty at h
 
 -- ---- the text of an answer
 
@@ -320,25 +328,26 @@ module _ (embeds : Strand → Strand → Bool) (input : List ℕ) where
       → TextPut (98 ∷ 97 ∷ 100 ∷ 32 ∷ 108 ∷ 101 ∷ 110 ∷ 103 ∷ 116 ∷ 104 ∷ 10 ∷ []) x y 0 n → TextPut (screenOutput embeds input) x y 0 n
   put-bad-length e p = rw (output-bad-length embeds input e ∙ sym bad-length-bytes) p
 
-  pub put-bad-motif : {x y : List ℕ} {n : ℕ} → isInput input ≡ true → isMotif (firstBlock input) ≡ false
+  pub put-bad-motif : {x y : List ℕ} {n : ℕ} → isInput input ≡ true → holdsMotif (firstBlock input) ≡ false
       → TextPut (98 ∷ 97 ∷ 100 ∷ 32 ∷ 109 ∷ 111 ∷ 116 ∷ 105 ∷ 102 ∷ 10 ∷ []) x y 0 n → TextPut (screenOutput embeds input) x y 0 n
   put-bad-motif e m p = rw (output-bad-motif embeds input e m ∙ sym bad-motif-bytes) p
 
   module _ (work : ℕ) (hits : List ℕ) (answer : Queried) (cache left : List ℕ)
       (ok : isInput input ≡ true) (long : screenWork ≤ work) (wide : mostScreened ≤ length hits)
-      (h : queried answer cache left ≡ queryOutcome embeds (catalogIn input) emptyBlock (moleculeIn (firstBlock input)) work hits) where
+      (h : queried answer cache left ≡ queryOutcome embeds (catalogIn input) emptyBlock (motifHandedIn (firstBlock input)) work hits) where
     pub answer-fits : (room : ℕ) → mostOutput ≤ room → AnswerFits answer left room
     answer-fits room l =
         fits-more answer left room l
         (subst (λ (e : QueryEffect). AnswerFits (e .answer) (e .hits) mostOutput) (sym h)
-        (effect-fits embeds (catalogIn input) emptyBlock (moleculeIn (firstBlock input)) work hits (input-few input ok .1) long wide))
+        (effect-fits embeds (catalogIn input) emptyBlock (motifHandedIn (firstBlock input)) work hits (input-few input ok .1) long wide))
 
-    answer-text : isMotif (firstBlock input) ≡ true → screenOutput embeds input ≡ answerText answer left
+    answer-text : holdsMotif (firstBlock input) ≡ true → screenOutput embeds input ≡ answerText answer left
     unfolding screenQuery
     answer-text m =
         output-answer embeds input ok m
-        ∙ sym (effect-same embeds (catalogIn input) emptyBlock (moleculeIn (firstBlock input)) work hits (input-few input ok .1) long wide)
+        ∙ sym (effect-same embeds (catalogIn input) emptyBlock (motifHandedIn (firstBlock input)) work hits (input-few input ok .1) long wide)
         ∙ sym (ap effectText h)
 
-    pub put-answered : {x y : List ℕ} {n : ℕ} → isMotif (firstBlock input) ≡ true → TextPut (answerText answer left) x y 0 n → TextPut (screenOutput embeds input) x y 0 n
+    pub put-answered : {x y : List ℕ} {n : ℕ} → holdsMotif (firstBlock input) ≡ true → TextPut (answerText answer left) x y 0 n
+        → TextPut (screenOutput embeds input) x y 0 n
     put-answered m p = rw (answer-text m) p

@@ -1,4 +1,4 @@
--- Laws of texts: one text after another, the digits of a number, lines, and how long an output can be. Assumes nothing.
+-- Laws of texts: one text after another, the digits of a number, lines, and how long an output can be.
 use mathlib.Core.Path.{_≡_, refl, sym, ap, _∙_}
 use mathlib.Core.Bool.{Bool, true, false}
 use mathlib.Core.List.{List, [], _∷_, _++_, append-assoc, append-nil}
@@ -10,7 +10,7 @@ use native.Mathlib.Decide.{decLt}
 use borrow.Author.Tests.{lt-ltb, le-ltb}
 use lib.ListN.{length, take, drop, set, length-append, take-append-drop}
 use lib.Seq.{set-split, take-at, drop-at, drop-drop, take-suc, take-add, length-take-le, take-length, paste, paste-suc}
-use Rattle.strand.specs.Vocabulary.{nth, choose, select}
+use Rattle.lists.specs.Vocabulary.{nth, choose, select}
 use Rattle.screening.specs.Text.{newline, digit, digitsIn, digits, valueFrom, DigitsSay, spaced, line, lines, hitsText, refusedText, mostOutput, TextPut}
 
 -- ---- one text after another
@@ -133,7 +133,8 @@ value-within zero n h = absurd (not-suc-le-zero h)
 value-within (suc k) n h =
     elim (decLt n 10) [
       | yes l ↦ ap (valueFrom 0) (digits-small n l) ∙ value-one 0 n ∙ omega arith
-      | no l ↦ ap (valueFrom 0) (digits-more n (omega arith)) ∙ value-append 0 (digits (n / 10)) (digit (n % 10) ∷ []) ∙ last (value-within k (n / 10) (omega arith))
+      | no l ↦ ap (valueFrom 0) (digits-more n (omega arith)) ∙ value-append 0 (digits (n / 10)) (digit (n % 10) ∷ [])
+          ∙ last (value-within k (n / 10) (omega arith))
     ]
   where
     last : valueFrom 0 (digits (n / 10)) ≡ n / 10 → valueFrom (valueFrom 0 (digits (n / 10))) (digit (n % 10) ∷ []) ≡ n
@@ -147,7 +148,8 @@ module _ (n : ℕ) {x y : List ℕ} {a b : ℕ} where
   pub number-small : n < 10 → TextPut (digit n ∷ []) x y a b → TextPut (digits n) x y a b
   number-small h p = rw (digits-small n h) p
 
-  pub number-more : {z : List ℕ} {c : ℕ} → 10 ≤ n → a + length (digits n) ≤ length x → TextPut (digits (n / 10)) x y a b → TextPut (digit (n % 10) ∷ []) y z b c → TextPut (digits n) x z a c
+  pub number-more : {z : List ℕ} {c : ℕ} → 10 ≤ n → a + length (digits n) ≤ length x → TextPut (digits (n / 10)) x y a b
+      → TextPut (digit (n % 10) ∷ []) y z b c → TextPut (digits n) x z a c
   number-more h r p q = rw (digits-more n h) (put-then (omega (arith, digits-length n h)) p q)
 
 -- ---- lines
@@ -185,7 +187,8 @@ module _ (ns : List ℕ) where
   unfolding lines
   lines-none x at = put-none x at
 
-  module _ {x y : List ℕ} {i n at past : ℕ} (l : i < n) (k : n ≤ length ns) (r : at + length (lines (take n ns)) ≤ length x) (p : TextPut (lines (take i ns)) x y at past) where
+  module _ {x y : List ℕ} {i n at past : ℕ} (l : i < n) (k : n ≤ length ns) (r : at + length (lines (take n ns)) ≤ length x)
+      (p : TextPut (lines (take i ns)) x y at past) where
     pub lines-room : past + length (line (digits (nth ns i))) ≤ length x
     lines-room =
         omega (
@@ -204,7 +207,8 @@ module _ (ns : List ℕ) where
 
 -- ---- the outputs, by their parts
 
-module _ {s t u x y z v : List ℕ} {a b c d : ℕ} (r : a + (length s + length t + length u) ≤ length x) (p : TextPut s x y a b) (q : TextPut t y z b c) (o : TextPut u z v c d) where
+module _ {s t u x y z v : List ℕ} {a b c d : ℕ} (r : a + (length s + length t + length u) ≤ length x) (p : TextPut s x y a b) (q : TextPut t y z b c)
+    (o : TextPut u z v c d) where
   pub put-three : TextPut ((s ++ t) ++ u) x v a d
   put-three = put-then (omega (arith, length-append s t)) (put-then (omega arith) p q) o
 
@@ -295,7 +299,14 @@ selected-room p (suc n) =
 pub most-hits : (count searched n : ℕ) (p : ℕ → Bool) → count ≤ 64 → searched ≤ 64 → n ≤ 64
     → length (hitsText count searched (select n p)) ≤ mostOutput
 most-hits count searched n p a b h =
-    omega (arith, hits-length count searched (select n p), digits-few 1 count (omega arith), digits-few 1 searched (omega arith), selected-room p n, room-within n h)
+    omega (
+      arith,
+      hits-length count searched (select n p),
+      digits-few 1 count (omega arith),
+      digits-few 1 searched (omega arith),
+      selected-room p n,
+      room-within n h,
+    )
 
 -- Any refusal.
 pub most-refused : (number side place : ℕ) → number < 256 → side < 256 → place < 2 ^ 64 → length (refusedText number side place) ≤ mostOutput

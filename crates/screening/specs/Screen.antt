@@ -1,18 +1,18 @@
--- What the screen program prints for the bytes of its input. Assumes nothing.
+-- What the screen program prints for the bytes of its input.
 use Prim.Native.Nat.{ℕ, _+_, _%_, _≤_}
-use mathlib.Core.Path.{_≡_}
 use mathlib.Core.List.{List, _++_}
-use mathlib.Core.Bool.{Bool, true, false, not, _&&_}
+use mathlib.Core.Bool.{Bool, not, _&&_}
 use lib.Dec.{eqb, leb}
 use lib.ListN.{length, take, drop, replicate}
-use Rattle.strand.specs.Vocabulary.{choose}
+use Rattle.lists.specs.Vocabulary.{choose}
 use Rattle.strand.specs.Strands.{Strand}
-use Rattle.octets.specs.Checksum.{blockSize}
-use Rattle.block.specs.Content.{emptyBlock, isEmpty, moleculeIn}
-use Rattle.block.specs.Block.{soundMolecule, blockCount}
-use Rattle.rows.specs.Rows.{workSize}
+use Rattle.block.specs.Checksum.{blockSize}
+use Rattle.block.specs.Content.{emptyBlock, motifHandedIn}
+use Rattle.block.specs.Block.{holdsMotif, blockCount}
+use Rattle.refusals.specs.Work.{workSize}
 use Rattle.calls.specs.Limits.{mostMoleculeBases, mostMotifBases}
-use Rattle.calls.specs.Calls.{QueryEffect, queryOutcome, QueryWorkKept}
+use Rattle.calls.specs.Calls.{QueryEffect, queryVerdict, queryOutcome}
+use Rattle.refusals.specs.declared.Verdict.{Verdict}
 use Rattle.calls.specs.declared.Queried.{Queried}
 use Rattle.calls.specs.declared.Queried.the-variants.{Hits, Refused}
 use Rattle.screening.specs.declared.Screened.{Screened}
@@ -33,10 +33,6 @@ firstBlock input = take blockSize input
 
 abbrev pub catalogIn : List ℕ → List ℕ
 catalogIn input = drop blockSize input
-
--- The first block is judged as a molecule block; it may not be empty.
-unfoldable pub isMotif : List ℕ → Bool
-isMotif block = soundMolecule block && not (isEmpty block)
 
 -- The work that a motif of 120 bases, the most in a query, asks for.
 abbrev pub screenWork : ℕ
@@ -72,18 +68,22 @@ screened answer out cache hits = record { answer = answer; out = out; cache = ca
 
 -- The input comes to a query.
 unfoldable pub isAsked : List ℕ → Bool
-isAsked input = isInput input && isMotif (firstBlock input)
+isAsked input = isInput input && holdsMotif (firstBlock input)
+
+-- The verdict of its query: a zeroed cache of one block, `work` and `room` the lengths of the work and the hit slice.
+abbrev pub screenVerdict : List ℕ → ℕ → ℕ → Verdict
+screenVerdict input work room = queryVerdict (catalogIn input) emptyBlock (motifHandedIn (firstBlock input)) work room
 
 module _ (embeds : Strand → Strand → Bool) where
   -- It queries with a zeroed cache of one block, a work slice of `work` entries and a slice for the hits.
   unfoldable pub screenQuery : List ℕ → ℕ → List ℕ → QueryEffect
-  screenQuery input work hits = queryOutcome embeds (catalogIn input) emptyBlock (moleculeIn (firstBlock input)) work hits
+  screenQuery input work hits = queryOutcome embeds (catalogIn input) emptyBlock (motifHandedIn (firstBlock input)) work hits
 
   -- An input of other length prints `bad length`, else an unsound or empty first block `bad motif`, else the answer of the query.
   unfoldable pub screenOutput : List ℕ → List ℕ
   screenOutput input =
       choose (not (isInput input)) badLengthText
-      (choose (not (isMotif (firstBlock input))) badMotifText
+      (choose (not (holdsMotif (firstBlock input))) badMotifText
       (effectText (screenQuery input screenWork (replicate mostScreened 0))))
 
   -- The cache and the hits afterwards: as the query leaves them, or as they were.
@@ -105,8 +105,3 @@ module _ (embeds : Strand → Strand → Bool) where
 -- No output is longer than mostOutput; `output-says`, in proofs/OutputLaws, proves it.
 abbrev pub OutputSays : (Strand → Strand → Bool) → List ℕ → Type 0
 OutputSays embeds input = length (screenOutput embeds input) ≤ mostOutput
-
--- The work slice afterwards: as before where no query was asked, else as the query leaves it.
-unfoldable pub WorkLeft : Bool → Queried → List ℕ → List ℕ → Type 0
-WorkLeft true answer before after = QueryWorkKept answer before after
-WorkLeft false answer before after = after ≡ before

@@ -1,10 +1,10 @@
--- The text that the screen program prints, as bytes: numbers, lines, and each kind of output. Assumes nothing.
+-- The text that the screen program prints, as bytes: numbers, lines, and each kind of output.
 use Prim.Native.Nat.{ℕ, zero, suc, _+_, _-_, _*_, _/_, _%_}
 use mathlib.Core.Path.{_≡_}
 use mathlib.Core.List.{List, [], _∷_, _++_}
 use lib.Dec.{ltb}
 use lib.ListN.{length, take, drop}
-use Rattle.strand.specs.Vocabulary.{choose}
+use Rattle.lists.specs.Vocabulary.{choose}
 
 -- The byte of a digit below 10; a blank; the end of a line.
 abbrev pub digit : ℕ → ℕ

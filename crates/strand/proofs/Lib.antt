@@ -1,4 +1,5 @@
-pub mod ListLaws
-pub mod NestingLaws
+mod NestingLaws
+mod KeyLaws
+mod CheckLaws
 pub mod VerdictLaws
 pub mod Claims

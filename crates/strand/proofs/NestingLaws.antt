@@ -1,5 +1,4 @@
 -- Nesting: the arcs that hold the mates of all bases inside them are those that no arc crosses.
--- Assumes nothing.
 use mathlib.Core.Path.{_≡_, refl, sym, ap, _∙_}
 use mathlib.Core.Bool.{Bool, true, false, not}
 use mathlib.Core.List.{List}
@@ -8,10 +7,10 @@ use native.Mathlib.Decide.{decLt, ℕ-discrete}
 use native.Mathlib.Omega.{arith}
 use lib.ListN.{length}
 use lib.Dec.{ltb, leb, eqb}
-use borrow.Author.Tests.{lt-ltb, le-ltb}
-use Rattle.strand.specs.Vocabulary.{nth, some}
+use borrow.Author.Tests.{lt-ltb, le-ltb, leb-false, eqb-true}
+use Rattle.lists.specs.Vocabulary.{nth, some}
 use Rattle.strand.specs.Strands.{isLetter, notLetter, mateOutside, notMutual, crosses, crossedAt, Inside, Paired, Apart, Closes}
-use Rattle.strand.proofs.ListLaws.{some-no, some-none}
+use Rattle.lists.proofs.ListLaws.{not-not, some-no, some-none}
 
 -- ---- the test of two arcs
 
@@ -35,17 +34,17 @@ module _ (a b i j : ℕ) where
 -- ---- what the code found at one position
 
 -- r is the answer of the leaf, and b what the branch knows of it.
-pub stranger : (side : ℕ) (bases : List ℕ) (i : ℕ) (r b : Bool) → r ≡ isLetter side (nth bases i) → not r ≡ b → notLetter side bases i ≡ b
+pub letter-test : (side : ℕ) (bases : List ℕ) (i : ℕ) (r b : Bool) → r ≡ isLetter side (nth bases i) → not r ≡ b → notLetter side bases i ≡ b
 unfolding notLetter
-stranger side bases i r b e h = ap not (sym e) ∙ h
+letter-test side bases i r b e h = ap not (sym e) ∙ h
 
-pub outside : (mates : List ℕ) (i : ℕ) (b : Bool) → leb (length mates) (nth mates i) ≡ b → mateOutside mates i ≡ b
+pub range-test : (mates : List ℕ) (i : ℕ) (b : Bool) → leb (length mates) (nth mates i) ≡ b → mateOutside mates i ≡ b
 unfolding mateOutside
-outside mates i b e = e
+range-test mates i b e = e
 
-pub single : (mates : List ℕ) (i : ℕ) (b : Bool) → not (eqb (nth mates (nth mates i)) i) ≡ b → notMutual mates i ≡ b
+pub mutual-test : (mates : List ℕ) (i : ℕ) (b : Bool) → not (eqb (nth mates (nth mates i)) i) ≡ b → notMutual mates i ≡ b
 unfolding notMutual
-single mates i b e = e
+mutual-test mates i b e = e
 
 -- ---- no crossing, as a test and as a proposition
 
@@ -59,7 +58,8 @@ module _ (mates : List ℕ) (n : ℕ) where
 
   pub apart-uncrossed : Apart (nth mates) n → (i : ℕ) → i < n → crossedAt mates i ≡ false
   unfolding crossedAt
-  apart-uncrossed h i l = some-no (λ k. crosses k (nth mates k) i (nth mates i)) i (λ a u. clear a u (decLt i (nth mates a)) (decLt (nth mates a) (nth mates i)))
+  apart-uncrossed h i l =
+      some-no (λ k. crosses k (nth mates k) i (nth mates i)) i (λ a u. clear a u (decLt i (nth mates a)) (decLt (nth mates a) (nth mates i)))
     where
       clear : (a : ℕ) → a < i → Dec (i < nth mates a) → Dec (nth mates a < nth mates i) → crosses a (nth mates a) i (nth mates i) ≡ false
       clear a u (no x) y = cross-ended a (nth mates a) i (nth mates i) u (omega arith)
@@ -152,3 +152,14 @@ module _ (mates : List ℕ) where
       go false e =
           absurd (h (apart-closes (nth mates) (length mates) I P
           (uncrossed-apart mates (length mates) (λ k u. some-none (crossedAt mates) (length mates) k e u)) i l))
+
+-- ---- mates in range and mutual, as tests and as propositions
+
+module _ (ms : List ℕ) where
+  pub inside-of : ((i : ℕ) → i < length ms → mateOutside ms i ≡ false) → Inside (nth ms) (length ms)
+  unfolding mateOutside
+  inside-of h i l = leb-false (length ms) (nth ms i) (h i l)
+
+  pub paired-of : ((i : ℕ) → i < length ms → notMutual ms i ≡ false) → Paired (nth ms) (length ms)
+  unfolding notMutual
+  paired-of h i l = eqb-true _ _ (not-not _ (h i l))

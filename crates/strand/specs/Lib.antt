@@ -1,4 +1,3 @@
-pub mod Vocabulary
 pub mod Strands
-pub mod Refusals
+pub mod StrandRules
 pub mod Statements

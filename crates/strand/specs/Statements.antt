@@ -1,35 +1,37 @@
--- What is claimed of these definitions, for all lists; `claims`, in proofs/Claims, proves it. Assumes nothing.
+-- What is claimed of these definitions, for all lists; `claims`, in proofs/Claims, proves it.
 use Prim.Native.Nat.{ℕ, _≤_, _<_}
 use mathlib.Core.Path.{_≡_}
 use mathlib.Core.Bool.{Bool, true, false}
 use mathlib.Core.Logic.{_↔_}
 use mathlib.Core.List.{List}
 use lib.ListN.{length}
-use Rattle.strand.specs.declared.Verdict.the-variants.{Accepted}
-use Rattle.strand.specs.Vocabulary.{nth, lowest}
-use Rattle.strand.specs.Strands.{motifSide, moleculeSide, isNested, Nested, Proper}
-use Rattle.strand.specs.Refusals.{strandVerdict, leastLength, greatestLength, checkVerdict, pairVerdict}
+use Rattle.refusals.specs.declared.Verdict.the-variants.{Accepted}
+use Rattle.lists.specs.Vocabulary.{nth, lowest}
+use Rattle.refusals.specs.Rules.{motifSide, moleculeSide}
+use Rattle.strand.specs.declared.Checked.the-variants as checked
+use Rattle.strand.specs.Strands.{isNested, Nested, Proper}
+use Rattle.strand.specs.StrandRules.{strandVerdict, leastMotif, leastMolecule, greatestLength, checkAnswer, pairVerdict}
 
 -- 01, Molecule and motif: the test of the mates passes exactly when they are in range and mutual and no two arcs cross.
 abbrev pub NestedSays : List ℕ → Type 0
 NestedSays mates = (isNested mates ≡ true) ↔ Nested (nth mates) (length mates)
 
--- Rows 1 to 7 let a strand pass exactly when it is proper: a nested strand of letters whose length lies within the limits.
+-- Rules 1 to 7 let a strand pass exactly when it is proper: a nested strand of letters whose length lies within the limits.
 abbrev pub StrandSays : ℕ → ℕ → ℕ → List ℕ → List ℕ → Type 0
 StrandSays side least greatest bases mates =
     (strandVerdict side least greatest bases mates ≡ Accepted) ↔ Proper side least greatest bases mates
 
 -- 01, Check: accepts a nested molecule, of 1 to 4,096 letters, and nothing else.
 abbrev pub CheckSays : List ℕ → List ℕ → Type 0
-CheckSays bases mates = (checkVerdict bases mates ≡ Accepted) ↔ Proper moleculeSide leastLength greatestLength bases mates
+CheckSays bases mates = (checkAnswer bases mates ≡ checked.Nested) ↔ Proper moleculeSide leastMolecule greatestLength bases mates
 
 -- The direct calls go on exactly when motif and molecule are proper.
 abbrev pub PairSays : List ℕ → List ℕ → List ℕ → List ℕ → Type 0
 PairSays p pm q qm =
     (pairVerdict p pm q qm ≡ Accepted)
-    ↔ (Proper motifSide leastLength greatestLength p pm × Proper moleculeSide leastLength greatestLength q qm)
+    ↔ (Proper motifSide leastMotif greatestLength p pm × Proper moleculeSide leastMolecule greatestLength q qm)
 
--- The place that a row names: the test passes there, and nowhere below. It is n where the test passes nowhere.
+-- The place that a rule names: the test passes there, and nowhere below. It is n where the test passes nowhere.
 pub record LowestSays (n : ℕ) (test : ℕ → Bool) : Type 0 where
   pub upto : lowest n test ≤ n
   pub passes : lowest n test < n → test (lowest n test) ≡ true

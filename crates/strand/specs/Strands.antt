@@ -1,11 +1,11 @@
--- Strands: what molecules and motifs are made of, when one is nested and when proper; the letter rule, the sides, and the key of a motif. Assumes nothing.
+-- Strands: what molecules and motifs are made of, when one is nested and when proper; the letter rule, and the key of a motif.
 use Prim.Native.Nat.{ℕ, _+_, _≤_, _<_}
 use mathlib.Core.Path.{_≡_}
 use mathlib.Core.Bool.{Bool, true, not, _&&_, _||_}
 use mathlib.Core.List.{List}
 use lib.Dec.{ltb, leb, eqb}
 use lib.ListN.{length}
-use Rattle.strand.specs.Vocabulary.{nth, some, all, sameList, total}
+use Rattle.lists.specs.Vocabulary.{nth, some, all, sameList, total}
 
 -- A molecule or a motif: bases as bytes, and for each base its mate, which is its own position where the base has no bond.
 pub record Strand : Type 0 where
@@ -22,16 +22,6 @@ sameStrand p q = sameList (p .bases) (q .bases) && sameList (p .mates) (q .mates
 -- The key of a motif: the sum of its base bytes and its mates.
 unfoldable pub key : Strand → ℕ
 key p = total (p .bases) + total (p .mates)
-
--- The sides: 0 for a motif, 1 for a molecule, 2 for neither.
-abbrev pub motifSide : ℕ
-motifSide = 0
-
-abbrev pub moleculeSide : ℕ
-moleculeSide = 1
-
-abbrev pub noSide : ℕ
-noSide = 2
 
 -- A letter is A, C, G or U. 01 has one alphabet for both sides: the side is not read.
 unfoldable pub isLetter : ℕ → ℕ → Bool

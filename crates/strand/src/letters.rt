@@ -1,7 +1,7 @@
 // Letters: which bytes are one, and the lowest base that is none.
 ghost use mathlib.Core.Path.{_≡_};
 ghost use lib.ListN.{length};
-ghost use Rattle.strand.specs.Vocabulary.{lowest};
+ghost use Rattle.lists.specs.Vocabulary.{lowest};
 ghost use Rattle.strand.specs.Strands.{isLetter, notLetter};
 
 // A, C, G or U, on either side.
@@ -21,7 +21,7 @@ fn is_letter(side: u8, b: u8) -> bool
 }
 
 // The lowest position whose base is no letter, or the length.
-pub fn lowest_stranger(side: u8, bases: &[u8]) -> usize
+pub fn lowest_non_letter(side: u8, bases: &[u8]) -> usize
     ensures { λ r. ⌜ r ≡ lowest (length (now (bases .entry))) (notLetter side (now (bases .entry))) ⌝ }
 {
     let mut i = 0;

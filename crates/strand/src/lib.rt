@@ -1,33 +1,27 @@
 // Strands: bases and mates, borrowed as two slices of one length. The check of a strand, with refusals 1 to 7.
+pub mod key;
 pub mod letters;
 pub mod nesting;
 
+use refusals::Refusal;
+use refusals::Verdict;
+use refusals::numbers;
+use refusals::refuse;
 ghost use mathlib.Core.Path.{_≡_};
 ghost use Rattle.strand.specs.Strands.{lettersMatch};
-ghost use Rattle.strand.specs.Refusals.{refusal, strandVerdict, checkVerdict, pairVerdict};
+ghost use Rattle.strand.specs.StrandRules.{strandVerdict, checkAnswer, pairVerdict};
 
-// A refused input: the number of the table's row, the side (0 motif, 1 molecule, 2 neither) and the place.
-pub struct Refusal {
-    pub number: u8,
-    pub side: u8,
-    pub place: usize,
-}
+// The least lengths of a motif and of a molecule, and the greatest length in the direct calls (specs/StrandRules has the same names).
+pub const LEAST_MOTIF: usize = 1;
 
-// What a check comes to.
-pub enum Verdict {
-    Accepted,
+pub const LEAST_MOLECULE: usize = 1;
+
+pub const GREATEST_LENGTH: usize = 4096;
+
+// The answer of check.
+pub enum Checked {
+    Nested,
     Refused(Refusal),
-}
-
-// The refusal with this number, side and place.
-pub fn refuse(number: u8, side: u8, place: usize) -> Verdict
-    ensures { λ r. ⌜ r ≡ refusal number side place ⌝ }
-{
-    Verdict::Refused(Refusal {
-        number,
-        side,
-        place,
-    })
 }
 
 // Whether a base of the motif matches a base of the molecule, as 16 bits: the one place in the code that knows the letter rule.
@@ -50,46 +44,56 @@ pub fn check_strand(bases: &[u8], mates: &[u16], side: u8, least: usize, greates
     ensures { λ r. ⌜ r ≡ strandVerdict side least greatest (now (bases .entry)) (now (mates .entry)) ⌝ }
 {
     if mates.len() != bases.len() {
-        return refuse(1, side, 0);
+        return refuse(numbers::UNEQUAL_LENGTHS, side, 0);
     }
     if bases.len() < least {
-        return refuse(2, side, 0);
+        return refuse(numbers::NO_BASES, side, 0);
     }
     if greatest < bases.len() {
-        return refuse(3, side, 0);
+        return refuse(numbers::TOO_LONG, side, 0);
     }
-    let letter = letters::lowest_stranger(side, bases);
+    let letter = letters::lowest_non_letter(side, bases);
     if letter < bases.len() {
-        return refuse(4, side, letter);
+        return refuse(numbers::BAD_LETTER, side, letter);
     }
     let outside = nesting::lowest_outside(mates);
     if outside < mates.len() {
-        return refuse(5, side, outside);
+        return refuse(numbers::BAD_MATE, side, outside);
     }
     let single = nesting::lowest_not_mutual(mates);
     if single < mates.len() {
-        return refuse(6, side, single);
+        return refuse(numbers::MATES_NOT_MUTUAL, side, single);
     }
     if nesting::arcs_close(mates) {
         return Verdict::Accepted;
     }
-    refuse(7, side, nesting::lowest_crossed(mates))
+    refuse(numbers::ARCS_CROSS, side, nesting::lowest_crossed(mates))
 }
 
 // The call check: whether a molecule is accepted.
-pub fn check(bases: &[u8], mates: &[u16]) -> Verdict
-    ensures { λ r. ⌜ r ≡ checkVerdict (now (bases .entry)) (now (mates .entry)) ⌝ }
+pub fn check(bases: &[u8], mates: &[u16]) -> Checked
+    ensures { λ r. ⌜ r ≡ checkAnswer (now (bases .entry)) (now (mates .entry)) ⌝ }
 {
-    check_strand(bases, mates, 1, 1, 4096)
+    let verdict = check_strand(
+        bases,
+        mates,
+        numbers::MOLECULE,
+        LEAST_MOLECULE,
+        GREATEST_LENGTH,
+    );
+    if let Verdict::Refused(x) = verdict {
+        return Checked::Refused(x);
+    }
+    Checked::Nested
 }
 
 // What length, show and verify refuse first: the motif, then the molecule.
 pub fn check_pair(p: &[u8], pm: &[u16], q: &[u8], qm: &[u16]) -> Verdict
     ensures { λ r. ⌜ r ≡ pairVerdict (now (p .entry)) (now (pm .entry)) (now (q .entry)) (now (qm .entry)) ⌝ }
 {
-    let motif = check_strand(p, pm, 0, 1, 4096);
+    let motif = check_strand(p, pm, numbers::MOTIF, LEAST_MOTIF, GREATEST_LENGTH);
     if let Verdict::Refused(x) = motif {
         return Verdict::Refused(x);
     }
-    check_strand(q, qm, 1, 1, 4096)
+    check_strand(q, qm, numbers::MOLECULE, LEAST_MOLECULE, GREATEST_LENGTH)
 }

@@ -3,7 +3,7 @@ ghost use mathlib.Core.Path.{_≡_};
 ghost use mathlib.Core.Bool.{not};
 ghost use Prim.Native.Nat.{ℕ, _<_};
 ghost use lib.ListN.{length};
-ghost use Rattle.strand.specs.Vocabulary.{nth, some, lowest, Tells};
+ghost use Rattle.lists.specs.Vocabulary.{nth, some, lowest, Tells};
 ghost use Rattle.strand.specs.Strands.{mateOutside, notMutual, crosses, crossedAt, isNested, Inside, Paired, Closes};
 
 // The lowest position whose mate is at or above the length, or the length.

@@ -1,5 +1,5 @@
 // The table's rows 1 to 7, written out word by word.
-use testing::refusal::code;
+use testing::answer::refused;
 use testing::slices::entry_at;
 
 fn letter(b: u8) -> bool {
@@ -64,19 +64,19 @@ fn lowest(row: usize, bases: &[u8], mates: &[u16]) -> usize {
 // The answer for a strand of one side whose length has limits.
 pub fn answer(bases: &[u8], mates: &[u16], side: usize, least: usize, greatest: usize) -> usize {
     if bases.len() != mates.len() {
-        return code(1, side, 0);
+        return refused(1, side, 0);
     }
     if bases.len() < least {
-        return code(2, side, 0);
+        return refused(2, side, 0);
     }
     if bases.len() > greatest {
-        return code(3, side, 0);
+        return refused(3, side, 0);
     }
     let mut row = 4;
     while row < 8 {
         let i = lowest(row, bases, mates);
         if i < bases.len() {
-            return code(row, side, i);
+            return refused(row, side, i);
         }
         row += 1;
     }

@@ -2,12 +2,18 @@
 use super::make;
 use super::naive;
 use super::tell;
+use testing::answer;
 use testing::output::number;
 use testing::output::say;
 use testing::random::next;
 use testing::slices::first;
 use testing::slices::part;
 use testing::slices::set_entry;
+
+// Where the wrong answers are counted, and all: behind the rows that a refusal may have.
+const WRONG: usize = 100;
+
+const ALL: usize = 101;
 
 fn bump(counts: &mut [usize], k: usize) {
     if k < counts.len() {
@@ -17,18 +23,22 @@ fn bump(counts: &mut [usize], k: usize) {
     }
 }
 
-// Counts an answer by the row that it should have (0 to 7), as wrong where it differs (8), and among all (9).
+// Counts an answer by the row that it should have (0 where it is accepted), as wrong where it differs, and among all.
 fn count(counts: &mut [usize], got: usize, want: usize) {
-    bump(counts, 9);
-    bump(counts, want / 100000);
+    bump(counts, ALL);
+    bump(counts, answer::row(want));
     if got != want {
-        bump(counts, 8);
+        bump(counts, WRONG);
     }
 }
 
 fn judge_molecule(bases: &[u8], mates: &[u16], counts: &mut [usize]) {
     let want = naive::answer(bases, mates, 1, 1, 4096);
-    count(counts, tell::code_of(strand::check(bases, mates)), want);
+    count(
+        counts,
+        tell::code_of_check(strand::check(bases, mates)),
+        want,
+    );
 }
 
 fn judge_motif(bases: &[u8], mates: &[u16], least: usize, counts: &mut [usize]) {
@@ -160,9 +170,9 @@ fn report_rows(counts: &[usize]) {
 fn report(name: &[u8], counts: &[usize]) {
     say(name);
     say(b": compared");
-    tell_count(counts, 9);
+    tell_count(counts, ALL);
     say(b", disagreements");
-    tell_count(counts, 8);
+    tell_count(counts, WRONG);
     say(b", accepted and by row");
     report_rows(counts);
     say(b"\n");
@@ -173,7 +183,7 @@ fn family(name: &[u8], kind: usize, times: usize) {
     let mut bases = [0u8; 64];
     let mut mates = [0u16; 64];
     let mut stack = [0u16; 64];
-    let mut counts = [0usize; 10];
+    let mut counts = [0usize; 102];
     rounds(kind, times, &mut bases, &mut mates, &mut stack, &mut counts);
     report(name, &counts);
 }

@@ -1,6 +1,6 @@
 // What the test programs share. It stands on no crate that they test.
+pub mod answer;
 pub mod input;
 pub mod output;
 pub mod random;
-pub mod refusal;
 pub mod slices;

@@ -209,9 +209,7 @@ fn short_pairs() {
     let mut count = 0;
     for _ in 0..rounds(12_000) {
         let n = r.between(1, 60);
-        let q = make::strand(&mut r, n);
-        let m = r.between(1, n + 2);
-        let p = make::motif(&mut r, &q, m);
+        let (p, q) = make::pair(&mut r, n, n + 2);
         count += pair(&mut r, p.lend(), q.lend());
     }
     report("check, length, show, verify on short pairs", count);
@@ -223,9 +221,8 @@ fn long_pairs() {
     let mut count = 0;
     for case in 0..rounds(60) {
         let n = if case % 6 == 0 { LONGEST } else { r.between(61, 1500) };
-        let q = make::strand(&mut r, n);
-        let m = if case % 12 == 0 { r.between(1, n) } else { r.between(1, 200.min(n)) };
-        let p = make::motif(&mut r, &q, m);
+        let most = if case % 12 == 0 { n } else { 200.min(n) };
+        let (p, q) = make::pair(&mut r, n, most);
         count += pair(&mut r, p.lend(), q.lend());
     }
     report("check, length, show, verify on long pairs", count);

@@ -142,6 +142,13 @@ pub fn motif(r: &mut Random, q: &Owned, m: usize) -> Owned {
     p
 }
 
+/// A molecule of n bases, and before it a motif for it, of about 1 to `most`.
+pub fn pair(r: &mut Random, n: usize, most: usize) -> (Owned, Owned) {
+    let q = strand(r, n);
+    let m = r.between(1, most);
+    (motif(r, &q, m), q)
+}
+
 /// Damages a strand so that the given row, 1 to 7, applies to it, as far as its length allows. To damage it by several rows, take the higher first.
 pub fn damage(r: &mut Random, s: &mut Owned, row: u32, most: usize) {
     let n = s.bases.len();

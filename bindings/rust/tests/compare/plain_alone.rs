@@ -25,9 +25,7 @@ fn the_matchers_agree() {
     let mut r = seeded();
     for case in 0..rounds(30_000) {
         let n = if case % 100 == 0 { r.between(1, 300) } else { r.between(1, 14) };
-        let q = make::strand(&mut r, n);
-        let m = r.between(1, n.min(40));
-        let p = make::motif(&mut r, &q, m);
+        let (p, q) = make::pair(&mut r, n, n.min(40));
         lengths_agree(p.lend(), q.lend(), n < 15);
     }
 }
@@ -38,9 +36,7 @@ fn the_verifiers_agree() {
     let mut yes = 0;
     for _ in 0..rounds(50_000) {
         let n = r.between(1, 12);
-        let q = make::strand(&mut r, n);
-        let m = r.between(1, n.min(6));
-        let p = make::motif(&mut r, &q, m);
+        let (p, q) = make::pair(&mut r, n, n.min(6));
         let mut places = vec![0; p.bases.len()];
         Table::new(p.lend(), q.lend()).show(&mut places);
         if r.one_in(2) {

@@ -1,4 +1,4 @@
--- `arcs::mate` meets its contract.
+-- `arcs::mate` meets its contract: the entry read is 16 bits wide.
 use native.Mathlib.Omega.{arith}
 use borrow.Author.Needs.{needs}
 use Rattle.arcs.proofs.mate.Statement.{statement}
@@ -11,7 +11,7 @@ shared-slice-read-result : tie.Need-shared-slice-read-result
 shared-slice-read-result c = search needs
 
 cast-result : tie.Need-cast-result
-cast-result c = omega (arith, (c .shared-slice-known) .given ((c .before .args) .i))
+cast-result c = omega (arith, c .shared-slice-known .given (c .before .args .i))
 
 returns : tie.Need-returns
 returns c = search needs

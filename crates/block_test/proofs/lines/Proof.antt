@@ -1,4 +1,4 @@
--- `block_test::lines` meets its contract.
+-- `block_test::lines` meets its contract. No step fails and the loop ends: the invariant is i ≤ 4096, and that the three slices keep their lengths.
 use borrow.Author.Needs.{needs}
 use Prim.Native.Nat.{_-_, _≤_}
 use native.Mathlib.Omega.{arith}
@@ -8,7 +8,8 @@ use Rattle.block_test.proofs.lines.Statement.{statement}
 use Rattle.block_test.proofs.lines.Tie as tie
 
 abbrev Inv-loop : tie.InvT-loop
-Inv-loop image₀ bytes₀ words₀ i₀ image bytes words i = (i ≤ 4096) × (length image ≡ length image₀) × (length bytes ≡ length bytes₀) × (length words ≡ length words₀)
+Inv-loop image₀ bytes₀ words₀ i₀ image bytes words i = (i ≤ 4096) × (length image ≡ length image₀) × (length bytes ≡ length bytes₀)
+    × (length words ≡ length words₀)
 
 abbrev μ-loop : tie.MeasureT-loop
 μ-loop image₀ bytes₀ words₀ i₀ image bytes words i = 4096 - i
@@ -41,17 +42,4 @@ returns : tie.Need-returns Inv-loop μ-loop
 returns c = tt
 
 pub lines-spec : {M : Type 1} → statement M
-lines-spec =
-    tie.close
-    (tie.spec
-    Inv-loop
-    μ-loop
-    loop-holds
-    run-requires
-    add-i
-    loop-less
-    loop-again
-    same-length
-    same-length-2
-    same-length-3
-    returns)
+lines-spec = tie.close (tie.spec Inv-loop μ-loop loop-holds run-requires add-i loop-less loop-again same-length same-length-2 same-length-3 returns)

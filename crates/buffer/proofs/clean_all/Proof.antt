@@ -1,4 +1,4 @@
--- `buffer::clean_all` meets its contract.
+-- `buffer::clean_all` meets its contract: the blocks passed are cleaned, the rest is as it was.
 use Prim.Native.Nat.{_*_, _+_, _-_, _≤_}
 use borrow.Author.Needs.{needs}
 use lib.ListN.{drop, length}
@@ -19,7 +19,7 @@ abbrev μ-loop : tie.MeasureT-loop
 μ-loop s₀ n d₀ s d = blockCount s₀ - d
 
 loop-holds : tie.Need-loop-holds Inv-loop μ-loop
-loop-holds c = (omega arith, refl, blocks-none cleaned (c .before .args .s .now))
+loop-holds c = (omega arith, refl, blocks-none cleaned _)
 
 mul-a : tie.Need-mul-a Inv-loop μ-loop
 mul-a c = search needs
@@ -47,31 +47,17 @@ loop-less c = search needs
 
 loop-again : tie.Need-loop-again Inv-loop μ-loop
 loop-again c =
-    let e = blocks-more cleaned (c .before .before .before .before .before .loop .d) (c .before .before .before .before .before .before .before .args .s .now) (c .before .before .before .before .before .loop .s) (c .before .before .clean .last .0)
-    (length-blocks cleaned length-cleaned (c .before .before .before .before .before .loop .d) (c .before .before .before .before .before .before .before .args .s .now) (omega arith)) (c .before .before .before .before .before .loop .inv .2) (c .before .before .clean .ensures) in
-    (omega arith, ap length e ∙ blocks-length cleaned length-cleaned (c .before .before .before .before .before .loop .d + 1) (c .before .before .before .before .before .before .before .args .s .now) (omega arith), e)
+    let at-clean = c .before .before in
+    let at-loop = at-clean .before .before .before in
+    let e = blocks-more cleaned _ _ _ _ (length-blocks cleaned length-cleaned _ _ (omega arith)) (at-loop .loop .inv .2) (at-clean .clean .ensures) in
+    (omega arith, ap length e ∙ blocks-length cleaned length-cleaned _ _ (omega arith), e)
 
 same-length : tie.Need-same-length Inv-loop μ-loop
 same-length c = search needs
 
 returns : tie.Need-returns Inv-loop μ-loop
-returns c = blocks-end cleaned (c .before .loop .d) (c .before .before .before .args .s .now) _ (omega arith) (c .before .loop .inv .2)
+returns c = blocks-end cleaned _ _ _ (omega arith) (c .before .loop .inv .2)
 
 pub clean-all-spec : {M : Type 1} → statement M
-clean-all-spec =
-    tie.close
-    (tie.spec
-    Inv-loop
-    μ-loop
-    loop-holds
-    mul-a
-    add-e
-    sub-clean
-    part-clean-start
-    part-clean-end
-    clean-requires
-    add-d
-    loop-less
-    loop-again
-    same-length
-    returns)
+clean-all-spec = tie.close (tie.spec Inv-loop μ-loop loop-holds mul-a add-e sub-clean part-clean-start part-clean-end clean-requires add-d loop-less loop-again
+    same-length returns)

@@ -1,4 +1,4 @@
--- `buffer::forget_all` meets its contract.
+-- `buffer::forget_all` meets its contract: the blocks passed have forgotten d, the rest is as it was.
 use Prim.Native.Nat.{_*_, _+_, _-_, _≤_}
 use borrow.Author.Needs.{needs}
 use lib.ListN.{drop, length}
@@ -19,7 +19,7 @@ abbrev μ-loop : tie.MeasureT-loop
 μ-loop s₀ d n k₀ s k = blockCount s₀ - k
 
 loop-holds : tie.Need-loop-holds Inv-loop μ-loop
-loop-holds c = (omega arith, refl, blocks-none (forgot (c .before .args .d)) (c .before .args .s .now))
+loop-holds c = (omega arith, refl, blocks-none _ _)
 
 mul-a : tie.Need-mul-a Inv-loop μ-loop
 mul-a c = search needs
@@ -47,31 +47,17 @@ loop-less c = search needs
 
 loop-again : tie.Need-loop-again Inv-loop μ-loop
 loop-again c =
-    let e = blocks-more (forgot (c .before .before .before .before .before .before .before .args .d)) (c .before .before .before .before .before .loop .k) (c .before .before .before .before .before .before .before .args .s .now) (c .before .before .before .before .before .loop .s) (c .before .before .forget .last .0)
-    (length-blocks (forgot (c .before .before .before .before .before .before .before .args .d)) (length-forgot (c .before .before .before .before .before .before .before .args .d)) (c .before .before .before .before .before .loop .k) (c .before .before .before .before .before .before .before .args .s .now) (omega arith)) (c .before .before .before .before .before .loop .inv .2) (c .before .before .forget .ensures) in
-    (omega arith, ap length e ∙ blocks-length (forgot (c .before .before .before .before .before .before .before .args .d)) (length-forgot (c .before .before .before .before .before .before .before .args .d)) (c .before .before .before .before .before .loop .k + 1) (c .before .before .before .before .before .before .before .args .s .now) (omega arith), e)
+    let at-forget = c .before .before in
+    let at-loop = at-forget .before .before .before in
+    let e = blocks-more _ _ _ _ _ (length-blocks _ (length-forgot _) _ _ (omega arith)) (at-loop .loop .inv .2) (at-forget .forget .ensures) in
+    (omega arith, ap length e ∙ blocks-length _ (length-forgot _) _ _ (omega arith), e)
 
 same-length : tie.Need-same-length Inv-loop μ-loop
 same-length c = search needs
 
 returns : tie.Need-returns Inv-loop μ-loop
-returns c = blocks-end (forgot (c .before .before .before .args .d)) (c .before .loop .k) (c .before .before .before .args .s .now) _ (omega arith) (c .before .loop .inv .2)
+returns c = blocks-end _ _ _ _ (omega arith) (c .before .loop .inv .2)
 
 pub forget-all-spec : {M : Type 1} → statement M
-forget-all-spec =
-    tie.close
-    (tie.spec
-    Inv-loop
-    μ-loop
-    loop-holds
-    mul-a
-    add-e
-    sub-forget
-    part-forget-start
-    part-forget-end
-    forget-requires
-    add-k
-    loop-less
-    loop-again
-    same-length
-    returns)
+forget-all-spec = tie.close (tie.spec Inv-loop μ-loop loop-holds mul-a add-e sub-forget part-forget-start part-forget-end forget-requires add-k loop-less
+    loop-again same-length returns)

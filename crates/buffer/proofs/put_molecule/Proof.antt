@@ -1,11 +1,11 @@
--- `buffer::put_molecule` meets its contract.
+-- `buffer::put_molecule` meets its contract: what the encoder leaves in the part that is block d stands in its place.
 use borrow.Author.Needs.{needs}
 use Rattle.buffer.proofs.OutcomeLaws as law
 use Rattle.buffer.proofs.put_molecule.Statement.{statement}
 use Rattle.buffer.proofs.put_molecule.Tie as tie
 
 returns : tie.Need-returns
-returns c = law.put-not (c .before .before .before .before .args .d) (c .before .before .before .before .args .bases .now) (c .before .before .before .before .args .mates .now) (c .before .before .before .before .args .buf .now) (c .if1 .taken)
+returns c = law.put-not _ _ _ _ (c .if1 .taken)
 
 mul-a : tie.Need-mul-a
 mul-a c = search needs
@@ -29,18 +29,11 @@ same-length : tie.Need-same-length
 same-length c = search needs
 
 returns-2 : tie.Need-returns-2
-returns-2 c = law.put-done (c .before .before .before .before .before .before .before .before .args .d) (c .before .before .before .before .before .before .before .before .args .bases .now) (c .before .before .before .before .before .before .before .before .args .mates .now) (c .before .before .before .before .before .before .before .before .args .buf .now) (c .before .before .encode-molecule .result) (c .before .before .encode-molecule .last .0) (c .before .before .before .before .if1 .left) (c .before .before .encode-molecule .ensures)
+returns-2 c =
+    let at-encode-molecule = c .before .before in
+    let at-if1 = at-encode-molecule .before .before in
+    law.put-done _ _ _ _ _ _ (at-if1 .if1 .left) (at-encode-molecule .encode-molecule .ensures)
 
 pub put-molecule-spec : {M : Type 1} → statement M
-put-molecule-spec =
-    tie.close
-    (tie.spec
-    returns
-    mul-a
-    add-e
-    sub-encode-molecule
-    part-encode-molecule-start
-    part-encode-molecule-end
-    encode-molecule-requires
-    same-length
-    returns-2)
+put-molecule-spec = tie.close (tie.spec returns mul-a add-e sub-encode-molecule part-encode-molecule-start part-encode-molecule-end encode-molecule-requires
+    same-length returns-2)

@@ -1,11 +1,11 @@
--- `buffer::zero_at` meets its contract.
+-- `buffer::zero_at` meets its contract: zeros stand in the place of block d.
 use borrow.Author.Needs.{needs}
 use Rattle.buffer.proofs.OutcomeLaws as law
 use Rattle.buffer.proofs.zero_at.Statement.{statement}
 use Rattle.buffer.proofs.zero_at.Tie as tie
 
 returns : tie.Need-returns
-returns c = law.zero-not (c .before .before .args .d) (c .before .before .args .buf .now) (c .if1 .taken)
+returns c = law.zero-not _ _ (c .if1 .taken)
 
 mul-a : tie.Need-mul-a
 mul-a c = search needs
@@ -29,18 +29,10 @@ same-length : tie.Need-same-length
 same-length c = search needs
 
 returns-2 : tie.Need-returns-2
-returns-2 c = law.zero-done (c .before .before .before .before .before .before .args .d) (c .before .before .before .before .before .before .args .buf .now) _ (c .before .before .before .before .if1 .left) (law.zero-at-is (c .before .before .before .before .before .before .args .d) (c .before .before .before .before .before .before .args .buf .now) (c .before .before .zero .last .0) (c .before .before .before .before .if1 .left) (c .before .before .zero .ensures))
+returns-2 c =
+    let at-zero = c .before .before in
+    let at-if1 = at-zero .before .before in
+    law.zero-done _ _ _ (at-if1 .if1 .left) (law.zero-at-is _ _ _ (at-if1 .if1 .left) (at-zero .zero .ensures))
 
 pub zero-at-spec : {M : Type 1} → statement M
-zero-at-spec =
-    tie.close
-    (tie.spec
-    returns
-    mul-a
-    add-e
-    sub-zero
-    part-zero-start
-    part-zero-end
-    zero-requires
-    same-length
-    returns-2)
+zero-at-spec = tie.close (tie.spec returns mul-a add-e sub-zero part-zero-start part-zero-end zero-requires same-length returns-2)

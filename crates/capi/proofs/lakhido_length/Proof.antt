@@ -1,7 +1,8 @@
--- `capi::lakhido_length` meets its contract.
+-- `capi::lakhido_length` meets its contract. The answer is that of `matcher::length`, told by `tell_match`; what is kept of the work slice is stated
+-- of the same answer.
 use borrow.Author.Needs.{needs}
 use mathlib.Core.Path.{ap, _∙_}
-use Rattle.capi.specs.Interface.{matchTold}
+use Rattle.capi.specs.Interface.{matchInC}
 use Rattle.capi.proofs.lakhido_length.Statement.{statement}
 use Rattle.capi.proofs.lakhido_length.Tie as tie
 
@@ -15,10 +16,9 @@ same-length : tie.Need-same-length
 same-length c = search needs
 
 returns : tie.Need-returns
-returns c = (
-  c .tell-match .ensures ∙ ap matchTold (c .before .before .before .length .ensures .0),
-  rw (c .before .before .before .length .ensures .0) at (c .before .before .before .length .ensures .1),
-)
+returns c =
+    let at-length = c .before .before .before in
+    (c .tell-match .ensures ∙ ap matchInC (at-length .length .ensures .0), at-length .length .ensures .1)
 
 pub lakhido-length-spec : {M : Type 1} → statement M
 lakhido-length-spec = tie.close (tie.spec length-requires tell-match-requires same-length returns)

@@ -1,7 +1,7 @@
--- `capi::lakhido_query` meets its contract.
+-- `capi::lakhido_query` meets its contract. The outcome is that of `catalog::query`, its answer told by `tell_query`; what is kept of the work slice is
+-- said by the same verdict.
 use borrow.Author.Needs.{needs}
-use mathlib.Core.Path.{ap}
-use Rattle.capi.proofs.SeenLaws.{query-seen, answer-of}
+use Rattle.capi.proofs.InterfaceLaws.{query-in-c}
 use Rattle.capi.proofs.lakhido_query.Statement.{statement}
 use Rattle.capi.proofs.lakhido_query.Tie as tie
 
@@ -21,13 +21,9 @@ same-length-3 : tie.Need-same-length-3
 same-length-3 c = search needs
 
 returns : tie.Need-returns
-returns c = (
-  query-seen (c .tell-query .ensures) (c .before .before .before .before .before .before .before .query .ensures .0),
-  rw (ap answer-of (c .before .before .before .before .before .before .before .query .ensures .0))
-      at (c .before .before .before .before .before .before .before .query .ensures .1),
-)
+returns c =
+    let at-query = c .before .before .before .before .before .before .before in
+    (query-in-c (c .tell-query .ensures) (at-query .query .ensures .0), at-query .query .ensures .1)
 
 pub lakhido-query-spec : {M : Type 1} → statement M
-lakhido-query-spec =
-    tie.close
-    (tie.spec query-requires tell-query-requires same-length same-length-2 same-length-3 returns)
+lakhido-query-spec = tie.close (tie.spec query-requires tell-query-requires same-length same-length-2 same-length-3 returns)

@@ -1,7 +1,8 @@
--- `capi::lakhido_show` meets its contract.
+-- `capi::lakhido_show` meets its contract. The answer is that of `matcher::show`, told by `tell_match`; the places and what is kept of the work slice
+-- are stated of the same answer.
 use borrow.Author.Needs.{needs}
 use mathlib.Core.Path.{ap, _∙_}
-use Rattle.capi.specs.Interface.{matchTold}
+use Rattle.capi.specs.Interface.{matchInC}
 use Rattle.capi.proofs.lakhido_show.Statement.{statement}
 use Rattle.capi.proofs.lakhido_show.Tie as tie
 
@@ -18,11 +19,9 @@ same-length-2 : tie.Need-same-length-2
 same-length-2 c = search needs
 
 returns : tie.Need-returns
-returns c = (
-  c .tell-match .ensures ∙ ap matchTold (c .before .before .before .before .before .show .ensures .0),
-  rw (c .before .before .before .before .before .show .ensures .0) at (c .before .before .before .before .before .show .ensures .1),
-  rw (c .before .before .before .before .before .show .ensures .0) at (c .before .before .before .before .before .show .ensures .2),
-)
+returns c =
+    let at-show = c .before .before .before .before .before in
+    (c .tell-match .ensures ∙ ap matchInC (at-show .show .ensures .0), rw (at-show .show .ensures .0) at (at-show .show .ensures .1), at-show .show .ensures .2)
 
 pub lakhido-show-spec : {M : Type 1} → statement M
 lakhido-show-spec =

@@ -1,10 +1,12 @@
 -- `catalog::add` meets its contract.
+-- A refusal of the judge is the answer, and no buffer is written. Else the writers leave every cache block cleaned and the molecule in
+-- block d, and that is `addOutcome`.
 use borrow.Author.Needs.{needs}
 use mathlib.Core.Path.{sym, _∙_}
 use Rattle.calls.proofs.FactLaws as fact
 use Rattle.strand.specs.Strands.{strandOf}
 use Rattle.calls.proofs.Claims as claim
-use Rattle.catalog.proofs.CallLaws as call
+use Rattle.calls.proofs.CallLaws as call
 use Rattle.buffer.proofs.OutcomeLaws as outcome
 use Rattle.catalog.proofs.add.Statement.{statement}
 use Rattle.catalog.proofs.add.Tie as tie
@@ -22,7 +24,13 @@ same-length-2 : tie.Need-same-length-2
 same-length-2 c = search needs
 
 returns : tie.Need-returns
-returns c = sym (claim.add-refused (c .before .before .before .before .before .before .before .before .before .before .args .catalog .now) (c .before .before .before .before .before .before .before .before .before .before .args .cache .now) (c .before .before .before .before .before .before .before .before .before .before .args .d) (strandOf (c .before .before .before .before .before .before .before .before .before .before .args .bases .now) (c .before .before .before .before .before .before .before .before .before .before .args .mates .now)) (c .before .verdict .given .0 .0) (sym (c .before .before .before .judge-add .ensures) ∙ c .before .verdict .given .1))
+returns c =
+    let at-verdict = c .before in
+    let at-judge-add = at-verdict .before .before in
+    let at-start = at-judge-add .before .before .before .before .before .before .before in
+    sym (claim.add-refused (at-start .args .catalog .now) (at-start .args .cache .now) (at-start .args .d)
+    (strandOf (at-start .args .bases .now) (at-start .args .mates .now)) (at-verdict .verdict .given .0 .0)
+    (sym (at-judge-add .judge-add .ensures) ∙ at-verdict .verdict .given .1))
 
 enum-told : tie.Need-enum-told
 enum-told c = search needs
@@ -40,20 +48,21 @@ same-length-4 : tie.Need-same-length-4
 same-length-4 c = search needs
 
 returns-2 : tie.Need-returns-2
-returns-2 c = let f = fact.add-facts (c .before .before .before .before .before .before .before .before .before .before .before .before .before .before .before .before .before .args .catalog .now) (c .before .before .before .before .before .before .before .before .before .before .before .before .before .before .before .before .before .args .cache .now) (c .before .before .before .before .before .before .before .before .before .before .before .before .before .before .before .before .before .args .d) (strandOf (c .before .before .before .before .before .before .before .before .before .before .before .before .before .before .before .before .before .args .bases .now) (c .before .before .before .before .before .before .before .before .before .before .before .before .before .before .before .before .before .args .mates .now)) (sym (c .before .before .before .before .before .before .before .before .before .before .judge-add .ensures) ∙ c .before .before .before .before .before .before .before .before .enum-told .given .1) in call.add-done (c .before .before .before .before .before .before .before .before .before .before .before .before .before .before .before .before .before .args .catalog .now) (c .before .before .before .before .before .before .before .before .before .before .before .before .before .before .before .before .before .args .cache .now) (c .before .before .before .before .before .before .before .before .before .before .before .before .before .before .before .before .before .args .d) (strandOf (c .before .before .before .before .before .before .before .before .before .before .before .before .before .before .before .before .before .args .bases .now) (c .before .before .before .before .before .before .before .before .before .before .before .before .before .before .before .before .before .args .mates .now)) (c .before .before .put-molecule .last .0) (c .before .before .before .before .before .before .clean-all .last .0) (sym (c .before .before .before .before .before .before .before .before .before .before .judge-add .ensures) ∙ c .before .before .before .before .before .before .before .before .enum-told .given .1) (outcome.molecule-put-there (c .before .before .before .before .before .before .before .before .before .before .before .before .before .before .before .before .before .args .d) (c .before .before .before .before .before .before .before .before .before .before .before .before .before .before .before .before .before .args .bases .now) (c .before .before .before .before .before .before .before .before .before .before .before .before .before .before .before .before .before .args .mates .now) (c .before .before .before .before .before .before .before .before .before .before .before .before .before .before .before .before .before .args .catalog .now) (c .before .before .put-molecule .result) (c .before .before .put-molecule .last .0) (f .0) (f .1 .small) (f .1 .same) (c .before .before .put-molecule .ensures)) (c .before .before .before .before .before .before .clean-all .ensures)
+returns-2 c =
+    let at-put-molecule = c .before .before in
+    let at-clean-all = at-put-molecule .before .before .before .before in
+    let at-enum-told = at-clean-all .before .before in
+    let at-judge-add = at-enum-told .before .before in
+    let at-start = at-judge-add .before .before .before .before .before .before .before in
+    let f = fact.add-facts (at-start .args .catalog .now) (at-start .args .cache .now) (at-start .args .d)
+    (strandOf (at-start .args .bases .now) (at-start .args .mates .now)) (sym (at-judge-add .judge-add .ensures) ∙ at-enum-told .enum-told .given .1) in
+    call.add-done (at-start .args .catalog .now) (at-start .args .cache .now) (at-start .args .d)
+    (strandOf (at-start .args .bases .now) (at-start .args .mates .now)) (at-put-molecule .put-molecule .last .0) (at-clean-all .clean-all .last .0)
+    (sym (at-judge-add .judge-add .ensures) ∙ at-enum-told .enum-told .given .1) (outcome.molecule-put-there (at-start .args .d)
+    (at-start .args .bases .now) (at-start .args .mates .now) (at-start .args .catalog .now) (at-put-molecule .put-molecule .result)
+    (at-put-molecule .put-molecule .last .0) (f .0) (f .1 .small) (f .1 .same) (at-put-molecule .put-molecule .ensures))
+    (at-clean-all .clean-all .ensures)
 
 pub add-spec : {M : Type 1} → statement M
-add-spec =
-    tie.close
-    (tie.spec
-    judge-add-requires
-    enum-known-verdict
-    same-length
-    same-length-2
-    returns
-    enum-told
-    clean-all-requires
-    put-molecule-requires
-    same-length-3
-    same-length-4
-    returns-2)
+add-spec = tie.close (tie.spec judge-add-requires enum-known-verdict same-length same-length-2 returns enum-told clean-all-requires put-molecule-requires
+    same-length-3 same-length-4 returns-2)

@@ -1,9 +1,11 @@
 -- `catalog::remove` meets its contract.
+-- A refusal of the judge is the answer, and no buffer is written. Else the writers leave block d zeroed and every cache block cleaned
+-- and without the number, and that is `removeOutcome`.
 use borrow.Author.Needs.{needs}
 use mathlib.Core.Path.{sym, _∙_}
 use Rattle.calls.proofs.FactLaws as fact
 use Rattle.calls.proofs.Claims as claim
-use Rattle.catalog.proofs.CallLaws as call
+use Rattle.calls.proofs.CallLaws as call
 use Rattle.buffer.proofs.OutcomeLaws as outcome
 use Rattle.catalog.proofs.remove.Statement.{statement}
 use Rattle.catalog.proofs.remove.Tie as tie
@@ -21,7 +23,12 @@ same-length-2 : tie.Need-same-length-2
 same-length-2 c = search needs
 
 returns : tie.Need-returns
-returns c = sym (claim.remove-refused (c .before .before .before .before .before .before .before .before .args .catalog .now) (c .before .before .before .before .before .before .before .before .args .cache .now) (c .before .before .before .before .before .before .before .before .args .d) (c .before .verdict .given .0 .0) (sym (c .before .before .before .judge-remove .ensures) ∙ c .before .verdict .given .1))
+returns c =
+    let at-verdict = c .before in
+    let at-judge-remove = at-verdict .before .before in
+    let at-start = at-judge-remove .before .before .before .before .before in
+    sym (claim.remove-refused (at-start .args .catalog .now) (at-start .args .cache .now) (at-start .args .d) (at-verdict .verdict .given .0 .0)
+    (sym (at-judge-remove .judge-remove .ensures) ∙ at-verdict .verdict .given .1))
 
 enum-told : tie.Need-enum-told
 enum-told c = search needs
@@ -42,21 +49,20 @@ same-length-4 : tie.Need-same-length-4
 same-length-4 c = search needs
 
 returns-2 : tie.Need-returns-2
-returns-2 c = call.remove-done (c .before .before .before .before .before .before .before .before .before .before .before .before .before .before .before .before .before .before .before .args .catalog .now) (c .before .before .before .before .before .before .before .before .before .before .before .before .before .before .before .before .before .before .before .args .cache .now) (c .before .before .before .before .before .before .before .before .before .before .before .before .before .before .before .before .before .before .before .args .d) (c .before .before .before .before .before .before .zero-at .last .0) (c .before .before .before .before .before .before .before .before .before .before .clean-all .last .0) (c .before .before .forget-all .last .0) (sym (c .before .before .before .before .before .before .before .before .before .before .before .before .before .before .judge-remove .ensures) ∙ c .before .before .before .before .before .before .before .before .before .before .before .before .enum-told .given .1) (outcome.zero-put-there (c .before .before .before .before .before .before .before .before .before .before .before .before .before .before .before .before .before .before .before .args .d) (c .before .before .before .before .before .before .before .before .before .before .before .before .before .before .before .before .before .before .before .args .catalog .now) (c .before .before .before .before .before .before .zero-at .result) (c .before .before .before .before .before .before .zero-at .last .0) (fact.remove-facts (c .before .before .before .before .before .before .before .before .before .before .before .before .before .before .before .before .before .before .before .args .catalog .now) (c .before .before .before .before .before .before .before .before .before .before .before .before .before .before .before .before .before .before .before .args .cache .now) (c .before .before .before .before .before .before .before .before .before .before .before .before .before .before .before .before .before .before .before .args .d) (sym (c .before .before .before .before .before .before .before .before .before .before .before .before .before .before .judge-remove .ensures) ∙ c .before .before .before .before .before .before .before .before .before .before .before .before .enum-told .given .1) .0) (c .before .before .before .before .before .before .zero-at .ensures)) (c .before .before .before .before .before .before .before .before .before .before .clean-all .ensures) (c .before .before .forget-all .ensures)
+returns-2 c =
+    let at-forget-all = c .before .before in
+    let at-zero-at = at-forget-all .before .before .before .before in
+    let at-clean-all = at-zero-at .before .before .before .before in
+    let at-enum-told = at-clean-all .before .before in
+    let at-judge-remove = at-enum-told .before .before in
+    let at-start = at-judge-remove .before .before .before .before .before in
+    call.remove-done (at-start .args .catalog .now) (at-start .args .cache .now) (at-start .args .d) (at-zero-at .zero-at .last .0)
+    (at-clean-all .clean-all .last .0) (at-forget-all .forget-all .last .0)
+    (sym (at-judge-remove .judge-remove .ensures) ∙ at-enum-told .enum-told .given .1) (outcome.zero-put-there (at-start .args .d)
+    (at-start .args .catalog .now) (at-zero-at .zero-at .result) (at-zero-at .zero-at .last .0) (fact.remove-facts (at-start .args .catalog .now)
+    (at-start .args .cache .now) (at-start .args .d) (sym (at-judge-remove .judge-remove .ensures) ∙ at-enum-told .enum-told .given .1) .0)
+    (at-zero-at .zero-at .ensures)) (at-clean-all .clean-all .ensures) (at-forget-all .forget-all .ensures)
 
 pub remove-spec : {M : Type 1} → statement M
-remove-spec =
-    tie.close
-    (tie.spec
-    judge-remove-requires
-    enum-known-verdict
-    same-length
-    same-length-2
-    returns
-    enum-told
-    clean-all-requires
-    zero-at-requires
-    forget-all-requires
-    same-length-3
-    same-length-4
-    returns-2)
+remove-spec = tie.close (tie.spec judge-remove-requires enum-known-verdict same-length same-length-2 returns enum-told clean-all-requires zero-at-requires
+    forget-all-requires same-length-3 same-length-4 returns-2)

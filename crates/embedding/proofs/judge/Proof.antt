@@ -1,4 +1,4 @@
--- `embedding::judge` meets its contract.
+-- `embedding::judge` meets its contract: each return is the rule that is the first to refuse, or none.
 use borrow.Author.Needs.{needs}
 use mathlib.Core.Path.{sym, _∙_}
 use Rattle.embedding.proofs.VerifyLaws.{judged-pair, judged-count, judged-pass}
@@ -12,7 +12,10 @@ enum-known-pair : tie.Need-enum-known-pair
 enum-known-pair c = search needs
 
 returns : tie.Need-returns
-returns c = judged-pair _ _ _ _ _ _ (sym (c .before .before .before .check-pair .ensures) ∙ c .before .pair .given .1)
+returns c =
+    let at-pair = c .before in
+    let at-check-pair = at-pair .before .before in
+    judged-pair _ _ _ _ _ _ (sym (at-check-pair .check-pair .ensures) ∙ at-pair .pair .given .1)
 
 enum-told : tie.Need-enum-told
 enum-told c = search needs
@@ -21,19 +24,17 @@ refuse-requires : tie.Need-refuse-requires
 refuse-requires c κs = search needs
 
 returns-2 : tie.Need-returns-2
-returns-2 c = c .refuse .ensures ∙ judged-count _ _ _ _ _ (sym (c .before .before .before .before .check-pair .ensures) ∙ c .before .before .enum-told .given .1) (c .before .if1 .taken)
+returns-2 c =
+    let at-if1 = c .before in
+    let at-enum-told = at-if1 .before in
+    let at-check-pair = at-enum-told .before .before in
+    c .refuse .ensures ∙ judged-count _ _ _ _ _ (sym (at-check-pair .check-pair .ensures) ∙ at-enum-told .enum-told .given .1) (at-if1 .if1 .taken)
 
 returns-3 : tie.Need-returns-3
-returns-3 c = judged-pass _ _ _ _ _ (sym (c .before .before .before .check-pair .ensures) ∙ c .before .enum-told .given .1) (c .if1 .left)
+returns-3 c =
+    let at-enum-told = c .before in
+    let at-check-pair = at-enum-told .before .before in
+    judged-pass _ _ _ _ _ (sym (at-check-pair .check-pair .ensures) ∙ at-enum-told .enum-told .given .1) (c .if1 .left)
 
 pub judge-spec : {M : Type 1} → statement M
-judge-spec =
-    tie.close
-    (tie.spec
-    check-pair-requires
-    enum-known-pair
-    returns
-    enum-told
-    refuse-requires
-    returns-2
-    returns-3)
+judge-spec = tie.close (tie.spec check-pair-requires enum-known-pair returns enum-told refuse-requires returns-2 returns-3)

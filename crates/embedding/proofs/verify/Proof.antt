@@ -1,4 +1,4 @@
--- `embedding::verify` meets its contract.
+-- `embedding::verify` meets its contract: the verdict refuses, or the test of the places tells whether they are an embedding.
 use borrow.Author.Needs.{needs}
 use mathlib.Core.Path.{sym, _∙_}
 use Rattle.embedding.proofs.VerifyLaws.{accepted-facts, answer-refused, answer-yes, answer-no}
@@ -12,7 +12,10 @@ enum-known-verdict : tie.Need-enum-known-verdict
 enum-known-verdict c = search needs
 
 returns : tie.Need-returns
-returns c = answer-refused _ _ _ _ _ _ (sym (c .before .before .before .judge .ensures) ∙ c .before .verdict .given .1)
+returns c =
+    let at-verdict = c .before in
+    let at-judge = at-verdict .before .before in
+    answer-refused _ _ _ _ _ _ (sym (at-judge .judge .ensures) ∙ at-verdict .verdict .given .1)
 
 enum-told : tie.Need-enum-told
 enum-told c = search needs
@@ -21,19 +24,18 @@ is-embedding-requires : tie.Need-is-embedding-requires
 is-embedding-requires c κs = accepted-facts _ _ _ _ _ (sym (c .before .before .judge .ensures) ∙ c .enum-told .given .1)
 
 returns-2 : tie.Need-returns-2
-returns-2 c = answer-yes _ _ _ _ _ (sym (c .before .before .before .before .judge .ensures) ∙ c .before .before .enum-told .given .1) (c .before .is-embedding .ensures .yes (c .if1 .taken))
+returns-2 c =
+    let at-is-embedding = c .before in
+    let at-enum-told = at-is-embedding .before in
+    let at-judge = at-enum-told .before .before in
+    answer-yes _ _ _ _ _ (sym (at-judge .judge .ensures) ∙ at-enum-told .enum-told .given .1) (at-is-embedding .is-embedding .ensures .yes (c .if1 .taken))
 
 returns-3 : tie.Need-returns-3
-returns-3 c = answer-no _ _ _ _ _ (sym (c .before .before .before .before .judge .ensures) ∙ c .before .before .enum-told .given .1) (c .before .is-embedding .ensures .no (c .if1 .left))
+returns-3 c =
+    let at-is-embedding = c .before in
+    let at-enum-told = at-is-embedding .before in
+    let at-judge = at-enum-told .before .before in
+    answer-no _ _ _ _ _ (sym (at-judge .judge .ensures) ∙ at-enum-told .enum-told .given .1) (at-is-embedding .is-embedding .ensures .no (c .if1 .left))
 
 pub verify-spec : {M : Type 1} → statement M
-verify-spec =
-    tie.close
-    (tie.spec
-    judge-requires
-    enum-known-verdict
-    returns
-    enum-told
-    is-embedding-requires
-    returns-2
-    returns-3)
+verify-spec = tie.close (tie.spec judge-requires enum-known-verdict returns enum-told is-embedding-requires returns-2 returns-3)

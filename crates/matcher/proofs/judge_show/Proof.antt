@@ -1,4 +1,4 @@
--- `matcher::judge_show` meets its contract.
+-- `matcher::judge_show` meets its contract: each return is the rule that is the first to refuse, or none.
 use borrow.Author.Needs.{needs}
 use native.Mathlib.Omega.{arith}
 use mathlib.Core.Path.{sym, _∙_}
@@ -13,7 +13,10 @@ enum-known-pair : tie.Need-enum-known-pair
 enum-known-pair c = search needs
 
 returns : tie.Need-returns
-returns c = show-pair (c .before .before .before .before .before .before .before .before .args .p .now) (c .before .before .before .before .before .before .before .before .args .pm .now) (c .before .before .before .before .before .before .before .before .args .q .now) (c .before .before .before .before .before .before .before .before .args .qm .now) (c .before .before .before .before .before .before .before .before .args .work) (c .before .before .before .before .before .before .before .before .args .places) _ (sym (c .before .before .before .check-pair .ensures) ∙ c .before .pair .given .1)
+returns c =
+    let at-pair = c .before in
+    let at-check-pair = at-pair .before .before in
+    show-pair _ _ _ _ _ _ _ (sym (at-check-pair .check-pair .ensures) ∙ at-pair .pair .given .1)
 
 enum-told : tie.Need-enum-told
 enum-told c = search needs
@@ -22,43 +25,52 @@ refuse-requires : tie.Need-refuse-requires
 refuse-requires c κs = search needs
 
 returns-2 : tie.Need-returns-2
-returns-2 c = c .refuse .ensures ∙ show-places (c .before .before .before .before .before .before .before .before .before .args .p .now) (c .before .before .before .before .before .before .before .before .before .args .pm .now) (c .before .before .before .before .before .before .before .before .before .args .q .now) (c .before .before .before .before .before .before .before .before .before .args .qm .now) (c .before .before .before .before .before .before .before .before .before .args .work) (c .before .before .before .before .before .before .before .before .before .args .places) (sym (c .before .before .before .before .check-pair .ensures) ∙ c .before .before .enum-told .given .1) (c .before .if1 .taken)
+returns-2 c =
+    let at-if1 = c .before in
+    let at-enum-told = at-if1 .before in
+    let at-check-pair = at-enum-told .before .before in
+    c .refuse .ensures ∙ show-places _ _ _ _ _ _ (sym (at-check-pair .check-pair .ensures) ∙ at-enum-told .enum-told .given .1) (at-if1 .if1 .taken)
 
 add-if2 : tie.Need-add-if2
 add-if2 c = search needs
 
 mul-if2 : tie.Need-mul-if2
-mul-if2 c = let S = pair-searchable (c .before .before .before .before .before .before .before .before .args .p .now) (c .before .before .before .before .before .before .before .before .args .pm .now) (c .before .before .before .before .before .before .before .before .args .q .now) (c .before .before .before .before .before .before .before .before .args .qm .now) (sym (c .before .before .before .check-pair .ensures) ∙ c .before .enum-told .given .1) in omega (arith, S .window .small, S .short)
+mul-if2 c =
+    let at-enum-told = c .before in
+    let at-check-pair = at-enum-told .before .before in
+    let S = pair-searchable _ _ _ _ (sym (at-check-pair .check-pair .ensures) ∙ at-enum-told .enum-told .given .1) in omega (arith, S .window .small, S .short)
 
 mul-if2-2 : tie.Need-mul-if2-2
-mul-if2-2 c = let S = pair-searchable (c .before .before .before .before .before .before .before .before .args .p .now) (c .before .before .before .before .before .before .before .before .args .pm .now) (c .before .before .before .before .before .before .before .before .args .q .now) (c .before .before .before .before .before .before .before .before .args .qm .now) (sym (c .before .before .before .check-pair .ensures) ∙ c .before .enum-told .given .1) in omega (arith, S .window .small, S .short)
+mul-if2-2 c =
+    let at-enum-told = c .before in
+    let at-check-pair = at-enum-told .before .before in
+    let S = pair-searchable _ _ _ _ (sym (at-check-pair .check-pair .ensures) ∙ at-enum-told .enum-told .given .1) in omega (arith, S .window .small, S .short)
 
 add-if2-2 : tie.Need-add-if2-2
-add-if2-2 c = let S = pair-searchable (c .before .before .before .before .before .before .before .before .args .p .now) (c .before .before .before .before .before .before .before .before .args .pm .now) (c .before .before .before .before .before .before .before .before .args .q .now) (c .before .before .before .before .before .before .before .before .args .qm .now) (sym (c .before .before .before .check-pair .ensures) ∙ c .before .enum-told .given .1) in omega (arith, S .window .small, S .short)
+add-if2-2 c =
+    let at-enum-told = c .before in
+    let at-check-pair = at-enum-told .before .before in
+    let S = pair-searchable _ _ _ _ (sym (at-check-pair .check-pair .ensures) ∙ at-enum-told .enum-told .given .1) in omega (arith, S .window .small, S .short)
 
 refuse-requires-2 : tie.Need-refuse-requires-2
 refuse-requires-2 c κs = search needs
 
 returns-3 : tie.Need-returns-3
-returns-3 c = c .refuse2 .ensures ∙ show-work (c .before .before .before .before .before .before .before .before .before .before .args .p .now) (c .before .before .before .before .before .before .before .before .before .before .args .pm .now) (c .before .before .before .before .before .before .before .before .before .before .args .q .now) (c .before .before .before .before .before .before .before .before .before .before .args .qm .now) (c .before .before .before .before .before .before .before .before .before .before .args .work) (c .before .before .before .before .before .before .before .before .before .before .args .places) (sym (c .before .before .before .before .before .check-pair .ensures) ∙ c .before .before .before .enum-told .given .1) (c .before .before .if1 .left) (c .before .if2 .taken)
+returns-3 c =
+    let at-if2 = c .before in
+    let at-if1 = at-if2 .before in
+    let at-enum-told = at-if1 .before in
+    let at-check-pair = at-enum-told .before .before in
+    c .refuse2 .ensures
+    ∙ show-work _ _ _ _ _ _ (sym (at-check-pair .check-pair .ensures) ∙ at-enum-told .enum-told .given .1) (at-if1 .if1 .left) (at-if2 .if2 .taken)
 
 returns-4 : tie.Need-returns-4
-returns-4 c = show-accepts (c .before .before .before .before .before .before .before .before .before .args .p .now) (c .before .before .before .before .before .before .before .before .before .args .pm .now) (c .before .before .before .before .before .before .before .before .before .args .q .now) (c .before .before .before .before .before .before .before .before .before .args .qm .now) (c .before .before .before .before .before .before .before .before .before .args .work) (c .before .before .before .before .before .before .before .before .before .args .places) (sym (c .before .before .before .before .check-pair .ensures) ∙ c .before .before .enum-told .given .1) (c .before .if1 .left) (c .if2 .left)
+returns-4 c =
+    let at-if1 = c .before in
+    let at-enum-told = at-if1 .before in
+    let at-check-pair = at-enum-told .before .before in
+    show-accepts _ _ _ _ _ _ (sym (at-check-pair .check-pair .ensures) ∙ at-enum-told .enum-told .given .1) (at-if1 .if1 .left) (c .if2 .left)
 
 pub judge-show-spec : {M : Type 1} → statement M
-judge-show-spec =
-    tie.close
-    (tie.spec
-    check-pair-requires
-    enum-known-pair
-    returns
-    enum-told
-    refuse-requires
-    returns-2
-    add-if2
-    mul-if2
-    mul-if2-2
-    add-if2-2
-    refuse-requires-2
-    returns-3
-    returns-4)
+judge-show-spec = tie.close (tie.spec check-pair-requires enum-known-pair returns enum-told refuse-requires returns-2 add-if2 mul-if2 mul-if2-2 add-if2-2
+    refuse-requires-2 returns-3 returns-4)

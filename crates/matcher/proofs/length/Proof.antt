@@ -1,8 +1,8 @@
--- `matcher::length` meets its contract.
+-- `matcher::length` meets its contract: on a refusal nothing was touched; accepted strands can be searched, and the search gives the longest.
 use borrow.Author.Needs.{needs}
-use mathlib.Core.Path.{refl, sym, _∙_}
-use lib.ListN.{length}
-use Rattle.matcher.specs.Answers.{lengthAnswer, WorkKept}
+use mathlib.Core.Path.{sym, _∙_}
+use Rattle.matcher.specs.Answers.{lengthAnswer}
+use Rattle.refusals.proofs.RuleLaws.{work-refused, work-accepted}
 use Rattle.matcher.proofs.CallLaws.{answer-refused, answer-prefix, length-facts}
 use Rattle.matcher.proofs.length.Statement.{statement}
 use Rattle.matcher.proofs.length.Tie as tie
@@ -14,30 +14,36 @@ enum-known-verdict : tie.Need-enum-known-verdict
 enum-known-verdict c = search needs
 
 returns : tie.Need-returns
-unfolding lengthAnswer WorkKept
-returns c = (answer-refused _ _ _ (sym (c .before .before .before .judge-length .ensures) ∙ c .before .verdict .given .1), refl)
+unfolding lengthAnswer
+returns c =
+    let at-verdict = c .before in
+    let at-judge-length = at-verdict .before .before in (
+      answer-refused _ _ _ (sym (at-judge-length .judge-length .ensures) ∙ at-verdict .verdict .given .1),
+      work-refused _ _ _ (sym (at-judge-length .judge-length .ensures) ∙ at-verdict .verdict .given .1),
+    )
 
 enum-told : tie.Need-enum-told
 enum-told c = search needs
 
 prefix-length-requires : tie.Need-prefix-length-requires
-prefix-length-requires c κs = length-facts (c .before .before .before .before .before .before .before .before .before .args .p .now) (c .before .before .before .before .before .before .before .before .before .args .pm .now) (c .before .before .before .before .before .before .before .before .before .args .q .now) (c .before .before .before .before .before .before .before .before .before .args .qm .now) (length (c .before .before .before .before .before .before .before .before .before .args .work .now)) (sym (c .before .before .before .judge-length .ensures) ∙ c .before .enum-told .given .1)
+prefix-length-requires c κs =
+    let at-enum-told = c .before in
+    let at-judge-length = at-enum-told .before .before in
+    length-facts _ _ _ _ _ (sym (at-judge-length .judge-length .ensures) ∙ at-enum-told .enum-told .given .1)
 
 same-length : tie.Need-same-length
 same-length c = search needs
 
 returns-2 : tie.Need-returns-2
-unfolding lengthAnswer WorkKept
-returns-2 c = (answer-prefix _ _ _ (sym (c .before .before .before .before .before .before .judge-length .ensures) ∙ c .before .before .before .before .enum-told .given .1) (c .before .before .prefix-length .ensures), c .before .before .prefix-length .kept .1 .1 .1 .1 .0)
+unfolding lengthAnswer
+returns-2 c =
+    let at-prefix-length = c .before .before in
+    let at-enum-told = at-prefix-length .before .before in
+    let at-judge-length = at-enum-told .before .before in (
+      answer-prefix _ _ _ (sym (at-judge-length .judge-length .ensures) ∙ at-enum-told .enum-told .given .1) (at-prefix-length .prefix-length .ensures),
+      work-accepted _ _ _ (sym (at-judge-length .judge-length .ensures) ∙ at-enum-told .enum-told .given .1)
+          (at-prefix-length .prefix-length .kept .1 .1 .1 .1 .0),
+    )
 
 pub length-spec : {M : Type 1} → statement M
-length-spec =
-    tie.close
-    (tie.spec
-    judge-length-requires
-    enum-known-verdict
-    returns
-    enum-told
-    prefix-length-requires
-    same-length
-    returns-2)
+length-spec = tie.close (tie.spec judge-length-requires enum-known-verdict returns enum-told prefix-length-requires same-length returns-2)

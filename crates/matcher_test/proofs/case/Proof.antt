@@ -1,4 +1,4 @@
--- `matcher_test::case` meets its contract.
+-- `matcher_test::case` meets its contract. No step fails and the loop ends: the invariant is i ≤ n.
 use native.Mathlib.Omega.{arith}
 use Prim.Native.Nat.{_-_, _≤_}
 use Rattle.matcher_test.proofs.case.Statement.{statement}
@@ -32,15 +32,4 @@ returns : tie.Need-returns Inv-loop μ-loop
 returns c = tt
 
 pub case-spec : {M : Type 1} → statement M
-case-spec =
-    tie.close
-    (tie.spec
-    Inv-loop
-    μ-loop
-    rounds-requires
-    loop-holds
-    both-requires
-    add-i
-    loop-less
-    loop-again
-    returns)
+case-spec = tie.close (tie.spec Inv-loop μ-loop rounds-requires loop-holds both-requires add-i loop-less loop-again returns)

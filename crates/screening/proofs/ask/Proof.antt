@@ -1,44 +1,25 @@
--- `screening::ask` meets its contract.
+-- `screening::ask` meets its contract. A zeroed cache of 512 bytes is the empty block, so the outcome of `ask_lent` is that of a fresh cache.
 use borrow.Author.Needs.{needs}
 use native.Mathlib.Omega.{arith}
-use mathlib.Core.Path.{sym}
-use lib.ListN.{length, take}
-use lib.Seq.{length-take-le}
+use lib.ListN.{length}
 use Rattle.calls.specs.Motifs.{embeds}
 use Rattle.screening.proofs.ScreenLaws as law
-use Rattle.codec.proofs.OutcomeLaws as outcome
 use Rattle.screening.proofs.ask.Statement.{statement}
 use Rattle.screening.proofs.ask.Tie as tie
 
-slice-aggregate-decode-molecule : tie.Need-slice-aggregate-decode-molecule
-slice-aggregate-decode-molecule c = sym (length-take-le 512 (c .before .before .before .before .before .before .before .args .input .now) (omega (arith, law.input-few (c .before .before .before .before .before .before .before .args .input .now) (c .before .before .before .before .before .before .before .pre .0) .0)))
+zero-requires : tie.Need-zero-requires
+zero-requires c κs = search needs
 
-decode-molecule-requires : tie.Need-decode-molecule-requires
-decode-molecule-requires c κs = search needs
+slice-aggregate-ask-lent : tie.Need-slice-aggregate-ask-lent
+slice-aggregate-ask-lent c = search needs
 
-sub-query : tie.Need-sub-query
-sub-query c = omega (arith, law.input-few (c .before .before .before .before .before .before .before .before .before .before .before .before .before .before .args .input .now) (c .before .before .before .before .before .before .before .before .before .before .before .before .before .before .pre .0) .0)
+slice-aggregate-ask-lent-2 : tie.Need-slice-aggregate-ask-lent-2
+slice-aggregate-ask-lent-2 c = search needs
 
-part-query-start : tie.Need-part-query-start
-part-query-start c = omega (arith, law.input-few (c .before .before .before .before .before .before .before .before .before .before .before .before .before .before .args .input .now) (c .before .before .before .before .before .before .before .before .before .before .before .before .before .before .pre .0) .0)
-
-part-query-end : tie.Need-part-query-end
-part-query-end c = search needs
-
-slice-reshare-prefix-query : tie.Need-slice-reshare-prefix-query
-slice-reshare-prefix-query c = let f = outcome.decoded-there (take 512 (c .before .before .before .before .before .before .before .before .before .before .before .before .before .before .before .before .args .input .now)) (c .before .before .before .before .before .before .before .before .before .before .before .before .before .before .before .before .args .bases .now) (c .before .before .before .before .before .before .before .before .before .before .before .before .before .before .before .before .args .mates .now) (c .before .before .before .before .before .before .decode-molecule .result) (c .before .before .before .before .before .before .decode-molecule .last .1 .0) (c .before .before .before .before .before .before .decode-molecule .last .1 .1 .0) (law.motif-sound (take 512 (c .before .before .before .before .before .before .before .before .before .before .before .before .before .before .before .before .args .input .now)) (c .before .before .before .before .before .before .before .before .before .before .before .before .before .before .before .before .pre .1 .0)) (c .before .before .before .before .before .before .before .before .before .before .before .before .before .before .before .before .pre .1 .1 .0) (c .before .before .before .before .before .before .before .before .before .before .before .before .before .before .before .before .pre .1 .1 .1) (c .before .before .before .before .before .before .decode-molecule .ensures) in omega (arith, law.motif-fits (take 512 (c .before .before .before .before .before .before .before .before .before .before .before .before .before .before .before .before .args .input .now)) (c .before .before .before .before .before .before .decode-molecule .result) (c .before .before .before .before .before .before .before .before .before .before .before .before .before .before .before .before .pre .1 .0) (f .0), c .before .before .before .before .before .before .before .before .before .before .before .before .before .before .before .before .pre .1 .1 .0, c .before .before .before .before .before .before .decode-molecule .kept .1 .0)
-
-slice-aggregate-query : tie.Need-slice-aggregate-query
-slice-aggregate-query c = let f = outcome.decoded-there (take 512 (c .before .before .before .before .before .before .before .before .before .before .before .before .before .before .before .before .before .args .input .now)) (c .before .before .before .before .before .before .before .before .before .before .before .before .before .before .before .before .before .args .bases .now) (c .before .before .before .before .before .before .before .before .before .before .before .before .before .before .before .before .before .args .mates .now) (c .before .before .before .before .before .before .before .decode-molecule .result) (c .before .before .before .before .before .before .before .decode-molecule .last .1 .0) (c .before .before .before .before .before .before .before .decode-molecule .last .1 .1 .0) (law.motif-sound (take 512 (c .before .before .before .before .before .before .before .before .before .before .before .before .before .before .before .before .before .args .input .now)) (c .before .before .before .before .before .before .before .before .before .before .before .before .before .before .before .before .before .pre .1 .0)) (c .before .before .before .before .before .before .before .before .before .before .before .before .before .before .before .before .before .pre .1 .1 .0) (c .before .before .before .before .before .before .before .before .before .before .before .before .before .before .before .before .before .pre .1 .1 .1) (c .before .before .before .before .before .before .before .decode-molecule .ensures) in sym (length-take-le (c .before .before .before .before .before .before .before .decode-molecule .result) (c .before .before .before .before .before .before .before .decode-molecule .last .1 .0) (omega (arith, law.motif-fits (take 512 (c .before .before .before .before .before .before .before .before .before .before .before .before .before .before .before .before .before .args .input .now)) (c .before .before .before .before .before .before .before .decode-molecule .result) (c .before .before .before .before .before .before .before .before .before .before .before .before .before .before .before .before .before .pre .1 .0) (f .0), c .before .before .before .before .before .before .before .before .before .before .before .before .before .before .before .before .before .pre .1 .1 .0, c .before .before .before .before .before .before .before .decode-molecule .kept .1 .0)))
-
-slice-reshare-prefix-query-2 : tie.Need-slice-reshare-prefix-query-2
-slice-reshare-prefix-query-2 c = let f = outcome.decoded-there (take 512 (c .before .before .before .before .before .before .before .before .before .before .before .before .before .before .before .before .before .args .input .now)) (c .before .before .before .before .before .before .before .before .before .before .before .before .before .before .before .before .before .args .bases .now) (c .before .before .before .before .before .before .before .before .before .before .before .before .before .before .before .before .before .args .mates .now) (c .before .before .before .before .before .before .before .decode-molecule .result) (c .before .before .before .before .before .before .before .decode-molecule .last .1 .0) (c .before .before .before .before .before .before .before .decode-molecule .last .1 .1 .0) (law.motif-sound (take 512 (c .before .before .before .before .before .before .before .before .before .before .before .before .before .before .before .before .before .args .input .now)) (c .before .before .before .before .before .before .before .before .before .before .before .before .before .before .before .before .before .pre .1 .0)) (c .before .before .before .before .before .before .before .before .before .before .before .before .before .before .before .before .before .pre .1 .1 .0) (c .before .before .before .before .before .before .before .before .before .before .before .before .before .before .before .before .before .pre .1 .1 .1) (c .before .before .before .before .before .before .before .decode-molecule .ensures) in omega (arith, law.motif-fits (take 512 (c .before .before .before .before .before .before .before .before .before .before .before .before .before .before .before .before .before .args .input .now)) (c .before .before .before .before .before .before .before .decode-molecule .result) (c .before .before .before .before .before .before .before .before .before .before .before .before .before .before .before .before .before .pre .1 .0) (f .0), c .before .before .before .before .before .before .before .before .before .before .before .before .before .before .before .before .before .pre .1 .1 .1, c .before .before .before .before .before .before .before .decode-molecule .kept .1 .1 .0)
-
-slice-aggregate-query-2 : tie.Need-slice-aggregate-query-2
-slice-aggregate-query-2 c = let f = outcome.decoded-there (take 512 (c .before .before .before .before .before .before .before .before .before .before .before .before .before .before .before .before .before .before .args .input .now)) (c .before .before .before .before .before .before .before .before .before .before .before .before .before .before .before .before .before .before .args .bases .now) (c .before .before .before .before .before .before .before .before .before .before .before .before .before .before .before .before .before .before .args .mates .now) (c .before .before .before .before .before .before .before .before .decode-molecule .result) (c .before .before .before .before .before .before .before .before .decode-molecule .last .1 .0) (c .before .before .before .before .before .before .before .before .decode-molecule .last .1 .1 .0) (law.motif-sound (take 512 (c .before .before .before .before .before .before .before .before .before .before .before .before .before .before .before .before .before .before .args .input .now)) (c .before .before .before .before .before .before .before .before .before .before .before .before .before .before .before .before .before .before .pre .1 .0)) (c .before .before .before .before .before .before .before .before .before .before .before .before .before .before .before .before .before .before .pre .1 .1 .0) (c .before .before .before .before .before .before .before .before .before .before .before .before .before .before .before .before .before .before .pre .1 .1 .1) (c .before .before .before .before .before .before .before .before .decode-molecule .ensures) in sym (length-take-le (c .before .before .before .before .before .before .before .before .decode-molecule .result) (c .before .before .before .before .before .before .before .before .decode-molecule .last .1 .1 .0) (omega (arith, law.motif-fits (take 512 (c .before .before .before .before .before .before .before .before .before .before .before .before .before .before .before .before .before .before .args .input .now)) (c .before .before .before .before .before .before .before .before .decode-molecule .result) (c .before .before .before .before .before .before .before .before .before .before .before .before .before .before .before .before .before .before .pre .1 .0) (f .0), c .before .before .before .before .before .before .before .before .before .before .before .before .before .before .before .before .before .before .pre .1 .1 .1, c .before .before .before .before .before .before .before .before .decode-molecule .kept .1 .1 .0)))
-
-query-requires : tie.Need-query-requires
-query-requires c κs = search needs
+ask-lent-requires : tie.Need-ask-lent-requires
+ask-lent-requires c κs =
+    let at-start = c .before .before .before .before .before .before .before .before .before .before .before .before .before in
+    (at-start .pre .0, (at-start .pre .1 .0, (omega arith, omega arith)))
 
 same-length : tie.Need-same-length
 same-length c = search needs
@@ -49,32 +30,17 @@ same-length-2 c = search needs
 same-length-3 : tie.Need-same-length-3
 same-length-3 c = search needs
 
-same-length-4 : tie.Need-same-length-4
-same-length-4 c = search needs
-
-same-length-5 : tie.Need-same-length-5
-same-length-5 c = search needs
-
 returns : tie.Need-returns
-returns c = let f = outcome.decoded-there (take 512 (c .before .before .before .before .before .before .before .before .before .before .before .before .before .before .before .before .before .before .before .before .before .before .before .before .before .before .before .args .input .now)) (c .before .before .before .before .before .before .before .before .before .before .before .before .before .before .before .before .before .before .before .before .before .before .before .before .before .before .before .args .bases .now) (c .before .before .before .before .before .before .before .before .before .before .before .before .before .before .before .before .before .before .before .before .before .before .before .before .before .before .before .args .mates .now) (c .before .before .before .before .before .before .before .before .before .before .before .before .before .before .before .before .before .decode-molecule .result) (c .before .before .before .before .before .before .before .before .before .before .before .before .before .before .before .before .before .decode-molecule .last .1 .0) (c .before .before .before .before .before .before .before .before .before .before .before .before .before .before .before .before .before .decode-molecule .last .1 .1 .0) (law.motif-sound (take 512 (c .before .before .before .before .before .before .before .before .before .before .before .before .before .before .before .before .before .before .before .before .before .before .before .before .before .before .before .args .input .now)) (c .before .before .before .before .before .before .before .before .before .before .before .before .before .before .before .before .before .before .before .before .before .before .before .before .before .before .before .pre .1 .0)) (c .before .before .before .before .before .before .before .before .before .before .before .before .before .before .before .before .before .before .before .before .before .before .before .before .before .before .before .pre .1 .1 .0) (c .before .before .before .before .before .before .before .before .before .before .before .before .before .before .before .before .before .before .before .before .before .before .before .before .before .before .before .pre .1 .1 .1) (c .before .before .before .before .before .before .before .before .before .before .before .before .before .before .before .before .before .decode-molecule .ensures) in (law.asked embeds (c .before .before .before .before .before .before .before .before .before .before .before .before .before .before .before .before .before .before .before .before .before .before .before .before .before .before .before .args .input .now) (c .before .before .before .before .before .before .before .before .before .before .before .before .before .before .before .before .before .before .before .before .before .before .before .before .before .before .before .args .cache .now) (length (c .before .before .before .before .before .before .before .before .before .before .before .before .before .before .before .before .before .before .before .before .before .before .before .before .before .before .before .args .work .now)) (c .before .before .before .before .before .before .before .before .before .before .before .before .before .before .before .before .before .before .before .before .before .before .before .before .before .before .before .args .hits .now) _ (c .before .before .before .before .before .before .before .before .before .before .before .before .before .before .before .before .before .decode-molecule .result) (c .before .before .before .before .before .before .before .before .before .before .before .before .before .before .before .before .before .decode-molecule .last .1 .0) (c .before .before .before .before .before .before .before .before .before .before .before .before .before .before .before .before .before .decode-molecule .last .1 .1 .0) (c .before .before .before .before .before .before .before .before .before .before .before .before .before .before .before .before .before .before .before .before .before .before .before .before .before .before .before .args .bases .now) (c .before .before .before .before .before .before .before .before .before .before .before .before .before .before .before .before .before .before .before .before .before .before .before .before .before .before .before .args .mates .now) (c .before .before .before .before .before .before .before .before .before .before .before .before .before .before .before .before .before .before .before .before .before .before .before .before .before .before .before .pre .1 .0) (f .0) (f .1) (f .2) (c .before .before .before .before .before .before .query .ensures .0), c .before .before .before .before .before .before .query .ensures .1)
+returns c =
+    let at-ask-lent = c .before .before .before .before .before .before .before .before in
+    let at-zero = at-ask-lent .before .before .before .before .before .before .before .before in
+    let at-start = at-zero .before .before .before .before .before .before in (
+      law.afresh embeds (at-start .args .input .now) (at-start .args .cache .now) (length (at-start .args .work .now)) (at-start .args .hits .now)
+          (at-zero .zero .last .0) (at-start .pre .1 .1) (at-zero .zero .ensures) _ (at-ask-lent .ask-lent .ensures .0),
+      law.afresh-work embeds (at-start .args .input .now) (at-start .args .cache .now) (length (at-start .args .work .now)) (at-start .args .hits .now)
+          (at-zero .zero .last .0) (at-start .pre .1 .1) (at-zero .zero .ensures) _ _ (at-ask-lent .ask-lent .ensures .1),
+    )
 
 pub ask-spec : {M : Type 1} → statement M
-ask-spec =
-    tie.close
-    (tie.spec
-    slice-aggregate-decode-molecule
-    decode-molecule-requires
-    sub-query
-    part-query-start
-    part-query-end
-    slice-reshare-prefix-query
-    slice-aggregate-query
-    slice-reshare-prefix-query-2
-    slice-aggregate-query-2
-    query-requires
-    same-length
-    same-length-2
-    same-length-3
-    same-length-4
-    same-length-5
+ask-spec = tie.close (tie.spec zero-requires slice-aggregate-ask-lent slice-aggregate-ask-lent-2 ask-lent-requires same-length same-length-2 same-length-3
     returns)

@@ -1,8 +1,8 @@
--- `screening::screen` meets its contract.
+-- `screening::screen` meets its contract. Where there is no room nothing is written; else the outcome is what `write_output` leaves.
 use borrow.Author.Needs.{needs}
 use mathlib.Core.Path.{sym, _∙_}
 use lib.ListN.{length}
-use Rattle.strand.proofs.ListLaws.{true-not, not-not}
+use Rattle.lists.proofs.ListLaws.{true-not, not-not}
 use Rattle.calls.specs.Motifs.{embeds}
 use Rattle.screening.proofs.ScreenLaws as law
 use Rattle.screening.proofs.screen.Statement.{statement}
@@ -12,10 +12,19 @@ has-room-requires : tie.Need-has-room-requires
 has-room-requires c κs = search needs
 
 returns : tie.Need-returns
-returns c = (law.outcome-none embeds (c .before .before .before .before .before .before .before .args .input .now) (c .before .before .before .before .before .before .before .args .out .now) (c .before .before .before .before .before .before .before .args .cache .now) (length (c .before .before .before .before .before .before .before .args .work .now)) (c .before .before .before .before .before .before .before .args .hits .now) (sym (c .before .has-room .ensures) ∙ true-not _ (c .if1 .taken)), law.work-none _ _ _ _ (sym (c .before .has-room .ensures) ∙ true-not _ (c .if1 .taken)))
+returns c =
+    let at-has-room = c .before in
+    let at-start = at-has-room .before .before .before .before .before .before in (
+      law.outcome-none embeds (at-start .args .input .now) (at-start .args .out .now) (at-start .args .cache .now) (length (at-start .args .work .now))
+          (at-start .args .hits .now) (sym (at-has-room .has-room .ensures) ∙ true-not _ (c .if1 .taken)),
+      law.work-none _ _ _ _ (sym (at-has-room .has-room .ensures) ∙ true-not _ (c .if1 .taken)),
+    )
 
 write-output-requires : tie.Need-write-output-requires
-write-output-requires c κs = sym (c .before .before .before .before .before .has-room .ensures) ∙ not-not _ (c .before .before .before .before .if1 .left)
+write-output-requires c κs =
+    let at-if1 = c .before .before .before .before in
+    let at-has-room = at-if1 .before in
+    sym (at-has-room .has-room .ensures) ∙ not-not _ (at-if1 .if1 .left)
 
 same-length : tie.Need-same-length
 same-length c = search needs
@@ -30,17 +39,17 @@ same-length-4 : tie.Need-same-length-4
 same-length-4 c = search needs
 
 returns-2 : tie.Need-returns-2
-returns-2 c = (law.outcome-written embeds (c .before .before .before .before .before .before .before .before .before .before .before .before .before .before .before .before .before .before .before .before .args .input .now) (c .before .before .before .before .before .before .before .before .before .before .before .before .before .before .before .before .before .before .before .before .args .out .now) (c .before .before .before .before .before .before .before .before .before .before .before .before .before .before .before .before .before .before .before .before .args .cache .now) (length (c .before .before .before .before .before .before .before .before .before .before .before .before .before .before .before .before .before .before .before .before .args .work .now)) (c .before .before .before .before .before .before .before .before .before .before .before .before .before .before .before .before .before .before .before .before .args .hits .now) (sym (c .before .before .before .before .before .before .before .before .before .before .before .before .before .before .has-room .ensures) ∙ not-not _ (c .before .before .before .before .before .before .before .before .before .before .before .before .before .if1 .left)) (c .before .before .before .before .before .before .before .before .write-output .ensures .0) (c .before .before .before .before .before .before .before .before .write-output .ensures .1 .0) (c .before .before .before .before .before .before .before .before .write-output .ensures .1 .1), law.work-room _ _ _ _ _ (sym (c .before .before .before .before .before .before .before .before .before .before .before .before .before .before .has-room .ensures) ∙ not-not _ (c .before .before .before .before .before .before .before .before .before .before .before .before .before .if1 .left)) (c .before .before .before .before .before .before .before .before .write-output .ensures .1 .2))
+returns-2 c =
+    let at-write-output = c .before .before .before .before .before .before .before .before in
+    let at-if1 = at-write-output .before .before .before .before .before in
+    let at-has-room = at-if1 .before in
+    let at-start = at-has-room .before .before .before .before .before .before in (
+      law.outcome-written embeds (at-start .args .input .now) (at-start .args .out .now) (at-start .args .cache .now) (length (at-start .args .work .now))
+          (at-start .args .hits .now) (sym (at-has-room .has-room .ensures) ∙ not-not _ (at-if1 .if1 .left)) (at-write-output .write-output .ensures .0)
+          (at-write-output .write-output .ensures .1 .0) (at-write-output .write-output .ensures .1 .1),
+      law.work-room _ _ _ _ _ (sym (at-has-room .has-room .ensures) ∙ not-not _ (at-if1 .if1 .left))
+          (at-write-output .write-output .ensures .1 .2, at-write-output .write-output .ensures .1 .3),
+    )
 
 pub screen-spec : {M : Type 1} → statement M
-screen-spec =
-    tie.close
-    (tie.spec
-    has-room-requires
-    returns
-    write-output-requires
-    same-length
-    same-length-2
-    same-length-3
-    same-length-4
-    returns-2)
+screen-spec = tie.close (tie.spec has-room-requires returns write-output-requires same-length same-length-2 same-length-3 same-length-4 returns-2)

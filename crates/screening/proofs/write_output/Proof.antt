@@ -1,9 +1,10 @@
--- `screening::write_output` meets its contract.
+-- `screening::write_output` meets its contract. One return for each case of `screenOutput`: bad length, bad motif, and the text of the query. The
+-- first two leave cache, work and hits as they were; the third leaves what `ask` does.
 use borrow.Author.Needs.{needs}
 use native.Mathlib.Omega.{arith}
 use mathlib.Core.Path.{sym, _∙_}
 use lib.ListN.{length}
-use Rattle.strand.proofs.ListLaws.{true-not, not-not}
+use Rattle.lists.proofs.ListLaws.{true-not, not-not}
 use lib.Seq.{length-take-le}
 use Rattle.calls.specs.Motifs.{embeds}
 use Rattle.screening.specs.Text.{mostOutput}
@@ -18,37 +19,100 @@ slice-aggregate-put-word : tie.Need-slice-aggregate-put-word
 slice-aggregate-put-word c = search needs
 
 put-word-requires : tie.Need-put-word-requires
-put-word-requires c κs = omega (arith, law.room-facts (length (c .before .before .before .before .before .before .before .before .before .args .out .now)) (length (c .before .before .before .before .before .before .before .before .before .args .cache .now)) (length (c .before .before .before .before .before .before .before .before .before .args .work .now)) (length (c .before .before .before .before .before .before .before .before .before .args .hits .now)) (c .before .before .before .before .before .before .before .before .before .pre) .0)
+put-word-requires c κs =
+    let at-start = c .before .before .before .before .before .before .before .before .before in
+    omega (
+      arith,
+      law.room-facts (length (at-start .args .out .now)) (length (at-start .args .cache .now)) (length (at-start .args .work .now))
+          (length (at-start .args .hits .now)) (at-start .pre) .0,
+    )
 
 same-length : tie.Need-same-length
 same-length c = search needs
 
 returns : tie.Need-returns
-returns c = (law.put-bad-length embeds (c .before .before .before .before .before .before .before .before .before .before .before .before .args .input .now) (sym (c .before .before .before .before .before .before .is-input .ensures) ∙ true-not _ (c .before .before .before .before .before .if1 .taken)) (c .before .before .put-word .ensures), law.left-unasked embeds (c .before .before .before .before .before .before .before .before .before .before .before .before .args .input .now) (c .before .before .before .before .before .before .before .before .before .before .before .before .args .out .now) (c .before .before .before .before .before .before .before .before .before .before .before .before .args .cache .now) (length (c .before .before .before .before .before .before .before .before .before .before .before .before .args .work .now)) (c .before .before .before .before .before .before .before .before .before .before .before .before .args .hits .now) (c .before .before .before .before .before .before .before .before .before .before .before .before .args .work .now) (law.asked-1 _ (sym (c .before .before .before .before .before .before .is-input .ensures) ∙ true-not _ (c .before .before .before .before .before .if1 .taken))))
+returns c =
+    let at-put-word = c .before .before in
+    let at-if1 = at-put-word .before .before .before in
+    let at-is-input = at-if1 .before in
+    let at-start = at-is-input .before .before .before .before .before .before in (
+      law.put-bad-length embeds (at-start .args .input .now) (sym (at-is-input .is-input .ensures) ∙ true-not _ (at-if1 .if1 .taken))
+          (at-put-word .put-word .ensures),
+      law.left-unasked embeds (at-start .args .input .now) (at-start .args .out .now) (at-start .args .cache .now) (length (at-start .args .work .now))
+          (at-start .args .hits .now) (at-start .args .work .now) (law.not-input _ (sym (at-is-input .is-input .ensures) ∙ true-not _ (at-if1 .if1 .taken))),
+    )
 
-slice-aggregate-is-motif : tie.Need-slice-aggregate-is-motif
-slice-aggregate-is-motif c = sym (length-take-le 512 (c .before .before .before .before .before .before .before .before .args .input .now) (omega (arith, law.input-few (c .before .before .before .before .before .before .before .before .args .input .now) (sym (c .before .before .is-input .ensures) ∙ not-not _ (c .before .if1 .left)) .0)))
+slice-aggregate-holds-motif : tie.Need-slice-aggregate-holds-motif
+slice-aggregate-holds-motif c =
+    let at-if1 = c .before in
+    let at-is-input = at-if1 .before in
+    let at-start = at-is-input .before .before .before .before .before .before in
+    sym (length-take-le 512 (at-start .args .input .now)
+    (omega (arith, law.input-few (at-start .args .input .now) (sym (at-is-input .is-input .ensures) ∙ not-not _ (at-if1 .if1 .left)) .0)))
 
-is-motif-requires : tie.Need-is-motif-requires
-is-motif-requires c κs = search needs
+holds-motif-requires : tie.Need-holds-motif-requires
+holds-motif-requires c κs = search needs
 
 slice-aggregate-put-word-2 : tie.Need-slice-aggregate-put-word-2
 slice-aggregate-put-word-2 c = search needs
 
 put-word-requires-2 : tie.Need-put-word-requires-2
-put-word-requires-2 c κs = omega (arith, law.room-facts (length (c .before .before .before .before .before .before .before .before .before .before .before .before .args .out .now)) (length (c .before .before .before .before .before .before .before .before .before .before .before .before .args .cache .now)) (length (c .before .before .before .before .before .before .before .before .before .before .before .before .args .work .now)) (length (c .before .before .before .before .before .before .before .before .before .before .before .before .args .hits .now)) (c .before .before .before .before .before .before .before .before .before .before .before .before .pre) .0)
+put-word-requires-2 c κs =
+    let at-start = c .before .before .before .before .before .before .before .before .before .before .before .before in
+    omega (
+      arith,
+      law.room-facts (length (at-start .args .out .now)) (length (at-start .args .cache .now)) (length (at-start .args .work .now))
+          (length (at-start .args .hits .now)) (at-start .pre) .0,
+    )
 
 same-length-2 : tie.Need-same-length-2
 same-length-2 c = search needs
 
 returns-2 : tie.Need-returns-2
-returns-2 c = (law.put-bad-motif embeds (c .before .before .before .before .before .before .before .before .before .before .before .before .before .before .before .args .input .now) (sym (c .before .before .before .before .before .before .before .before .before .is-input .ensures) ∙ not-not _ (c .before .before .before .before .before .before .before .before .if1 .left)) (sym (c .before .before .before .before .before .before .is-motif .ensures) ∙ true-not _ (c .before .before .before .before .before .if2 .taken)) (c .before .before .put-word2 .ensures), law.left-unasked embeds (c .before .before .before .before .before .before .before .before .before .before .before .before .before .before .before .args .input .now) (c .before .before .before .before .before .before .before .before .before .before .before .before .before .before .before .args .out .now) (c .before .before .before .before .before .before .before .before .before .before .before .before .before .before .before .args .cache .now) (length (c .before .before .before .before .before .before .before .before .before .before .before .before .before .before .before .args .work .now)) (c .before .before .before .before .before .before .before .before .before .before .before .before .before .before .before .args .hits .now) (c .before .before .before .before .before .before .before .before .before .before .before .before .before .before .before .args .work .now) (law.asked-2 _ _ (sym (c .before .before .before .before .before .before .before .before .before .is-input .ensures) ∙ not-not _ (c .before .before .before .before .before .before .before .before .if1 .left)) (sym (c .before .before .before .before .before .before .is-motif .ensures) ∙ true-not _ (c .before .before .before .before .before .if2 .taken))))
+returns-2 c =
+    let at-put-word2 = c .before .before in
+    let at-if2 = at-put-word2 .before .before .before in
+    let at-holds-motif = at-if2 .before in
+    let at-if1 = at-holds-motif .before .before in
+    let at-is-input = at-if1 .before in
+    let at-start = at-is-input .before .before .before .before .before .before in (
+      law.put-bad-motif embeds (at-start .args .input .now) (sym (at-is-input .is-input .ensures) ∙ not-not _ (at-if1 .if1 .left))
+          (sym (at-holds-motif .holds-motif .ensures) ∙ true-not _ (at-if2 .if2 .taken)) (at-put-word2 .put-word2 .ensures),
+      law.left-unasked embeds (at-start .args .input .now) (at-start .args .out .now) (at-start .args .cache .now) (length (at-start .args .work .now))
+          (at-start .args .hits .now) (at-start .args .work .now) (law.asked-by-motif _ _ (sym (at-is-input .is-input .ensures) ∙ not-not _ (at-if1 .if1 .left))
+          (sym (at-holds-motif .holds-motif .ensures) ∙ true-not _ (at-if2 .if2 .taken))),
+    )
 
-ask-afresh-requires : tie.Need-ask-afresh-requires
-ask-afresh-requires c κs = ((sym (c .before .before .before .before .before .before .before .is-input .ensures) ∙ not-not _ (c .before .before .before .before .before .before .if1 .left)), ((sym (c .before .before .before .before .is-motif .ensures) ∙ not-not _ (c .before .before .before .if2 .left)), law.room-facts (length (c .before .before .before .before .before .before .before .before .before .before .before .before .before .args .out .now)) (length (c .before .before .before .before .before .before .before .before .before .before .before .before .before .args .cache .now)) (length (c .before .before .before .before .before .before .before .before .before .before .before .before .before .args .work .now)) (length (c .before .before .before .before .before .before .before .before .before .before .before .before .before .args .hits .now)) (c .before .before .before .before .before .before .before .before .before .before .before .before .before .pre) .1))
+ask-requires : tie.Need-ask-requires
+ask-requires c κs =
+    let at-if2 = c .before .before .before in
+    let at-holds-motif = at-if2 .before in
+    let at-if1 = at-holds-motif .before .before in
+    let at-is-input = at-if1 .before in
+    let at-start = at-is-input .before .before .before .before .before .before in (
+      (sym (at-is-input .is-input .ensures) ∙ not-not _ (at-if1 .if1 .left)),
+      (
+        (sym (at-holds-motif .holds-motif .ensures) ∙ not-not _ (at-if2 .if2 .left)),
+        law.room-facts (length (at-start .args .out .now)) (length (at-start .args .cache .now)) (length (at-start .args .work .now))
+            (length (at-start .args .hits .now)) (at-start .pre) .1,
+      ),
+    )
 
 put-answer-requires : tie.Need-put-answer-requires
-put-answer-requires c κs = (law.answer-fits embeds (c .before .before .before .before .before .before .before .before .before .before .before .before .before .before .before .before .before .before .before .before .before .before .args .input .now) (length (c .before .before .before .before .before .before .before .before .before .before .before .before .before .before .before .before .before .before .before .before .before .before .args .work .now)) (c .before .before .before .before .before .before .before .before .before .before .before .before .before .before .before .before .before .before .before .before .before .before .args .hits .now) (c .before .before .before .before .before .before .before .before .ask-afresh .result) (c .before .before .before .before .before .before .before .before .ask-afresh .last .1 .0) (c .before .before .before .before .before .before .before .before .ask-afresh .last .1 .1 .1 .0) (sym (c .before .before .before .before .before .before .before .before .before .before .before .before .before .before .before .before .is-input .ensures) ∙ not-not _ (c .before .before .before .before .before .before .before .before .before .before .before .before .before .before .before .if1 .left)) (law.room-facts (length (c .before .before .before .before .before .before .before .before .before .before .before .before .before .before .before .before .before .before .before .before .before .before .args .out .now)) (length (c .before .before .before .before .before .before .before .before .before .before .before .before .before .before .before .before .before .before .before .before .before .before .args .cache .now)) (length (c .before .before .before .before .before .before .before .before .before .before .before .before .before .before .before .before .before .before .before .before .before .before .args .work .now)) (length (c .before .before .before .before .before .before .before .before .before .before .before .before .before .before .before .before .before .before .before .before .before .before .args .hits .now)) (c .before .before .before .before .before .before .before .before .before .before .before .before .before .before .before .before .before .before .before .before .before .before .pre) .2) (law.room-facts (length (c .before .before .before .before .before .before .before .before .before .before .before .before .before .before .before .before .before .before .before .before .before .before .args .out .now)) (length (c .before .before .before .before .before .before .before .before .before .before .before .before .before .before .before .before .before .before .before .before .before .before .args .cache .now)) (length (c .before .before .before .before .before .before .before .before .before .before .before .before .before .before .before .before .before .before .before .before .before .before .args .work .now)) (length (c .before .before .before .before .before .before .before .before .before .before .before .before .before .before .before .before .before .before .before .before .before .before .args .hits .now)) (c .before .before .before .before .before .before .before .before .before .before .before .before .before .before .before .before .before .before .before .before .before .before .pre) .3) (c .before .before .before .before .before .before .before .before .ask-afresh .ensures .0) mostOutput (omega arith), law.room-facts (length (c .before .before .before .before .before .before .before .before .before .before .before .before .before .before .before .before .before .before .before .before .before .before .args .out .now)) (length (c .before .before .before .before .before .before .before .before .before .before .before .before .before .before .before .before .before .before .before .before .before .before .args .cache .now)) (length (c .before .before .before .before .before .before .before .before .before .before .before .before .before .before .before .before .before .before .before .before .before .before .args .work .now)) (length (c .before .before .before .before .before .before .before .before .before .before .before .before .before .before .before .before .before .before .before .before .before .before .args .hits .now)) (c .before .before .before .before .before .before .before .before .before .before .before .before .before .before .before .before .before .before .before .before .before .before .pre) .0)
+put-answer-requires c κs =
+    let at-ask = c .before .before .before .before .before .before .before .before in
+    let at-if1 = at-ask .before .before .before .before .before .before .before in
+    let at-is-input = at-if1 .before in
+    let at-start = at-is-input .before .before .before .before .before .before in (
+      law.answer-fits embeds (at-start .args .input .now) (length (at-start .args .work .now)) (at-start .args .hits .now) (at-ask .ask .result)
+          (at-ask .ask .last .1 .0) (at-ask .ask .last .1 .1 .1 .0) (sym (at-is-input .is-input .ensures) ∙ not-not _ (at-if1 .if1 .left)) (law.room-facts
+          (length (at-start .args .out .now)) (length (at-start .args .cache .now)) (length (at-start .args .work .now))
+          (length (at-start .args .hits .now)) (at-start .pre) .2) (law.room-facts (length (at-start .args .out .now)) (length (at-start .args .cache .now))
+          (length (at-start .args .work .now)) (length (at-start .args .hits .now)) (at-start .pre) .3) (at-ask .ask .ensures .0) mostOutput
+          (omega arith),
+      law.room-facts (length (at-start .args .out .now)) (length (at-start .args .cache .now)) (length (at-start .args .work .now))
+          (length (at-start .args .hits .now)) (at-start .pre) .0,
+    )
 
 same-length-3 : tie.Need-same-length-3
 same-length-3 c = search needs
@@ -63,27 +127,27 @@ same-length-6 : tie.Need-same-length-6
 same-length-6 c = search needs
 
 returns-3 : tie.Need-returns-3
-returns-3 c = (law.put-answered embeds (c .before .before .before .before .before .before .before .before .before .before .before .before .before .before .before .before .before .before .before .before .before .before .before .before .before .args .input .now) (length (c .before .before .before .before .before .before .before .before .before .before .before .before .before .before .before .before .before .before .before .before .before .before .before .before .before .args .work .now)) (c .before .before .before .before .before .before .before .before .before .before .before .before .before .before .before .before .before .before .before .before .before .before .before .before .before .args .hits .now) (c .before .before .before .before .before .before .before .before .before .before .before .ask-afresh .result) (c .before .before .before .before .before .before .before .before .before .before .before .ask-afresh .last .1 .0) (c .before .before .before .before .before .before .before .before .before .before .before .ask-afresh .last .1 .1 .1 .0) (sym (c .before .before .before .before .before .before .before .before .before .before .before .before .before .before .before .before .before .before .before .is-input .ensures) ∙ not-not _ (c .before .before .before .before .before .before .before .before .before .before .before .before .before .before .before .before .before .before .if1 .left)) (law.room-facts (length (c .before .before .before .before .before .before .before .before .before .before .before .before .before .before .before .before .before .before .before .before .before .before .before .before .before .args .out .now)) (length (c .before .before .before .before .before .before .before .before .before .before .before .before .before .before .before .before .before .before .before .before .before .before .before .before .before .args .cache .now)) (length (c .before .before .before .before .before .before .before .before .before .before .before .before .before .before .before .before .before .before .before .before .before .before .before .before .before .args .work .now)) (length (c .before .before .before .before .before .before .before .before .before .before .before .before .before .before .before .before .before .before .before .before .before .before .before .before .before .args .hits .now)) (c .before .before .before .before .before .before .before .before .before .before .before .before .before .before .before .before .before .before .before .before .before .before .before .before .before .pre) .2) (law.room-facts (length (c .before .before .before .before .before .before .before .before .before .before .before .before .before .before .before .before .before .before .before .before .before .before .before .before .before .args .out .now)) (length (c .before .before .before .before .before .before .before .before .before .before .before .before .before .before .before .before .before .before .before .before .before .before .before .before .before .args .cache .now)) (length (c .before .before .before .before .before .before .before .before .before .before .before .before .before .before .before .before .before .before .before .before .before .before .before .before .before .args .work .now)) (length (c .before .before .before .before .before .before .before .before .before .before .before .before .before .before .before .before .before .before .before .before .before .before .before .before .before .args .hits .now)) (c .before .before .before .before .before .before .before .before .before .before .before .before .before .before .before .before .before .before .before .before .before .before .before .before .before .pre) .3) (c .before .before .before .before .before .before .before .before .before .before .before .ask-afresh .ensures .0) (sym (c .before .before .before .before .before .before .before .before .before .before .before .before .before .before .before .before .is-motif .ensures) ∙ not-not _ (c .before .before .before .before .before .before .before .before .before .before .before .before .before .before .before .if2 .left)) (c .before .before .put-answer .ensures), law.left-asked embeds (c .before .before .before .before .before .before .before .before .before .before .before .before .before .before .before .before .before .before .before .before .before .before .before .before .before .args .input .now) (c .before .before .before .before .before .before .before .before .before .before .before .before .before .before .before .before .before .before .before .before .before .before .before .before .before .args .out .now) (c .before .before .before .before .before .before .before .before .before .before .before .before .before .before .before .before .before .before .before .before .before .before .before .before .before .args .cache .now) (length (c .before .before .before .before .before .before .before .before .before .before .before .before .before .before .before .before .before .before .before .before .before .before .before .before .before .args .work .now)) (c .before .before .before .before .before .before .before .before .before .before .before .before .before .before .before .before .before .before .before .before .before .before .before .before .before .args .hits .now) (c .before .before .before .before .before .before .before .before .before .before .before .before .before .before .before .before .before .before .before .before .before .before .before .before .before .args .work .now) (c .before .before .before .before .before .before .before .before .before .before .before .ask-afresh .last .1 .1 .0) (law.asked-2 _ _ (sym (c .before .before .before .before .before .before .before .before .before .before .before .before .before .before .before .before .before .before .before .is-input .ensures) ∙ not-not _ (c .before .before .before .before .before .before .before .before .before .before .before .before .before .before .before .before .before .before .if1 .left)) (sym (c .before .before .before .before .before .before .before .before .before .before .before .before .before .before .before .before .is-motif .ensures) ∙ not-not _ (c .before .before .before .before .before .before .before .before .before .before .before .before .before .before .before .if2 .left))) (c .before .before .before .before .before .before .before .before .before .before .before .ask-afresh .ensures .0) (c .before .before .before .before .before .before .before .before .before .before .before .ask-afresh .ensures .1))
+returns-3 c =
+    let at-put-answer = c .before .before in
+    let at-ask = at-put-answer .before .before .before .before .before .before .before .before .before in
+    let at-if2 = at-ask .before .before .before .before in
+    let at-holds-motif = at-if2 .before in
+    let at-if1 = at-holds-motif .before .before in
+    let at-is-input = at-if1 .before in
+    let at-start = at-is-input .before .before .before .before .before .before in (
+      law.put-answered embeds (at-start .args .input .now) (length (at-start .args .work .now)) (at-start .args .hits .now) (at-ask .ask .result)
+          (at-ask .ask .last .1 .0) (at-ask .ask .last .1 .1 .1 .0) (sym (at-is-input .is-input .ensures) ∙ not-not _ (at-if1 .if1 .left)) (law.room-facts
+          (length (at-start .args .out .now)) (length (at-start .args .cache .now)) (length (at-start .args .work .now))
+          (length (at-start .args .hits .now)) (at-start .pre) .2) (law.room-facts (length (at-start .args .out .now)) (length (at-start .args .cache .now))
+          (length (at-start .args .work .now)) (length (at-start .args .hits .now)) (at-start .pre) .3) (at-ask .ask .ensures .0)
+          (sym (at-holds-motif .holds-motif .ensures) ∙ not-not _ (at-if2 .if2 .left)) (at-put-answer .put-answer .ensures),
+      law.left-asked embeds (at-start .args .input .now) (at-start .args .out .now) (at-start .args .cache .now) (length (at-start .args .work .now))
+          (at-start .args .hits .now) (at-start .args .work .now) (at-ask .ask .last .1 .1 .0) (law.asked-by-motif _ _
+          (sym (at-is-input .is-input .ensures) ∙ not-not _ (at-if1 .if1 .left))
+          (sym (at-holds-motif .holds-motif .ensures) ∙ not-not _ (at-if2 .if2 .left))) (at-ask .ask .ensures .0) (at-ask .ask .ensures .1),
+    )
 
 pub write-output-spec : {M : Type 1} → statement M
-write-output-spec =
-    tie.close
-    (tie.spec
-    is-input-requires
-    slice-aggregate-put-word
-    put-word-requires
-    same-length
-    returns
-    slice-aggregate-is-motif
-    is-motif-requires
-    slice-aggregate-put-word-2
-    put-word-requires-2
-    same-length-2
-    returns-2
-    ask-afresh-requires
-    put-answer-requires
-    same-length-3
-    same-length-4
-    same-length-5
-    same-length-6
-    returns-3)
+write-output-spec = tie.close (tie.spec is-input-requires slice-aggregate-put-word put-word-requires same-length returns slice-aggregate-holds-motif
+    holds-motif-requires slice-aggregate-put-word-2 put-word-requires-2 same-length-2 returns-2 ask-requires put-answer-requires same-length-3 same-length-4
+    same-length-5 same-length-6 returns-3)

@@ -1,4 +1,5 @@
--- `screening_test::fill` meets its contract.
+-- `screening_test::fill` meets its contract. No step fails and the loop ends: the invariant is i ≤ 160, and that the mates keep their number, which
+-- `set_entry` says of each turn.
 use Prim.Native.Nat.{_-_, _≤_}
 use native.Mathlib.Omega.{arith}
 use mathlib.Core.Path.{_≡_, refl, _∙_}
@@ -25,7 +26,10 @@ loop-less : tie.Need-loop-less Inv-loop μ-loop
 loop-less c = omega arith
 
 loop-again : tie.Need-loop-again Inv-loop μ-loop
-loop-again c = (omega arith, c .before .before .set-entry .kept .0 ∙ c .before .before .before .before .before .loop .inv .1)
+loop-again c =
+    let at-set-entry = c .before .before in
+    let at-loop = at-set-entry .before .before .before in
+    (omega arith, at-set-entry .set-entry .kept .0 ∙ at-loop .loop .inv .1)
 
 same-length : tie.Need-same-length Inv-loop μ-loop
 same-length c = c .before .loop .inv .1
@@ -34,15 +38,4 @@ returns : tie.Need-returns Inv-loop μ-loop
 returns c = tt
 
 pub fill-spec : {M : Type 1} → statement M
-fill-spec =
-    tie.close
-    (tie.spec
-    Inv-loop
-    μ-loop
-    loop-holds
-    set-entry-requires
-    add-i
-    loop-less
-    loop-again
-    same-length
-    returns)
+fill-spec = tie.close (tie.spec Inv-loop μ-loop loop-holds set-entry-requires add-i loop-less loop-again same-length returns)

@@ -1,4 +1,5 @@
--- `screening_test::steps` meets its contract.
+-- `screening_test::steps` meets its contract. No step fails and the loop ends: the invariant is that i is at most the number of lines, and that the
+-- image keeps its length.
 use borrow.Author.Needs.{needs}
 use Prim.Native.Nat.{_-_, _/_, _≤_}
 use mathlib.Core.Path.{_≡_}
@@ -40,17 +41,4 @@ returns : tie.Need-returns Inv-loop μ-loop
 returns c = search needs
 
 pub steps-spec : {M : Type 1} → statement M
-steps-spec =
-    tie.close
-    (tie.spec
-    Inv-loop
-    μ-loop
-    loop-holds
-    mul-part
-    part-requires
-    step-requires
-    add-i
-    loop-less
-    loop-again
-    same-length
-    returns)
+steps-spec = tie.close (tie.spec Inv-loop μ-loop loop-holds mul-part part-requires step-requires add-i loop-less loop-again same-length returns)

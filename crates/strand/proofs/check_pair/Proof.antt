@@ -1,8 +1,9 @@
--- `strand::check_pair` meets its contract.
+-- `strand::check_pair` meets its contract: the verdict on the motif where it refuses, else that on the molecule.
 use borrow.Author.Needs.{needs}
 use mathlib.Core.Path.{sym, _∙_}
-use Rattle.strand.specs.Refusals.{first, pairVerdict}
-use Rattle.strand.proofs.VerdictLaws.{pair-second}
+use Rattle.refusals.specs.Rules.{first}
+use Rattle.strand.specs.StrandRules.{pairVerdict}
+use Rattle.refusals.proofs.RuleLaws.{first-second}
 use Rattle.strand.proofs.check_pair.Statement.{statement}
 use Rattle.strand.proofs.check_pair.Tie as tie
 
@@ -14,7 +15,10 @@ enum-known-motif c = search needs
 
 returns : tie.Need-returns
 unfolding pairVerdict first
-returns c = rw (sym (c .before .before .before .check-strand .ensures) ∙ c .before .motif .given .1)
+returns c =
+    let at-motif = c .before in
+    let at-check-strand = at-motif .before .before in
+    rw (sym (at-check-strand .check-strand .ensures) ∙ at-motif .motif .given .1)
 
 enum-told : tie.Need-enum-told
 enum-told c = search needs
@@ -24,15 +28,10 @@ check-strand-requires-2 c κs = search needs
 
 returns-2 : tie.Need-returns-2
 unfolding pairVerdict
-returns-2 c = c .check-strand2 .ensures ∙ pair-second _ _ (sym (c .before .before .before .check-strand .ensures) ∙ c .before .enum-told .given .1)
+returns-2 c =
+    let at-enum-told = c .before in
+    let at-check-strand = at-enum-told .before .before in
+    c .check-strand2 .ensures ∙ first-second _ _ (sym (at-check-strand .check-strand .ensures) ∙ at-enum-told .enum-told .given .1)
 
 pub check-pair-spec : {M : Type 1} → statement M
-check-pair-spec =
-    tie.close
-    (tie.spec
-    check-strand-requires
-    enum-known-motif
-    returns
-    enum-told
-    check-strand-requires-2
-    returns-2)
+check-pair-spec = tie.close (tie.spec check-strand-requires enum-known-motif returns enum-told check-strand-requires-2 returns-2)

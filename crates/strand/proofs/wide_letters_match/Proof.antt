@@ -1,5 +1,4 @@
--- `strand::wide_letters_match` meets its contract.
-use Prim.Native.Nat.{_-_}
+-- `strand::wide_letters_match` meets its contract: the letter rule is equality.
 use mathlib.Core.Path.{refl}
 use Rattle.strand.specs.Strands.{lettersMatch}
 use Rattle.strand.proofs.wide_letters_match.Statement.{statement}

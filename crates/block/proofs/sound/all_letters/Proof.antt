@@ -1,14 +1,16 @@
--- `block::sound::all_letters` meets its contract.
+-- `block::sound::all_letters` meets its contract: every byte is a letter exactly when the lowest that is none is the length.
 use borrow.Author.Needs.{needs}
 use Rattle.block.proofs.SoundLaws.{letters-is}
 use Rattle.block.proofs.sound.all_letters.Statement.{statement}
 use Rattle.block.proofs.sound.all_letters.Tie as tie
 
-lowest-stranger-requires : tie.Need-lowest-stranger-requires
-lowest-stranger-requires c κs = search needs
+lowest-non-letter-requires : tie.Need-lowest-non-letter-requires
+lowest-non-letter-requires c κs = search needs
 
 returns : tie.Need-returns
-returns c = letters-is (c .before .before .args .side) (c .before .before .args .s .now) (c .lowest-stranger .result) (c .lowest-stranger .ensures)
+returns c =
+    let at-start = c .before .before in
+    letters-is (at-start .args .side) (at-start .args .s .now) _ (c .lowest-non-letter .ensures)
 
 pub all-letters-spec : {M : Type 1} → statement M
-all-letters-spec = tie.close (tie.spec lowest-stranger-requires returns)
+all-letters-spec = tie.close (tie.spec lowest-non-letter-requires returns)

@@ -1,4 +1,4 @@
--- `block::sound::base_bytes_ok` meets its contract.
+-- `block::sound::base_bytes_ok` meets its contract: each return is one rule on the bytes.
 use borrow.Author.Needs.{needs}
 use mathlib.Core.Path.{sym, _∙_}
 use borrow.Author.Tests.{not-true, not-false}
@@ -25,7 +25,7 @@ all-zero-requires : tie.Need-all-zero-requires
 all-zero-requires c κs = search needs
 
 returns : tie.Need-returns
-returns c = laws.bases-1 (c .before .before .before .before .args .side) (c .before .before .before .before .args .start) (c .before .before .before .before .args .most) (c .before .before .before .before .args .n) (c .before .before .before .before .args .s .now) (sym (c .before .all-zero .ensures) ∙ not-true _ (c .if1 .taken))
+returns c = laws.head-not-blank _ _ _ _ _ _ (sym (c .before .all-zero .ensures) ∙ not-true _ (c .if1 .taken))
 
 sub-all-letters : tie.Need-sub-all-letters
 sub-all-letters c = search needs
@@ -40,7 +40,12 @@ all-letters-requires : tie.Need-all-letters-requires
 all-letters-requires c κs = search needs
 
 returns-2 : tie.Need-returns-2
-returns-2 c = laws.bases-2 (c .before .before .before .before .before .before .before .args .side) (c .before .before .before .before .before .before .before .args .start) (c .before .before .before .before .before .before .before .args .most) (c .before .before .before .before .before .before .before .args .n) (c .before .before .before .before .before .before .before .args .s .now) (sym (c .before .before .before .before .all-zero .ensures) ∙ not-false _ (c .before .before .before .if1 .left)) (sym (c .before .all-letters .ensures) ∙ not-true _ (c .if2 .taken))
+returns-2 c =
+    let at-all-letters = c .before in
+    let at-if1 = at-all-letters .before .before in
+    let at-all-zero = at-if1 .before in
+    laws.not-all-letters _ _ _ _ _ _ (sym (at-all-zero .all-zero .ensures) ∙ not-false _ (at-if1 .if1 .left))
+    (sym (at-all-letters .all-letters .ensures) ∙ not-true _ (c .if2 .taken))
 
 sub-all-zero-2 : tie.Need-sub-all-zero-2
 sub-all-zero-2 c = search needs
@@ -55,26 +60,16 @@ all-zero-requires-2 : tie.Need-all-zero-requires-2
 all-zero-requires-2 c κs = search needs
 
 returns-3 : tie.Need-returns-3
-returns-3 c = c .all-zero2 .ensures ∙ laws.bases-3 (c .before .before .before .before .before .before .before .before .before .args .side) (c .before .before .before .before .before .before .before .before .before .args .start) (c .before .before .before .before .before .before .before .before .before .args .most) (c .before .before .before .before .before .before .before .before .before .args .n) (c .before .before .before .before .before .before .before .before .before .args .s .now) (sym (c .before .before .before .before .before .before .all-zero .ensures) ∙ not-false _ (c .before .before .before .before .before .if1 .left)) (sym (c .before .before .before .all-letters .ensures) ∙ not-false _ (c .before .before .if2 .left))
+returns-3 c =
+    let at-if2 = c .before .before in
+    let at-all-letters = at-if2 .before in
+    let at-if1 = at-all-letters .before .before in
+    let at-all-zero = at-if1 .before in
+    c .all-zero2 .ensures
+    ∙ laws.all-but-unused _ _ _ _ _ _ (sym (at-all-zero .all-zero .ensures) ∙ not-false _ (at-if1 .if1 .left))
+    (sym (at-all-letters .all-letters .ensures) ∙ not-false _ (at-if2 .if2 .left))
 
 pub base-bytes-ok-spec : {M : Type 1} → statement M
-base-bytes-ok-spec =
-    tie.close
-    (tie.spec
-    add-e
-    add-f
-    sub-all-zero
-    part-all-zero-start
-    part-all-zero-end
-    all-zero-requires
-    returns
-    sub-all-letters
-    part-all-letters-start
-    part-all-letters-end
-    all-letters-requires
-    returns-2
-    sub-all-zero-2
-    part-all-zero-start-2
-    part-all-zero-end-2
-    all-zero-requires-2
+base-bytes-ok-spec = tie.close (tie.spec add-e add-f sub-all-zero part-all-zero-start part-all-zero-end all-zero-requires returns sub-all-letters
+    part-all-letters-start part-all-letters-end all-letters-requires returns-2 sub-all-zero-2 part-all-zero-start-2 part-all-zero-end-2 all-zero-requires-2
     returns-3)

@@ -1,8 +1,7 @@
--- `block::sound::mate_bytes_ok` meets its contract.
+-- `block::sound::mate_bytes_ok` meets its contract: the unused places are one part of the block.
 use borrow.Author.Needs.{needs}
-use mathlib.Core.Path.{sym, _∙_}
-use borrow.Author.Tests.{not-true, not-false}
-use Rattle.block.proofs.SoundLaws as laws
+use mathlib.Core.Path.{_∙_}
+use Rattle.block.proofs.SoundLaws.{unused-mates}
 use Rattle.block.proofs.sound.mate_bytes_ok.Statement.{statement}
 use Rattle.block.proofs.sound.mate_bytes_ok.Tie as tie
 
@@ -31,26 +30,7 @@ all-zero-requires : tie.Need-all-zero-requires
 all-zero-requires c κs = search needs
 
 returns : tie.Need-returns
-returns c = laws.mates-1 (c .before .before .before .before .args .at) (c .before .before .before .before .args .most) (c .before .before .before .before .args .n) (c .before .before .before .before .args .s .now) (sym (c .before .all-zero .ensures) ∙ not-true _ (c .if1 .taken))
-
-mates-ok-requires : tie.Need-mates-ok-requires
-mates-ok-requires c κs = search needs
-
-returns-2 : tie.Need-returns-2
-returns-2 c = c .mates-ok .ensures ∙ laws.mates-2 (c .before .before .before .before .before .args .at) (c .before .before .before .before .before .args .most) (c .before .before .before .before .before .args .n) (c .before .before .before .before .before .args .s .now) (sym (c .before .before .all-zero .ensures) ∙ not-false _ (c .before .if1 .left))
+returns c = c .all-zero .ensures ∙ unused-mates _ _ _ _
 
 pub mate-bytes-ok-spec : {M : Type 1} → statement M
-mate-bytes-ok-spec =
-    tie.close
-    (tie.spec
-    mul-g
-    add-g
-    mul-h
-    add-h
-    sub-all-zero
-    part-all-zero-start
-    part-all-zero-end
-    all-zero-requires
-    returns
-    mates-ok-requires
-    returns-2)
+mate-bytes-ok-spec = tie.close (tie.spec mul-g add-g mul-h add-h sub-all-zero part-all-zero-start part-all-zero-end all-zero-requires returns)

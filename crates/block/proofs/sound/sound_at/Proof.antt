@@ -1,5 +1,7 @@
--- `block::sound::sound_at` meets its contract.
+-- `block::sound::sound_at` meets its contract: block d is the part that is tested; where there is none, a part of another length is unsound.
 use borrow.Author.Needs.{needs}
+use Rattle.block.specs.Content.{moleculeKind}
+use Rattle.block.specs.Block.{soundMolecule}
 use Rattle.block.proofs.SoundLaws as laws
 use Rattle.block.proofs.sound.sound_at.Statement.{statement}
 use Rattle.block.proofs.sound.sound_at.Tie as tie
@@ -26,17 +28,8 @@ returns : tie.Need-returns
 returns c = search needs
 
 returns-2 : tie.Need-returns-2
-returns-2 c = laws.molecule-length _ (laws.no-block (c .before .before .args .buf .now) (c .before .before .args .d) (c .if1 .left))
+unfolding soundMolecule
+returns-2 c = laws.strand-length moleculeKind _ (laws.no-block _ _ (c .if1 .left))
 
 pub sound-at-spec : {M : Type 1} → statement M
-sound-at-spec =
-    tie.close
-    (tie.spec
-    mul-a
-    add-e
-    sub-sound-molecule
-    part-sound-molecule-start
-    part-sound-molecule-end
-    sound-molecule-requires
-    returns
-    returns-2)
+sound-at-spec = tie.close (tie.spec mul-a add-e sub-sound-molecule part-sound-molecule-start part-sound-molecule-end sound-molecule-requires returns returns-2)

@@ -1,50 +1,64 @@
--- `block::sound::sound_entry` meets its contract.
+-- `block::sound::sound_entry` meets its contract: each return is one rule.
 use borrow.Author.Needs.{needs}
 use borrow.Author.Tests.{not-false, not-true}
 use mathlib.Core.Path.{_∙_, sym}
 use Rattle.block.proofs.SoundLaws as laws
 use native.Mathlib.Omega.{arith}
-use Rattle.octets.proofs.SumLaws.{told-whole}
+use Rattle.block.proofs.SumLaws.{right-whole}
 use Rattle.block.proofs.sound.sound_entry.Statement.{statement}
 use Rattle.block.proofs.sound.sound_entry.Tie as tie
 
 returns : tie.Need-returns
-returns c = laws.entry-length (c .before .before .args .s .now) (c .if1 .taken)
+returns c = laws.entry-length _ (c .if1 .taken)
 
 all-zero-requires : tie.Need-all-zero-requires
 all-zero-requires c κs = search needs
 
 returns-2 : tie.Need-returns-2
-returns-2 c = laws.entry-zero (c .before .before .before .before .args .s .now) (c .before .before .if1 .left) (sym (c .before .all-zero .ensures) ∙ c .if2 .taken)
+returns-2 c = laws.entry-zero _ (c .before .before .if1 .left) (sym (c .before .all-zero .ensures) ∙ c .if2 .taken)
 
 content-ok-requires : tie.Need-content-ok-requires
 content-ok-requires c κs = search needs
 
 returns-3 : tie.Need-returns-3
-returns-3 c = laws.entry-content (c .before .before .before .before .before .before .args .s .now) (c .before .before .before .before .if1 .left) (sym (c .before .before .before .all-zero .ensures) ∙ c .before .before .if2 .left) (sym (c .before .content-ok .ensures) ∙ not-true _ (c .if3 .taken))
+returns-3 c =
+    let at-content-ok = c .before in
+    let at-if2 = at-content-ok .before in
+    let at-all-zero = at-if2 .before in
+    let at-if1 = at-all-zero .before in
+    laws.entry-content _ (at-if1 .if1 .left) (sym (at-all-zero .all-zero .ensures) ∙ at-if2 .if2 .left)
+    (sym (at-content-ok .content-ok .ensures) ∙ not-true _ (c .if3 .taken))
 
 hits-ok-requires : tie.Need-hits-ok-requires
 hits-ok-requires c κs = search needs
 
 returns-4 : tie.Need-returns-4
-returns-4 c = laws.entry-hits (c .before .before .before .before .before .before .before .before .args .s .now) (c .before .before .before .before .before .before .if1 .left) (sym (c .before .before .before .before .before .all-zero .ensures) ∙ c .before .before .before .before .if2 .left) (sym (c .before .before .before .content-ok .ensures) ∙ not-false _ (c .before .before .if3 .left)) (sym (c .before .hits-ok .ensures) ∙ not-true _ (c .if4 .taken))
+returns-4 c =
+    let at-hits-ok = c .before in
+    let at-if3 = at-hits-ok .before in
+    let at-content-ok = at-if3 .before in
+    let at-if2 = at-content-ok .before in
+    let at-all-zero = at-if2 .before in
+    let at-if1 = at-all-zero .before in
+    laws.entry-hits _ (at-if1 .if1 .left) (sym (at-all-zero .all-zero .ensures) ∙ at-if2 .if2 .left)
+    (sym (at-content-ok .content-ok .ensures) ∙ not-false _ (at-if3 .if3 .left)) (sym (at-hits-ok .hits-ok .ensures) ∙ not-true _ (c .if4 .taken))
 
 checksum-ok-requires : tie.Need-checksum-ok-requires
 checksum-ok-requires c κs = search needs
 
 returns-5 : tie.Need-returns-5
-returns-5 c = c .checksum-ok .ensures ∙ told-whole (c .before .before .before .before .before .before .before .before .before .args .s .now) (omega (arith, c .before .before .before .before .before .before .before .if1 .left)) ∙ laws.entry-check (c .before .before .before .before .before .before .before .before .before .args .s .now) (c .before .before .before .before .before .before .before .if1 .left) (sym (c .before .before .before .before .before .before .all-zero .ensures) ∙ c .before .before .before .before .before .if2 .left) (sym (c .before .before .before .before .content-ok .ensures) ∙ not-false _ (c .before .before .before .if3 .left)) (sym (c .before .before .hits-ok .ensures) ∙ not-false _ (c .before .if4 .left))
+returns-5 c =
+    let at-if4 = c .before in
+    let at-hits-ok = at-if4 .before in
+    let at-if3 = at-hits-ok .before in
+    let at-content-ok = at-if3 .before in
+    let at-if2 = at-content-ok .before in
+    let at-all-zero = at-if2 .before in
+    let at-if1 = at-all-zero .before in
+    c .checksum-ok .ensures ∙ right-whole _ (omega (arith, at-if1 .if1 .left))
+    ∙ laws.entry-check _ (at-if1 .if1 .left) (sym (at-all-zero .all-zero .ensures) ∙ at-if2 .if2 .left)
+    (sym (at-content-ok .content-ok .ensures) ∙ not-false _ (at-if3 .if3 .left)) (sym (at-hits-ok .hits-ok .ensures) ∙ not-false _ (at-if4 .if4 .left))
 
 pub sound-entry-spec : {M : Type 1} → statement M
-sound-entry-spec =
-    tie.close
-    (tie.spec
-    returns
-    all-zero-requires
-    returns-2
-    content-ok-requires
-    returns-3
-    hits-ok-requires
-    returns-4
-    checksum-ok-requires
+sound-entry-spec = tie.close (tie.spec returns all-zero-requires returns-2 content-ok-requires returns-3 hits-ok-requires returns-4 checksum-ok-requires
     returns-5)

@@ -1,4 +1,4 @@
--- `block_test::parts::fill` meets its contract.
+-- `block_test::parts::fill` meets its contract. No step fails and the loop ends: the invariant is i ≤ 162, and that both slices keep their lengths.
 use borrow.Author.Needs.{needs}
 use Prim.Native.Nat.{_-_, _≤_}
 use native.Mathlib.Omega.{arith}
@@ -50,20 +50,5 @@ returns : tie.Need-returns Inv-loop μ-loop
 returns c = tt
 
 pub fill-spec : {M : Type 1} → statement M
-fill-spec =
-    tie.close
-    (tie.spec
-    Inv-loop
-    μ-loop
-    loop-holds
-    next-requires
-    add-set-byte
-    letter-requires
-    set-byte-requires
-    set-entry-requires
-    add-i
-    loop-less
-    loop-again
-    same-length
-    same-length-2
-    returns)
+fill-spec = tie.close (tie.spec Inv-loop μ-loop loop-holds next-requires add-set-byte letter-requires set-byte-requires set-entry-requires add-i loop-less
+    loop-again same-length same-length-2 returns)

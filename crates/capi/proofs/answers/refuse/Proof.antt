@@ -1,4 +1,4 @@
--- `capi::answers::refuse` meets its contract.
+-- `capi::answers::refuse` meets its contract. The fields of the struct are those of the refusal, each wide enough for it.
 use borrow.Author.Needs.{needs}
 use mathlib.Core.Path.{refl}
 use Rattle.capi.proofs.answers.refuse.Statement.{statement}

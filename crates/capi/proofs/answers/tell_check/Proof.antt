@@ -1,7 +1,7 @@
--- `capi::answers::tell_check` meets its contract.
+-- `capi::answers::tell_check` meets its contract. By cases on the answer, which the tests of the code tell: each return is `checkInC` of that case.
 use borrow.Author.Needs.{needs}
 use mathlib.Core.Path.{ap, sym, _∙_}
-use Rattle.capi.specs.Interface.{checkTold}
+use Rattle.capi.specs.Interface.{checkInC}
 use Rattle.capi.proofs.answers.tell_check.Statement.{statement}
 use Rattle.capi.proofs.answers.tell_check.Tie as tie
 
@@ -12,8 +12,8 @@ refuse-requires : tie.Need-refuse-requires
 refuse-requires c κs = search needs
 
 returns : tie.Need-returns
-unfolding checkTold
-returns c = c .refuse .ensures ∙ ap checkTold (sym (c .before .before .a .given .1))
+unfolding checkInC
+returns c = c .refuse .ensures ∙ ap checkInC (sym (c .before .before .a .given .1))
 
 enum-told : tie.Need-enum-told
 enum-told c = search needs
@@ -22,8 +22,8 @@ accept-requires : tie.Need-accept-requires
 accept-requires c κs = search needs
 
 returns-2 : tie.Need-returns-2
-unfolding checkTold
-returns-2 c = c .accept .ensures ∙ ap checkTold (sym (c .before .enum-told .given .1))
+unfolding checkInC
+returns-2 c = c .accept .ensures ∙ ap checkInC (sym (c .before .enum-told .given .1))
 
 pub tell-check-spec : {M : Type 1} → statement M
 tell-check-spec =

@@ -1,7 +1,7 @@
--- `capi::answers::tell_match` meets its contract.
+-- `capi::answers::tell_match` meets its contract. By cases on the answer: each arm is `matchInC` of its case.
 use borrow.Author.Needs.{needs}
 use mathlib.Core.Path.{ap, sym, _∙_}
-use Rattle.capi.specs.Interface.{matchTold}
+use Rattle.capi.specs.Interface.{matchInC}
 use Rattle.capi.proofs.answers.tell_match.Statement.{statement}
 use Rattle.capi.proofs.answers.tell_match.Tie as tie
 
@@ -18,14 +18,12 @@ refuse-requires : tie.Need-refuse-requires
 refuse-requires c κs = search needs
 
 returns : tie.Need-returns
-unfolding matchTold
-returns c = c .accept .ensures ∙ ap matchTold (sym (c .before .before .a .given .1))
+unfolding matchInC
+returns c = c .accept .ensures ∙ ap matchInC (sym (c .before .before .a .given .1))
 
 returns-2 : tie.Need-returns-2
-unfolding matchTold
-returns-2 c = c .refuse .ensures ∙ ap matchTold (sym (c .before .before .a2 .given .1))
+unfolding matchInC
+returns-2 c = c .refuse .ensures ∙ ap matchInC (sym (c .before .before .a2 .given .1))
 
 pub tell-match-spec : {M : Type 1} → statement M
-tell-match-spec =
-    tie.close
-    (tie.spec enum-known-a accept-requires enum-known-a-2 refuse-requires returns returns-2)
+tell-match-spec = tie.close (tie.spec enum-known-a accept-requires enum-known-a-2 refuse-requires returns returns-2)

@@ -1,7 +1,7 @@
--- `capi::answers::tell_query` meets its contract.
+-- `capi::answers::tell_query` meets its contract. By cases on the answer: each arm is `queryInC` of its case.
 use borrow.Author.Needs.{needs}
 use mathlib.Core.Path.{ap, sym, _∙_}
-use Rattle.capi.specs.Interface.{queryTold}
+use Rattle.capi.specs.Interface.{queryInC}
 use Rattle.capi.proofs.answers.tell_query.Statement.{statement}
 use Rattle.capi.proofs.answers.tell_query.Tie as tie
 
@@ -18,14 +18,12 @@ refuse-requires : tie.Need-refuse-requires
 refuse-requires c κs = search needs
 
 returns : tie.Need-returns
-unfolding queryTold
-returns c = c .accept .ensures ∙ ap queryTold (sym (c .before .before .a .given .1))
+unfolding queryInC
+returns c = c .accept .ensures ∙ ap queryInC (sym (c .before .before .a .given .1))
 
 returns-2 : tie.Need-returns-2
-unfolding queryTold
-returns-2 c = c .refuse .ensures ∙ ap queryTold (sym (c .before .before .a2 .given .1))
+unfolding queryInC
+returns-2 c = c .refuse .ensures ∙ ap queryInC (sym (c .before .before .a2 .given .1))
 
 pub tell-query-spec : {M : Type 1} → statement M
-tell-query-spec =
-    tie.close
-    (tie.spec enum-known-a accept-requires enum-known-a-2 refuse-requires returns returns-2)
+tell-query-spec = tie.close (tie.spec enum-known-a accept-requires enum-known-a-2 refuse-requires returns returns-2)

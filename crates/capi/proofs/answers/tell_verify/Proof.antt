@@ -1,7 +1,7 @@
--- `capi::answers::tell_verify` meets its contract.
+-- `capi::answers::tell_verify` meets its contract. By cases on the answer: each arm is `verifyInC` of its case.
 use borrow.Author.Needs.{needs}
 use mathlib.Core.Path.{ap, sym, _∙_}
-use Rattle.capi.specs.Interface.{verifyTold}
+use Rattle.capi.specs.Interface.{verifyInC}
 use Rattle.capi.proofs.answers.tell_verify.Statement.{statement}
 use Rattle.capi.proofs.answers.tell_verify.Tie as tie
 
@@ -24,27 +24,16 @@ refuse-requires : tie.Need-refuse-requires
 refuse-requires c κs = search needs
 
 returns : tie.Need-returns
-unfolding verifyTold
-returns c = c .accept .ensures ∙ ap verifyTold (sym (c .before .enum-told .given .1))
+unfolding verifyInC
+returns c = c .accept .ensures ∙ ap verifyInC (sym (c .before .enum-told .given .1))
 
 returns-2 : tie.Need-returns-2
-unfolding verifyTold
-returns-2 c = c .accept2 .ensures ∙ ap verifyTold (sym (c .before .enum-told2 .given .1))
+unfolding verifyInC
+returns-2 c = c .accept2 .ensures ∙ ap verifyInC (sym (c .before .enum-told2 .given .1))
 
 returns-3 : tie.Need-returns-3
-unfolding verifyTold
-returns-3 c = c .refuse .ensures ∙ ap verifyTold (sym (c .before .before .a .given .1))
+unfolding verifyInC
+returns-3 c = c .refuse .ensures ∙ ap verifyInC (sym (c .before .before .a .given .1))
 
 pub tell-verify-spec : {M : Type 1} → statement M
-tell-verify-spec =
-    tie.close
-    (tie.spec
-    enum-told
-    accept-requires
-    enum-told-2
-    accept-requires-2
-    enum-known-a
-    refuse-requires
-    returns
-    returns-2
-    returns-3)
+tell-verify-spec = tie.close (tie.spec enum-told accept-requires enum-told-2 accept-requires-2 enum-known-a refuse-requires returns returns-2 returns-3)

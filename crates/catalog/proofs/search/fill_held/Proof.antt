@@ -1,4 +1,5 @@
 -- `catalog::search::fill_held` meets its contract.
+-- Invariant: the map has the bits of the held numbers below d. Past the last block none is held, so at the end it has all of them.
 use borrow.Author.Needs.{needs}
 use Prim.Native.Nat.{ℕ, _-_, _≤_}
 use native.Mathlib.Omega.{arith}
@@ -21,10 +22,18 @@ zero-requires : tie.Need-zero-requires Inv-loop μ-loop
 zero-requires c κs = search needs
 
 loop-holds : tie.Need-loop-holds Inv-loop μ-loop
-loop-holds c = (omega arith, search-laws.map-start (held (c .before .before .before .before .before .before .args .catalog .now)) _ (c .before .before .zero .ensures ∙ ap (λ (k : ℕ). replicate k 0) (c .before .before .before .before .before .before .pre .0)), c .before .before .zero .kept .0 ∙ c .before .before .before .before .before .before .pre .0)
+loop-holds c =
+    let at-zero = c .before .before in
+    let at-start = at-zero .before .before .before .before in (
+      omega arith,
+      search-laws.map-start (held (at-start .args .catalog .now)) _ (at-zero .zero .ensures ∙ ap (λ (k : ℕ). replicate k 0) (at-start .pre .0)),
+      at-zero .zero .kept .0 ∙ at-start .pre .0,
+    )
 
 is-held-requires : tie.Need-is-held-requires Inv-loop μ-loop
-is-held-requires c κs = c .before .before .before .before .before .before .before .before .pre .2
+is-held-requires c κs =
+    let at-start = c .before .before .before .before .before .before .before .before in
+    at-start .pre .2
 
 mark-requires : tie.Need-mark-requires Inv-loop μ-loop
 mark-requires c κs = search needs
@@ -36,26 +45,29 @@ loop-less : tie.Need-loop-less Inv-loop μ-loop
 loop-less c = search needs
 
 loop-again : tie.Need-loop-again Inv-loop μ-loop
-loop-again c = (search needs, search-laws.map-next (held (c .before .before .before .before .before .before .before .before .before .before .before .before .before .args .catalog .now)) (c .before .before .before .before .before .before .loop .d) (c .before .before .before .before .is-held .result) (c .before .before .before .before .before .before .loop .map) _ (omega (arith, c .before .before .before .before .before .before .before .before .before .before .before .before .before .pre .1)) (c .before .before .before .before .is-held .ensures) (c .before .before .before .before .before .before .loop .inv .1) (c .before .before .mark .ensures), c .before .before .mark .kept .1 .1 .0 ∙ c .before .before .before .before .before .before .loop .inv .2)
+loop-again c =
+    let at-mark = c .before .before in
+    let at-is-held = at-mark .before .before in
+    let at-loop = at-is-held .before .before in
+    let at-start = at-loop .before .before .before .before .before .before .before in (
+      search needs,
+      search-laws.map-next (held (at-start .args .catalog .now)) (at-loop .loop .d) (at-is-held .is-held .result) (at-loop .loop .map) _
+          (omega (arith, at-start .pre .1)) (at-is-held .is-held .ensures) (at-loop .loop .inv .1) (at-mark .mark .ensures),
+      at-mark .mark .kept .1 .1 .0 ∙ at-loop .loop .inv .2,
+    )
 
 same-length : tie.Need-same-length Inv-loop μ-loop
-same-length c = c .before .loop .inv .2 ∙ sym (c .before .before .before .before .before .before .before .before .pre .0)
+same-length c =
+    let at-loop = c .before in
+    let at-start = at-loop .before .before .before .before .before .before .before in
+    at-loop .loop .inv .2 ∙ sym (at-start .pre .0)
 
 returns : tie.Need-returns Inv-loop μ-loop
-returns c = search-laws.map-end (held (c .before .before .before .before .before .before .before .before .args .catalog .now)) (blockCount (c .before .before .before .before .before .before .before .before .args .catalog .now)) (c .before .loop .d) _ (c .loop-test .left) (c .before .loop .inv .0) (search-laws.held-end (c .before .before .before .before .before .before .before .before .args .catalog .now)) (c .before .loop .inv .1)
+returns c =
+    let at-loop = c .before in
+    let at-start = at-loop .before .before .before .before .before .before .before in
+    search-laws.map-end (held (at-start .args .catalog .now)) (blockCount (at-start .args .catalog .now)) (at-loop .loop .d) _ (c .loop-test .left)
+    (at-loop .loop .inv .0) (search-laws.held-end (at-start .args .catalog .now)) (at-loop .loop .inv .1)
 
 pub fill-held-spec : {M : Type 1} → statement M
-fill-held-spec =
-    tie.close
-    (tie.spec
-    Inv-loop
-    μ-loop
-    zero-requires
-    loop-holds
-    is-held-requires
-    mark-requires
-    add-d
-    loop-less
-    loop-again
-    same-length
-    returns)
+fill-held-spec = tie.close (tie.spec Inv-loop μ-loop zero-requires loop-holds is-held-requires mark-requires add-d loop-less loop-again same-length returns)

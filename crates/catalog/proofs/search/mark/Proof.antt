@@ -1,7 +1,8 @@
 -- `catalog::search::mark` meets its contract.
+-- The bit is set, or the map left.
 use borrow.Author.Needs.{needs}
-use lib.ListN.{set}
-use Rattle.strand.specs.Vocabulary.{choose}
+use mathlib.Core.Path.{sym, _∙_}
+use Rattle.lists.proofs.ListLaws.{choose-yes, choose-no}
 use Rattle.catalog.proofs.search.mark.Statement.{statement}
 use Rattle.catalog.proofs.search.mark.Tie as tie
 
@@ -12,12 +13,13 @@ same-length : tie.Need-same-length
 same-length c = search needs
 
 returns : tie.Need-returns
-unfolding choose
-returns c = rw (c .before .before .before .before .if1 .taken) (c .before .before .set .ensures)
+returns c =
+    let at-set = c .before .before in
+    let at-if1 = at-set .before .before in
+    at-set .set .ensures ∙ sym (choose-yes _ _ _ (at-if1 .if1 .taken))
 
 returns-2 : tie.Need-returns-2
-unfolding choose
-returns-2 c = rw (c .if1 .left)
+returns-2 c = sym (choose-no _ _ _ (c .if1 .left))
 
 pub mark-spec : {M : Type 1} → statement M
 mark-spec = tie.close (tie.spec set-requires same-length returns returns-2)

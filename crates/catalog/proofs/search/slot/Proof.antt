@@ -1,29 +1,22 @@
 -- `catalog::search::slot` meets its contract.
-use Prim.Native.Nat.{ℕ, _+_, _%_}
+-- The slot is the key's remainder by the number of blocks.
+use Prim.Native.Nat.{ℕ, _%_}
 use native.Mathlib.Omega.{arith}
-use mathlib.Core.Path.{ap₂}
+use mathlib.Core.Path.{ap}
 use native.Mathlib.Nat.{mod-lt}
-use Rattle.strand.specs.Strands.{key}
 use Rattle.calls.specs.Buffers.{slotOf}
 use Rattle.catalog.proofs.search.slot.Statement.{statement}
 use Rattle.catalog.proofs.search.slot.Tie as tie
 
-sum-bytes-requires : tie.Need-sum-bytes-requires
-sum-bytes-requires c κs = omega (arith, c .before .before .pre)
-
-sum-words-requires : tie.Need-sum-words-requires
-sum-words-requires c κs = omega (arith, c .before .before .before .pre)
-
-add-result : tie.Need-add-result
-add-result c = omega (arith, c .before .sum-bytes .ensures, c .sum-words .ensures)
+key-requires : tie.Need-key-requires
+key-requires c κs = (omega (arith, c .before .before .pre), c .before .before .pre .1)
 
 rem-result : tie.Need-rem-result
-rem-result c = omega (arith, c .before .before .before .before .pre)
+rem-result c = omega (arith, c .before .before .before .pre)
 
 returns : tie.Need-returns
-unfolding slotOf key
-returns c = (ap₂ (λ (a b : ℕ). (a + b) % (c .before .before .before .before .args .n)) (c .before .sum-bytes .ensures .0) (c .sum-words .ensures .0), mod-lt _ (c .before .before .before .before .pre .2))
+unfolding slotOf
+returns c = (ap (λ (k : ℕ). k % (c .before .before .before .args .n)) (c .key .ensures), mod-lt _ (c .before .before .before .pre .2))
 
 pub slot-spec : {M : Type 1} → statement M
-slot-spec =
-    tie.close (tie.spec sum-bytes-requires sum-words-requires add-result rem-result returns)
+slot-spec = tie.close (tie.spec key-requires rem-result returns)

@@ -1,4 +1,5 @@
--- `catalog_test::lines::strand` meets its contract.
+-- `catalog_test::lines::strand` meets its contract. No step fails and the loop ends: the invariant is i ≤ 161, and that both slices keep their
+-- lengths.
 use borrow.Author.Needs.{needs}
 use Prim.Native.Nat.{_-_, _≤_}
 use mathlib.Core.Path.{_≡_}
@@ -46,19 +47,5 @@ returns : tie.Need-returns Inv-loop μ-loop
 returns c = search needs
 
 pub strand-spec : {M : Type 1} → statement M
-strand-spec =
-    tie.close
-    (tie.spec
-    Inv-loop
-    μ-loop
-    loop-holds
-    base-requires
-    set-byte-requires
-    mate-requires
-    set-entry-requires
-    add-i
-    loop-less
-    loop-again
-    same-length
-    same-length-2
-    returns)
+strand-spec = tie.close (tie.spec Inv-loop μ-loop loop-holds base-requires set-byte-requires mate-requires set-entry-requires add-i loop-less loop-again
+    same-length same-length-2 returns)

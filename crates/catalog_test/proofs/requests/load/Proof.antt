@@ -1,4 +1,5 @@
--- `catalog_test::requests::load` meets its contract.
+-- `catalog_test::requests::load` meets its contract. No step fails and the loop ends: the invariant is that i is at most the length of the cache, and
+-- that this length is kept.
 use borrow.Author.Needs.{needs}
 use Prim.Native.Nat.{_-_, _≤_}
 use mathlib.Core.Path.{_≡_}
@@ -40,17 +41,4 @@ returns : tie.Need-returns Inv-loop μ-loop
 returns c = search needs
 
 pub load-spec : {M : Type 1} → statement M
-load-spec =
-    tie.close
-    (tie.spec
-    Inv-loop
-    μ-loop
-    loop-holds
-    add-byte-at
-    byte-at-requires
-    set-byte-requires
-    add-i
-    loop-less
-    loop-again
-    same-length
-    returns)
+load-spec = tie.close (tie.spec Inv-loop μ-loop loop-holds add-byte-at byte-at-requires set-byte-requires add-i loop-less loop-again same-length returns)

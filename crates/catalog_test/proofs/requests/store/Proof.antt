@@ -1,4 +1,5 @@
--- `catalog_test::requests::store` meets its contract.
+-- `catalog_test::requests::store` meets its contract. No step fails and the loop ends: the invariant is that i is at most the length of the cache,
+-- and that s keeps its length.
 use borrow.Author.Needs.{needs}
 use Prim.Native.Nat.{_-_, _≤_}
 use mathlib.Core.Path.{_≡_}
@@ -40,17 +41,4 @@ returns : tie.Need-returns Inv-loop μ-loop
 returns c = search needs
 
 pub store-spec : {M : Type 1} → statement M
-store-spec =
-    tie.close
-    (tie.spec
-    Inv-loop
-    μ-loop
-    loop-holds
-    add-set-byte
-    byte-at-requires
-    set-byte-requires
-    add-i
-    loop-less
-    loop-again
-    same-length
-    returns)
+store-spec = tie.close (tie.spec Inv-loop μ-loop loop-holds add-set-byte byte-at-requires set-byte-requires add-i loop-less loop-again same-length returns)

@@ -1,4 +1,5 @@
--- `catalog_test::requests::untouched` meets its contract.
+-- `catalog_test::requests::untouched` meets its contract. No step fails and the loop ends: the invariant is that i is at most the length of the work
+-- slice.
 use borrow.Author.Needs.{needs}
 use Prim.Native.Nat.{_-_, _≤_}
 use lib.ListN.{length}
@@ -36,16 +37,4 @@ returns-2 : tie.Need-returns-2 Inv-loop μ-loop
 returns-2 c = search needs
 
 pub untouched-spec : {M : Type 1} → statement M
-untouched-spec =
-    tie.close
-    (tie.spec
-    Inv-loop
-    μ-loop
-    loop-holds
-    mul-if1
-    shared-slice-read-if1
-    returns
-    add-i
-    loop-less
-    loop-again
-    returns-2)
+untouched-spec = tie.close (tie.spec Inv-loop μ-loop loop-holds mul-if1 shared-slice-read-if1 returns add-i loop-less loop-again returns-2)

@@ -1,4 +1,4 @@
--- `codec::entry::hit` meets its contract.
+-- `codec::entry::hit` meets its contract: a bit of the hit map.
 use borrow.Author.Needs.{needs}
 use Rattle.block.specs.Content.{hitIn}
 use Rattle.codec.proofs.entry.hit.Statement.{statement}

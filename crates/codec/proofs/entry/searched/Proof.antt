@@ -1,4 +1,4 @@
--- `codec::entry::searched` meets its contract.
+-- `codec::entry::searched` meets its contract: a bit of the searched map.
 use borrow.Author.Needs.{needs}
 use Rattle.block.specs.Content.{searchedIn}
 use Rattle.codec.proofs.entry.searched.Statement.{statement}

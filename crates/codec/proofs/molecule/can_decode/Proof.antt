@@ -1,4 +1,4 @@
--- `codec::molecule::can_decode` meets its contract.
+-- `codec::molecule::can_decode` meets its contract: each return is one condition.
 use borrow.Author.Needs.{needs}
 use native.Mathlib.Omega.{arith}
 use Rattle.codec.proofs.OutcomeLaws as law
@@ -6,7 +6,7 @@ use Rattle.codec.proofs.molecule.can_decode.Statement.{statement}
 use Rattle.codec.proofs.molecule.can_decode.Tie as tie
 
 returns : tie.Need-returns
-returns c = law.decodes-1 (c .before .args .s .now) (c .before .args .bases) (c .before .args .mates) (c .if1 .taken)
+returns c = law.decodes-no-block _ _ _ (c .if1 .taken)
 
 shared-slice-read-n : tie.Need-shared-slice-read-n
 shared-slice-read-n c = search needs
@@ -15,13 +15,19 @@ cast-n : tie.Need-cast-n
 cast-n c = omega (arith, c .shared-slice-known .given 1)
 
 returns-2 : tie.Need-returns-2
-returns-2 c = law.decodes-2 (c .before .before .before .args .s .now) (c .before .before .before .args .bases) (c .before .before .before .args .mates) (c .before .before .if1 .left) (c .if2 .taken)
+returns-2 c = law.decodes-too-long _ _ _ (c .before .before .if1 .left) (c .if2 .taken)
 
 returns-3 : tie.Need-returns-3
-returns-3 c = law.decodes-3 (c .before .before .before .before .args .s .now) (c .before .before .before .before .args .bases) (c .before .before .before .before .args .mates) (c .before .before .before .if1 .left) (c .before .if2 .left) (c .if3 .taken)
+returns-3 c =
+    let at-if2 = c .before in
+    let at-if1 = at-if2 .before .before in
+    law.decodes-few-bases _ _ _ (at-if1 .if1 .left) (at-if2 .if2 .left) (c .if3 .taken)
 
 returns-4 : tie.Need-returns-4
-returns-4 c = law.decodes-4 (c .before .before .before .before .args .s .now) (c .before .before .before .before .args .bases) (c .before .before .before .before .args .mates) (c .before .before .before .if1 .left) (c .before .if2 .left) (c .if3 .left)
+returns-4 c =
+    let at-if2 = c .before in
+    let at-if1 = at-if2 .before .before in
+    law.decodes-by-mates _ _ _ (at-if1 .if1 .left) (at-if2 .if2 .left) (c .if3 .left)
 
 pub can-decode-spec : {M : Type 1} → statement M
 can-decode-spec =

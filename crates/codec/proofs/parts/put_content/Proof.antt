@@ -1,4 +1,4 @@
--- `codec::parts::put_content` meets its contract.
+-- `codec::parts::put_content` meets its contract: head, bases and mates are written one after the other, each over the whole of its part.
 use borrow.Author.Needs.{needs}
 use lib.ListN.{length}
 use lib.Seq.{length-take-le}
@@ -23,10 +23,12 @@ slice-relend-prefix-put-head : tie.Need-slice-relend-prefix-put-head
 slice-relend-prefix-put-head c = search needs
 
 slice-aggregate-put-head : tie.Need-slice-aggregate-put-head
-slice-aggregate-put-head c = sym (length-take-le (c .before .before .before .before .args .start) (c .before .before .before .before .args .s .now) (search needs))
+slice-aggregate-put-head c = sym (length-take-le _ _ (search needs))
 
 put-head-requires : tie.Need-put-head-requires
-put-head-requires c κs = rw (length-take-le (c .before .before .before .before .args .start) (c .before .before .before .before .args .s .now) (search needs)) (search needs)
+put-head-requires c κs =
+    let at-start = c .before .before .before .before .before in
+    rw (length-take-le (at-start .args .start) (at-start .args .s .now) (search needs)) (search needs)
 
 sub-put-padded : tie.Need-sub-put-padded
 sub-put-padded c = search needs
@@ -56,26 +58,16 @@ same-length : tie.Need-same-length
 same-length c = search needs
 
 returns : tie.Need-returns
-returns c = laws.content-put (c .before .before .before .before .before .before .before .before .before .before .before .before .before .before .before .args .mark) (c .before .before .before .before .before .before .before .before .before .before .before .before .before .before .before .args .start) (c .before .before .before .before .before .before .before .before .before .before .before .before .before .before .before .args .most) (c .before .before .before .before .before .before .before .before .before .before .before .before .before .before .before .args .bases .now) (c .before .before .before .before .before .before .before .before .before .before .before .before .before .before .before .args .mates .now) (search needs) (search needs) (length (c .before .before .before .before .before .before .before .before .before .before .before .before .before .before .before .args .bases .now)) (c .before .before .before .before .before .before .before .before .before .before .before .before .before .before .before .args .s .now) (c .before .before .before .before .before .before .before .before .before .before .put-head .last .0) (c .before .before .before .before .before .before .put-padded .last .0) (c .before .before .put-mates .last .0) (search needs) refl (c .before .before .before .before .before .before .before .before .before .before .put-head .ensures) (c .before .before .before .before .before .before .put-padded .ensures) (c .before .before .put-mates .ensures)
+returns c =
+    let at-put-mates = c .before .before in
+    let at-put-padded = at-put-mates .before .before .before .before in
+    let at-put-head = at-put-padded .before .before .before .before in
+    let at-start = at-put-head .before .before .before .before .before .before in
+    laws.content-put (at-start .args .mark) (at-start .args .start) (at-start .args .most) (at-start .args .own .now) (at-start .args .bases .now)
+    (at-start .args .mates .now) (search needs) (search needs) (length (at-start .args .bases .now)) (at-start .args .s .now)
+    (at-put-head .put-head .last .0) (at-put-padded .put-padded .last .0) (at-put-mates .put-mates .last .0) (search needs) refl
+    (at-put-head .put-head .ensures) (at-put-padded .put-padded .ensures) (at-put-mates .put-mates .ensures)
 
 pub put-content-spec : {M : Type 1} → statement M
-put-content-spec =
-    tie.close
-    (tie.spec
-    cast-n
-    add-f
-    mul-h
-    add-h
-    slice-relend-prefix-put-head
-    slice-aggregate-put-head
-    put-head-requires
-    sub-put-padded
-    part-put-padded-start
-    part-put-padded-end
-    put-padded-requires
-    sub-put-mates
-    part-put-mates-start
-    part-put-mates-end
-    put-mates-requires
-    same-length
-    returns)
+put-content-spec = tie.close (tie.spec cast-n add-f mul-h add-h slice-relend-prefix-put-head slice-aggregate-put-head put-head-requires sub-put-padded
+    part-put-padded-start part-put-padded-end put-padded-requires sub-put-mates part-put-mates-start part-put-mates-end put-mates-requires same-length returns)

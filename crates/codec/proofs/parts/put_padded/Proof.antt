@@ -1,6 +1,5 @@
--- `codec::parts::put_padded` meets its contract.
+-- `codec::parts::put_padded` meets its contract: the copy, then zeros.
 use borrow.Author.Needs.{needs}
-use lib.ListN.{length}
 use lib.Seq.{length-take-le}
 use mathlib.Core.Path.{sym}
 use Rattle.codec.proofs.CodeLaws as laws
@@ -11,10 +10,10 @@ slice-relend-prefix-copy : tie.Need-slice-relend-prefix-copy
 slice-relend-prefix-copy c = search needs
 
 slice-aggregate-copy : tie.Need-slice-aggregate-copy
-slice-aggregate-copy c = sym (length-take-le (length (c .before .before .before .args .src .now)) (c .before .before .before .args .s .now) (search needs))
+slice-aggregate-copy c = sym (length-take-le _ _ (search needs))
 
 copy-requires : tie.Need-copy-requires
-copy-requires c κs = sym (length-take-le (length (c .before .before .before .args .src .now)) (c .before .before .before .args .s .now) (search needs))
+copy-requires c κs = sym (length-take-le _ _ (search needs))
 
 sub-zero : tie.Need-sub-zero
 sub-zero c = search needs
@@ -32,18 +31,11 @@ same-length : tie.Need-same-length
 same-length c = search needs
 
 returns : tie.Need-returns
-returns c = laws.padded-is (c .before .before .before .before .before .before .before .before .before .before .args .s .now) (c .before .before .before .before .before .before .before .before .before .before .args .src .now) (c .before .before .before .before .before .before .copy .last .1 .0) (c .before .before .zero .last .0) (search needs) (c .before .before .before .before .before .before .copy .ensures) (c .before .before .zero .ensures)
+returns c =
+    let at-zero = c .before .before in
+    let at-copy = at-zero .before .before .before .before in
+    laws.padded-is _ _ _ _ (search needs) (at-copy .copy .ensures) (at-zero .zero .ensures)
 
 pub put-padded-spec : {M : Type 1} → statement M
-put-padded-spec =
-    tie.close
-    (tie.spec
-    slice-relend-prefix-copy
-    slice-aggregate-copy
-    copy-requires
-    sub-zero
-    part-zero-start
-    part-zero-end
-    zero-requires
-    same-length
-    returns)
+put-padded-spec = tie.close (tie.spec slice-relend-prefix-copy slice-aggregate-copy copy-requires sub-zero part-zero-start part-zero-end zero-requires
+    same-length returns)

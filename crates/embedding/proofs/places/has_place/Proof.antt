@@ -1,15 +1,16 @@
--- `embedding::places::has_place` meets its contract.
+-- `embedding::places::has_place` meets its contract. The invariant of the binary search: places before lo are below x, those from hi on above it.
 use Prim.Native.Nat.{ℕ, _+_, _-_, _/_, _≤_, _<_}
 use native.Mathlib.Omega.{arith}
 use lib.ListN.{length}
-use Rattle.strand.specs.Vocabulary.{nth}
+use Rattle.lists.specs.Vocabulary.{nth}
 use Rattle.embedding.proofs.Answers.{tells-yes, tells-no}
 use Rattle.embedding.proofs.Placing.{has-none, order-le}
 use Rattle.embedding.proofs.places.has_place.Statement.{statement}
 use Rattle.embedding.proofs.places.has_place.Tie as tie
 
 abbrev Inv-loop : tie.InvT-loop
-Inv-loop places n x lo₀ hi₀ lo hi = (lo ≤ hi) × (hi ≤ length places) × ((y : ℕ) → y < lo → nth places y < x) × ((y : ℕ) → hi ≤ y → y < length places → x < nth places y)
+Inv-loop places n x lo₀ hi₀ lo hi = (lo ≤ hi) × (hi ≤ length places) × ((y : ℕ) → y < lo → nth places y < x)
+    × ((y : ℕ) → hi ≤ y → y < length places → x < nth places y)
 
 abbrev μ-loop : tie.MeasureT-loop
 μ-loop places n x lo₀ hi₀ lo hi = hi - lo
@@ -30,7 +31,7 @@ shared-slice-read-y : tie.Need-shared-slice-read-y Inv-loop μ-loop
 shared-slice-read-y c = omega arith
 
 returns : tie.Need-returns Inv-loop μ-loop
-returns c = tells-yes record { position = _; inside = omega arith; here = (c .if1) .taken }
+returns c = tells-yes record { position = _; inside = omega arith; here = c .if1 .taken }
 
 add-lo : tie.Need-add-lo Inv-loop μ-loop
 add-lo c = omega arith
@@ -39,32 +40,33 @@ loop-less : tie.Need-loop-less Inv-loop μ-loop
 loop-less c = omega arith
 
 loop-again : tie.Need-loop-again Inv-loop μ-loop
-loop-again c = (omega arith, omega arith, (λ y h. omega (arith, order-le ((c .before .before .before .before .before .args) .places .now) ((c .before .before .before .before .before .args) .n) ((c .before .before .before .before .before .pre)) y ((c .before .before .before .before .loop) .lo + ((c .before .before .before .before .loop) .hi - (c .before .before .before .before .loop) .lo) / 2) (omega arith) (omega arith), (c .if2) .taken)), (c .before .before .before .before .loop) .inv .3)
+loop-again c =
+    let at-loop = c .before .before .before .before in
+    let at-start = at-loop .before in (
+      omega arith,
+      omega arith,
+      (λ y h. omega (
+        arith,
+        order-le (at-start .args .places .now) (at-start .args .n) (at-start .pre) y (at-loop .loop .lo + (at-loop .loop .hi - (at-loop .loop) .lo) / 2)
+            (omega arith) (omega arith),
+        c .if2 .taken,
+      )),
+      at-loop .loop .inv .3,
+    )
 
 loop-less-2 : tie.Need-loop-less-2 Inv-loop μ-loop
 loop-less-2 c = omega arith
 
 loop-again-2 : tie.Need-loop-again-2 Inv-loop μ-loop
-loop-again-2 c = (omega arith, omega arith, (c .before .before .before .before .loop) .inv .2, (λ y h g. omega (arith, order-le ((c .before .before .before .before .before .args) .places .now) ((c .before .before .before .before .before .args) .n) ((c .before .before .before .before .before .pre)) ((c .before .before .before .before .loop) .lo + ((c .before .before .before .before .loop) .hi - (c .before .before .before .before .loop) .lo) / 2) y h g, (c .if2) .left, (c .before .if1) .left)))
+loop-again-2 c =
+    let at-if1 = c .before in
+    let at-loop = at-if1 .before .before .before in
+    let at-start = at-loop .before in
+    (omega arith, omega arith, at-loop .loop .inv .2, (λ y h g. omega (arith, order-le _ _ (at-start .pre) _ y h g, c .if2 .left, at-if1 .if1 .left)))
 
 returns-2 : tie.Need-returns-2 Inv-loop μ-loop
-returns-2 c = tells-no (has-none _ _ _ _ ((c .loop-test) .left) ((c .before .loop) .inv .2) ((c .before .loop) .inv .3))
+returns-2 c = tells-no (has-none _ _ _ _ (c .loop-test .left) (c .before .loop .inv .2) (c .before .loop .inv .3))
 
 pub has-place-spec : {M : Type 1} → statement M
-has-place-spec =
-    tie.close
-    (tie.spec
-    Inv-loop
-    μ-loop
-    loop-holds
-    sub-mid
-    add-mid
-    mul-y
-    shared-slice-read-y
-    returns
-    add-lo
-    loop-less
-    loop-again
-    loop-less-2
-    loop-again-2
-    returns-2)
+has-place-spec = tie.close (tie.spec Inv-loop μ-loop loop-holds sub-mid add-mid mul-y shared-slice-read-y returns add-lo loop-less loop-again loop-less-2
+    loop-again-2 returns-2)

@@ -1,4 +1,5 @@
--- `nested` ends and keeps the lengths of its slices.
+-- `embedding_test::make::nested` meets its contract. No step fails, and the loop ends: the invariant is that i is at most the number of mates, and
+-- that the three slices keep their lengths.
 use Prim.Native.Nat.{_-_, _≤_}
 use mathlib.Core.Path.{_≡_}
 use lib.ListN.{length}
@@ -7,7 +8,8 @@ use Rattle.embedding_test.proofs.make.nested.Statement.{statement}
 use Rattle.embedding_test.proofs.make.nested.Tie as tie
 
 abbrev Inv-loop : tie.InvT-loop
-Inv-loop seed kinds bases₀ mates₀ stack₀ x₀ depth₀ i₀ bases mates stack x depth i = (i ≤ length mates) × (length bases ≡ length bases₀) × (length mates ≡ length mates₀) × (length stack ≡ length stack₀)
+Inv-loop seed kinds bases₀ mates₀ stack₀ x₀ depth₀ i₀ bases mates stack x depth i = (i ≤ length mates) × (length bases ≡ length bases₀)
+    × (length mates ≡ length mates₀) × (length stack ≡ length stack₀)
 
 abbrev μ-loop : tie.MeasureT-loop
 μ-loop seed kinds bases₀ mates₀ stack₀ x₀ depth₀ i₀ bases mates stack x depth i = length mates - i
@@ -58,23 +60,5 @@ returns : tie.Need-returns Inv-loop μ-loop
 returns c = search needs
 
 pub nested-spec : {M : Type 1} → statement M
-nested-spec =
-    tie.close
-    (tie.spec
-    Inv-loop
-    μ-loop
-    loop-holds
-    next-requires
-    add-letter
-    rem-letter
-    letter-requires
-    set-byte-requires
-    next-requires-2
-    fold-requires
-    add-i
-    loop-less
-    loop-again
-    same-length
-    same-length-2
-    same-length-3
-    returns)
+nested-spec = tie.close (tie.spec Inv-loop μ-loop loop-holds next-requires add-letter rem-letter letter-requires set-byte-requires next-requires-2 fold-requires
+    add-i loop-less loop-again same-length same-length-2 same-length-3 returns)

@@ -1,4 +1,5 @@
--- `lists` ends and keeps the length of the places.
+-- `embedding_test::random::lists` meets its contract. No step fails, and the loop ends: the invariant is code ≤ count, and that the places keep their
+-- length.
 use Prim.Native.Nat.{_-_, _≤_}
 use mathlib.Core.Path.{_≡_}
 use lib.ListN.{length}
@@ -40,17 +41,5 @@ returns : tie.Need-returns Inv-loop μ-loop
 returns c = search needs
 
 pub lists-spec : {M : Type 1} → statement M
-lists-spec =
-    tie.close
-    (tie.spec
-    Inv-loop
-    μ-loop
-    loop-holds
-    write-list-requires
-    compared-requires
-    added-requires
-    add-code
-    loop-less
-    loop-again
-    same-length
+lists-spec = tie.close (tie.spec Inv-loop μ-loop loop-holds write-list-requires compared-requires added-requires add-code loop-less loop-again same-length
     returns)

@@ -1,4 +1,4 @@
--- `pairs` ends.
+-- `embedding_test::random::pairs` meets its contract. No step fails, and the loop ends: the invariant is i ≤ count.
 use Prim.Native.Nat.{_-_, _≤_}
 use borrow.Author.Needs.{needs}
 use Rattle.embedding_test.proofs.random.pairs.Statement.{statement}
@@ -32,15 +32,4 @@ returns : tie.Need-returns Inv-loop μ-loop
 returns c = search needs
 
 pub pairs-spec : {M : Type 1} → statement M
-pairs-spec =
-    tie.close
-    (tie.spec
-    Inv-loop
-    μ-loop
-    loop-holds
-    one-pair-requires
-    added-requires
-    add-i
-    loop-less
-    loop-again
-    returns)
+pairs-spec = tie.close (tie.spec Inv-loop μ-loop loop-holds one-pair-requires added-requires add-i loop-less loop-again returns)

@@ -1,4 +1,5 @@
--- `write_list` ends and keeps the length of the places.
+-- `embedding_test::random::write_list` meets its contract. No step fails, and the loop ends: the invariant is that i is at most the number of places,
+-- and that this number is kept.
 use Prim.Native.Nat.{_-_, _≤_}
 use mathlib.Core.Path.{_≡_}
 use lib.ListN.{length}
@@ -34,15 +35,4 @@ returns : tie.Need-returns Inv-loop μ-loop
 returns c = search needs
 
 pub write-list-spec : {M : Type 1} → statement M
-write-list-spec =
-    tie.close
-    (tie.spec
-    Inv-loop
-    μ-loop
-    loop-holds
-    set-entry-requires
-    add-i
-    loop-less
-    loop-again
-    same-length
-    returns)
+write-list-spec = tie.close (tie.spec Inv-loop μ-loop loop-holds set-entry-requires add-i loop-less loop-again same-length returns)

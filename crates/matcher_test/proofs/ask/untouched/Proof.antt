@@ -1,4 +1,5 @@
--- `matcher_test::ask::untouched` meets its contract.
+-- `matcher_test::ask::untouched` meets its contract. No step fails and the loop ends: the invariant is that i is not below its start; the test of the
+-- loop guards each read.
 use native.Mathlib.Omega.{arith}
 use borrow.Author.Needs.{needs}
 use Prim.Native.Nat.{_-_, _≤_}
@@ -37,16 +38,4 @@ returns-2 : tie.Need-returns-2 Inv-loop μ-loop
 returns-2 c = tt
 
 pub untouched-spec : {M : Type 1} → statement M
-untouched-spec =
-    tie.close
-    (tie.spec
-    Inv-loop
-    μ-loop
-    loop-holds
-    mul-if1
-    shared-slice-read-if1
-    returns
-    add-i
-    loop-less
-    loop-again
-    returns-2)
+untouched-spec = tie.close (tie.spec Inv-loop μ-loop loop-holds mul-if1 shared-slice-read-if1 returns add-i loop-less loop-again returns-2)

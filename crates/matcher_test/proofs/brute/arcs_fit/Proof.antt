@@ -1,4 +1,4 @@
--- `matcher_test::brute::arcs_fit` meets its contract.
+-- `matcher_test::brute::arcs_fit` meets its contract. No step fails and the loop ends: the invariant is x ≤ i.
 use borrow.Author.Needs.{needs}
 use Prim.Native.Nat.{_-_, _≤_}
 use native.Mathlib.Omega.{arith}
@@ -33,6 +33,4 @@ returns-2 : tie.Need-returns-2 Inv-loop μ-loop
 returns-2 c = tt
 
 pub arcs-fit-spec : {M : Type 1} → statement M
-arcs-fit-spec =
-    tie.close
-    (tie.spec Inv-loop μ-loop loop-holds entry-at-requires returns add-x loop-less loop-again returns-2)
+arcs-fit-spec = tie.close (tie.spec Inv-loop μ-loop loop-holds entry-at-requires returns add-x loop-less loop-again returns-2)

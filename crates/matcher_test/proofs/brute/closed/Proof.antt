@@ -1,4 +1,4 @@
--- `matcher_test::brute::closed` meets its contract.
+-- `matcher_test::brute::closed` meets its contract. No step fails and the loop ends: the invariant is y ≤ k.
 use native.Mathlib.Omega.{arith}
 use Prim.Native.Nat.{_-_, _≤_}
 use Rattle.matcher_test.proofs.brute.closed.Statement.{statement}
@@ -32,6 +32,4 @@ returns-2 : tie.Need-returns-2 Inv-loop μ-loop
 returns-2 c = tt
 
 pub closed-spec : {M : Type 1} → statement M
-closed-spec =
-    tie.close
-    (tie.spec Inv-loop μ-loop loop-holds entry-at-requires returns add-y loop-less loop-again returns-2)
+closed-spec = tie.close (tie.spec Inv-loop μ-loop loop-holds entry-at-requires returns add-y loop-less loop-again returns-2)

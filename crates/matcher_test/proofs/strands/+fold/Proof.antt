@@ -1,4 +1,5 @@
--- `matcher_test::strands::fold` meets its contract.
+-- `matcher_test::strands::fold` meets its contract. No step fails, and the calls of itself end: the measure is the length of the stretch, and both
+-- calls are given a shorter one.
 use native.Mathlib.Omega.{arith}
 use Prim.Native.Nat.{ℕ, _-_, _<_}
 use mathlib.Core.Path.{_∙_}
@@ -21,134 +22,62 @@ fold-at t = and 1 fold-kinds.ps (is 1 fold-kinds.ps μ-fold t) fold.Pre
 abbrev fold-below : ℕ → In 1 fold-kinds.ps
 fold-below t = and 1 fold-kinds.ps (falls 1 fold-kinds.ps _<_ μ-fold t) fold.Pre
 
-fold-returns : (t : ℕ) → fold-lts.Need-returns (
+-- What the functions that `fold` calls ask and tell, in the order of its calls.
+abbrev fold-callees : ℕ → fold-lts.Claims
+fold-callees t = (
   reach-reads.Asked,
   reach-reads.Learnt,
   bond-reads.Asked,
   bond-reads.Learnt,
   fold-below t,
   fold.Post,
-) (fold-at t) fold.Post
+)
+
+fold-returns : (t : ℕ) → fold-lts.Need-returns (fold-callees t) (fold-at t) fold.Post
 fold-returns t c = tt
 
-fold-sub-reach : (t : ℕ) → fold-lts.Need-sub-reach (
-  reach-reads.Asked,
-  reach-reads.Learnt,
-  bond-reads.Asked,
-  bond-reads.Learnt,
-  fold-below t,
-  fold.Post,
-) (fold-at t) fold.Post
+fold-sub-reach : (t : ℕ) → fold-lts.Need-sub-reach (fold-callees t) (fold-at t) fold.Post
 fold-sub-reach t c = omega arith
 
-fold-reach-requires : (t : ℕ) → fold-lts.Need-reach-requires (
-  reach-reads.Asked,
-  reach-reads.Learnt,
-  bond-reads.Asked,
-  bond-reads.Learnt,
-  fold-below t,
-  fold.Post,
-) (fold-at t) fold.Post
+fold-reach-requires : (t : ℕ) → fold-lts.Need-reach-requires (fold-callees t) (fold-at t) fold.Post
 fold-reach-requires t c κs = tt
 
-fold-sub-if2 : (t : ℕ) → fold-lts.Need-sub-if2 (
-  reach-reads.Asked,
-  reach-reads.Learnt,
-  bond-reads.Asked,
-  bond-reads.Learnt,
-  fold-below t,
-  fold.Post,
-) (fold-at t) fold.Post
+fold-sub-if2 : (t : ℕ) → fold-lts.Need-sub-if2 (fold-callees t) (fold-at t) fold.Post
 fold-sub-if2 t c = omega arith
 
-fold-returns-2 : (t : ℕ) → fold-lts.Need-returns-2 (
-  reach-reads.Asked,
-  reach-reads.Learnt,
-  bond-reads.Asked,
-  bond-reads.Learnt,
-  fold-below t,
-  fold.Post,
-) (fold-at t) fold.Post
+fold-returns-2 : (t : ℕ) → fold-lts.Need-returns-2 (fold-callees t) (fold-at t) fold.Post
 fold-returns-2 t c = tt
 
-fold-add-e : (t : ℕ) → fold-lts.Need-add-e (
-  reach-reads.Asked,
-  reach-reads.Learnt,
-  bond-reads.Asked,
-  bond-reads.Learnt,
-  fold-below t,
-  fold.Post,
-) (fold-at t) fold.Post
+fold-add-e : (t : ℕ) → fold-lts.Need-add-e (fold-callees t) (fold-at t) fold.Post
 fold-add-e t c = omega arith
 
-fold-bond-requires : (t : ℕ) → fold-lts.Need-bond-requires (
-  reach-reads.Asked,
-  reach-reads.Learnt,
-  bond-reads.Asked,
-  bond-reads.Learnt,
-  fold-below t,
-  fold.Post,
-) (fold-at t) fold.Post
+fold-bond-requires : (t : ℕ) → fold-lts.Need-bond-requires (fold-callees t) (fold-at t) fold.Post
 fold-bond-requires t c κs = tt
 
-fold-add-fold : (t : ℕ) → fold-lts.Need-add-fold (
-  reach-reads.Asked,
-  reach-reads.Learnt,
-  bond-reads.Asked,
-  bond-reads.Learnt,
-  fold-below t,
-  fold.Post,
-) (fold-at t) fold.Post
+fold-add-fold : (t : ℕ) → fold-lts.Need-add-fold (fold-callees t) (fold-at t) fold.Post
 fold-add-fold t c = omega arith
 
-fold-fold-requires : (t : ℕ) → fold-lts.Need-fold-requires (
-  reach-reads.Asked,
-  reach-reads.Learnt,
-  bond-reads.Asked,
-  bond-reads.Learnt,
-  fold-below t,
-  fold.Post,
-) (fold-at t) fold.Post
-fold-fold-requires t c κs = (omega (arith, c .before .before .before .before .before .before .before .before .before .pre .0), tt)
+fold-fold-requires : (t : ℕ) → fold-lts.Need-fold-requires (fold-callees t) (fold-at t) fold.Post
+fold-fold-requires t c κs =
+    let at-start = c .before .before .before .before .before .before .before .before .before in
+    (omega (arith, at-start .pre .0), tt)
 
-fold-add-fold-2 : (t : ℕ) → fold-lts.Need-add-fold-2 (
-  reach-reads.Asked,
-  reach-reads.Learnt,
-  bond-reads.Asked,
-  bond-reads.Learnt,
-  fold-below t,
-  fold.Post,
-) (fold-at t) fold.Post
+fold-add-fold-2 : (t : ℕ) → fold-lts.Need-add-fold-2 (fold-callees t) (fold-at t) fold.Post
 fold-add-fold-2 t c = omega arith
 
-fold-fold-requires-2 : (t : ℕ) → fold-lts.Need-fold-requires-2 (
-  reach-reads.Asked,
-  reach-reads.Learnt,
-  bond-reads.Asked,
-  bond-reads.Learnt,
-  fold-below t,
-  fold.Post,
-) (fold-at t) fold.Post
-fold-fold-requires-2 t c κs = (omega (arith, c .before .before .before .before .before .before .before .before .before .before .before .before .before .pre .0), tt)
+fold-fold-requires-2 : (t : ℕ) → fold-lts.Need-fold-requires-2 (fold-callees t) (fold-at t) fold.Post
+fold-fold-requires-2 t c κs =
+    let at-start = c .before .before .before .before .before .before .before .before .before .before .before .before .before in
+    (omega (arith, at-start .pre .0), tt)
 
-fold-same-length : (t : ℕ) → fold-lts.Need-same-length (
-  reach-reads.Asked,
-  reach-reads.Learnt,
-  bond-reads.Asked,
-  bond-reads.Learnt,
-  fold-below t,
-  fold.Post,
-) (fold-at t) fold.Post
-fold-same-length t c = c .before .before .fold2 .kept .1 .1 .1 .1 .0 ∙ c .before .before .before .before .before .before .fold .kept .1 .1 .1 .1 .0 ∙ c .before .before .before .before .before .before .before .before .before .before .bond .kept .0
+fold-same-length : (t : ℕ) → fold-lts.Need-same-length (fold-callees t) (fold-at t) fold.Post
+fold-same-length t c =
+    let at-fold2 = c .before .before in
+    let at-fold = at-fold2 .before .before .before .before in
+    let at-bond = at-fold .before .before .before .before in
+    at-fold2 .fold2 .kept .1 .1 .1 .1 .0 ∙ at-fold .fold .kept .1 .1 .1 .1 .0 ∙ at-bond .bond .kept .0
 
-fold-returns-3 : (t : ℕ) → fold-lts.Need-returns-3 (
-  reach-reads.Asked,
-  reach-reads.Learnt,
-  bond-reads.Asked,
-  bond-reads.Learnt,
-  fold-below t,
-  fold.Post,
-) (fold-at t) fold.Post
+fold-returns-3 : (t : ℕ) → fold-lts.Need-returns-3 (fold-callees t) (fold-at t) fold.Post
 fold-returns-3 t c = tt
 
 pub +fold-spec : {M : Type 1} → statement M

@@ -1,4 +1,5 @@
--- `matcher_test::strands::copy` meets its contract.
+-- `matcher_test::strands::copy` meets its contract. No step fails and the loop ends: the invariant is k ≤ 10, and that both slices keep their
+-- lengths; the columns stay small because `at` does.
 use native.Mathlib.Omega.{arith}
 use Prim.Native.Nat.{_-_, _≤_}
 use mathlib.Core.Path.{_≡_, refl, _∙_}
@@ -43,7 +44,11 @@ loop-less : tie.Need-loop-less Inv-loop μ-loop
 loop-less c = omega arith
 
 loop-again : tie.Need-loop-again Inv-loop μ-loop
-loop-again c = (omega arith, (c .before .before .before .before .before .before .before .set-byte .kept .0 ∙ c .before .before .before .before .before .before .before .before .before .before .before .loop .inv .1 .0, c .before .before .set-entry .kept .0 ∙ c .before .before .before .before .before .before .before .before .before .before .before .loop .inv .1 .1))
+loop-again c =
+    let at-set-entry = c .before .before in
+    let at-set-byte = at-set-entry .before .before .before .before .before in
+    let at-loop = at-set-byte .before .before .before .before in
+    (omega arith, (at-set-byte .set-byte .kept .0 ∙ at-loop .loop .inv .1 .0, at-set-entry .set-entry .kept .0 ∙ at-loop .loop .inv .1 .1))
 
 same-length : tie.Need-same-length Inv-loop μ-loop
 same-length c = c .before .loop .inv .1 .0
@@ -55,22 +60,5 @@ returns : tie.Need-returns Inv-loop μ-loop
 returns c = tt
 
 pub copy-spec : {M : Type 1} → statement M
-copy-spec =
-    tie.close
-    (tie.spec
-    Inv-loop
-    μ-loop
-    loop-holds
-    add-byte-at
-    byte-at-requires
-    set-byte-requires
-    add-digit-at
-    add-digit-at-2
-    digit-at-requires
-    set-entry-requires
-    add-k
-    loop-less
-    loop-again
-    same-length
-    same-length-2
-    returns)
+copy-spec = tie.close (tie.spec Inv-loop μ-loop loop-holds add-byte-at byte-at-requires set-byte-requires add-digit-at add-digit-at-2 digit-at-requires
+    set-entry-requires add-k loop-less loop-again same-length same-length-2 returns)

@@ -1,4 +1,4 @@
--- `matcher_test::strands::spell` meets its contract.
+-- `matcher_test::strands::spell` meets its contract. No step fails and the loop ends: the invariant is i ≤ n, and that the bases keep their number.
 use native.Mathlib.Omega.{arith}
 use Prim.Native.Nat.{_-_, _≤_}
 use mathlib.Core.Path.{_≡_, refl, _∙_}
@@ -28,7 +28,10 @@ loop-less : tie.Need-loop-less Inv-loop μ-loop
 loop-less c = omega arith
 
 loop-again : tie.Need-loop-again Inv-loop μ-loop
-loop-again c = (omega arith, c .before .before .set-byte .kept .0 ∙ c .before .before .before .before .before .before .loop .inv .1)
+loop-again c =
+    let at-set-byte = c .before .before in
+    let at-loop = at-set-byte .before .before .before .before in
+    (omega arith, at-set-byte .set-byte .kept .0 ∙ at-loop .loop .inv .1)
 
 same-length : tie.Need-same-length Inv-loop μ-loop
 same-length c = c .before .loop .inv .1
@@ -37,16 +40,4 @@ returns : tie.Need-returns Inv-loop μ-loop
 returns c = tt
 
 pub spell-spec : {M : Type 1} → statement M
-spell-spec =
-    tie.close
-    (tie.spec
-    Inv-loop
-    μ-loop
-    loop-holds
-    base-requires
-    set-byte-requires
-    add-i
-    loop-less
-    loop-again
-    same-length
-    returns)
+spell-spec = tie.close (tie.spec Inv-loop μ-loop loop-holds base-requires set-byte-requires add-i loop-less loop-again same-length returns)

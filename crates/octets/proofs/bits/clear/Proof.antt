@@ -1,4 +1,4 @@
--- `octets::bits::clear` meets its contract.
+-- `octets::bits::clear` meets its contract: one byte is stored; past the end nothing is.
 use Rattle.octets.proofs.BitLaws.{clear-map-out, without-bit}
 use Rattle.octets.specs.Bits.{clearMap}
 use borrow.Author.Needs.{needs}
@@ -42,17 +42,5 @@ returns-3 : tie.Need-returns-3
 returns-3 c = sym (clear-map-out _ _ _ (omega arith))
 
 pub clear-spec : {M : Type 1} → statement M
-clear-spec =
-    tie.close
-    (tie.spec
-    cast-k
-    sub-if2
-    add-without-bit
-    slice-read-without-bit
-    without-bit-requires
-    add-s
-    slice-write-s
-    same-length
-    returns
-    returns-2
+clear-spec = tie.close (tie.spec cast-k sub-if2 add-without-bit slice-read-without-bit without-bit-requires add-s slice-write-s same-length returns returns-2
     returns-3)

@@ -1,4 +1,4 @@
--- `octets::bits::set` meets its contract.
+-- `octets::bits::set` meets its contract: one byte is stored; past the end nothing is.
 use Rattle.octets.proofs.BitLaws.{set-map-out, with-bit}
 use Rattle.octets.specs.Bits.{setMap}
 use borrow.Author.Needs.{needs}
@@ -42,17 +42,4 @@ returns-3 : tie.Need-returns-3
 returns-3 c = sym (set-map-out _ _ _ (omega arith))
 
 pub set-spec : {M : Type 1} → statement M
-set-spec =
-    tie.close
-    (tie.spec
-    cast-k
-    sub-if2
-    add-with-bit
-    slice-read-with-bit
-    with-bit-requires
-    add-s
-    slice-write-s
-    same-length
-    returns
-    returns-2
-    returns-3)
+set-spec = tie.close (tie.spec cast-k sub-if2 add-with-bit slice-read-with-bit with-bit-requires add-s slice-write-s same-length returns returns-2 returns-3)

@@ -1,4 +1,4 @@
--- `octets::bits::test` meets its contract.
+-- `octets::bits::test` meets its contract: one byte is read; past the end every bit is false.
 use Rattle.octets.proofs.BitLaws.{test-out}
 use Rattle.octets.specs.Bits.{mapBit}
 use borrow.Author.Needs.{needs}
@@ -33,14 +33,4 @@ returns-3 : tie.Need-returns-3
 returns-3 c = sym (test-out _ _ _ (omega arith))
 
 pub test-spec : {M : Type 1} → statement M
-test-spec =
-    tie.close
-    (tie.spec
-    cast-k
-    sub-if2
-    add-bit-of
-    shared-slice-read-bit-of
-    bit-of-requires
-    returns
-    returns-2
-    returns-3)
+test-spec = tie.close (tie.spec cast-k sub-if2 add-bit-of shared-slice-read-bit-of bit-of-requires returns returns-2 returns-3)

@@ -1,4 +1,4 @@
--- `octets::bits::with_bit` meets its contract.
+-- `octets::bits::with_bit` meets its contract: by the table of all bytes and bits.
 use Rattle.octets.proofs.BitLaws.{with-mask}
 use borrow.Author.Needs.{needs}
 use native.Mathlib.Omega.{arith}
@@ -9,7 +9,7 @@ shl-result : tie.Need-shl-result
 shl-result c = search needs
 
 returns : tie.Need-returns
-returns c = with-mask (c .args .b) (c .args .k) (omega arith) (omega arith)
+returns c = with-mask _ _ (omega arith) (omega arith)
 
 pub with-bit-spec : {M : Type 1} → statement M
 with-bit-spec = tie.close (tie.spec shl-result returns)

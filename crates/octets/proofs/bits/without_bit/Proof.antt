@@ -1,4 +1,4 @@
--- `octets::bits::without_bit` meets its contract.
+-- `octets::bits::without_bit` meets its contract: by the table of all bytes and bits.
 use Rattle.octets.proofs.BitLaws.{without-mask}
 use borrow.Author.Needs.{needs}
 use native.Mathlib.Omega.{arith}
@@ -9,7 +9,7 @@ shl-result : tie.Need-shl-result
 shl-result c = search needs
 
 returns : tie.Need-returns
-returns c = without-mask (c .args .b) (c .args .k) (omega arith) (omega arith)
+returns c = without-mask _ _ (omega arith) (omega arith)
 
 pub without-bit-spec : {M : Type 1} → statement M
 without-bit-spec = tie.close (tie.spec shl-result returns)

@@ -1,4 +1,4 @@
--- `octets::scan::copy` meets its contract.
+-- `octets::scan::copy` meets its contract: the first i entries are copied, the rest is as it was.
 use Prim.Native.Nat.{_-_, _≤_}
 use borrow.Author.Needs.{needs}
 use lib.ListN.{drop, length, length-set, take}
@@ -31,25 +31,23 @@ loop-less : tie.Need-loop-less Inv-loop μ-loop
 loop-less c = search needs
 
 loop-again : tie.Need-loop-again Inv-loop μ-loop
-loop-again c = (omega arith, omega arith, simp length-set (c .before .before .loop .inv .2), rw (c .before .before .loop .inv .3) (laws.copy-more (c .before .before .loop .i) (c .before .before .before .args .src .now) (c .before .before .before .args .dst .now) (omega arith) (omega arith)))
+loop-again c =
+    let at-loop = c .before .before in
+    let at-start = at-loop .before in (
+      omega arith,
+      omega arith,
+      simp length-set (at-loop .loop .inv .2),
+      rw (at-loop .loop .inv .3) (laws.copy-more (at-loop .loop .i) (at-start .args .src .now) (at-start .args .dst .now) (omega arith) (omega arith)),
+    )
 
 same-length : tie.Need-same-length Inv-loop μ-loop
 same-length c = search needs
 
 returns : tie.Need-returns Inv-loop μ-loop
-returns c = c .before .loop .inv .3 ∙ laws.copy-end (c .before .loop .i) (c .before .before .args .src .now) (c .before .before .args .dst .now) (omega arith) (omega arith)
+returns c =
+    let at-loop = c .before in
+    let at-start = at-loop .before in
+    at-loop .loop .inv .3 ∙ laws.copy-end (at-loop .loop .i) (at-start .args .src .now) (at-start .args .dst .now) (omega arith) (omega arith)
 
 pub copy-spec : {M : Type 1} → statement M
-copy-spec =
-    tie.close
-    (tie.spec
-    Inv-loop
-    μ-loop
-    loop-holds
-    shared-slice-read-dst
-    slice-write-dst
-    add-i
-    loop-less
-    loop-again
-    same-length
-    returns)
+copy-spec = tie.close (tie.spec Inv-loop μ-loop loop-holds shared-slice-read-dst slice-write-dst add-i loop-less loop-again same-length returns)

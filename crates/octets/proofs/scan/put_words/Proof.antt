@@ -1,4 +1,4 @@
--- `octets::scan::put_words` meets its contract.
+-- `octets::scan::put_words` meets its contract: the first i numbers are written, the rest is as it was.
 use Prim.Native.Nat.{_*_, _-_, _≤_}
 use Rattle.octets.specs.Numbers.{bytesOf}
 use borrow.Author.Needs.{needs}
@@ -17,7 +17,7 @@ abbrev μ-loop : tie.MeasureT-loop
 μ-loop s₀ src i₀ s i = length src - i
 
 loop-holds : tie.Need-loop-holds Inv-loop μ-loop
-loop-holds c = (omega arith, search needs, refl, laws.words-none (c .args .src .now) (c .args .s .now))
+loop-holds c = (omega arith, search needs, refl, laws.words-none (c .args .src .now) _)
 
 mul-m : tie.Need-mul-m Inv-loop μ-loop
 mul-m c = search needs
@@ -50,31 +50,24 @@ loop-less : tie.Need-loop-less Inv-loop μ-loop
 loop-less c = search needs
 
 loop-again : tie.Need-loop-again Inv-loop μ-loop
-loop-again c = (omega arith, omega arith, simp length-set (c .before .before .loop .inv .2), rw (c .before .before .loop .inv .3) (laws.words-more (c .before .before .loop .i) (c .before .before .before .args .src .now) (c .before .before .before .args .s .now) (omega arith) (omega arith)))
+loop-again c =
+    let at-loop = c .before .before in
+    let at-start = at-loop .before in (
+      omega arith,
+      omega arith,
+      simp length-set (at-loop .loop .inv .2),
+      rw (at-loop .loop .inv .3) (laws.words-more (at-loop .loop .i) (at-start .args .src .now) (at-start .args .s .now) (omega arith) (omega arith)),
+    )
 
 same-length : tie.Need-same-length Inv-loop μ-loop
 same-length c = search needs
 
 returns : tie.Need-returns Inv-loop μ-loop
-returns c = c .before .loop .inv .3 ∙ laws.words-end (c .before .loop .i) (c .before .before .args .src .now) (c .before .before .args .s .now) (omega arith)
+returns c =
+    let at-loop = c .before in
+    let at-start = at-loop .before in
+    at-loop .loop .inv .3 ∙ laws.words-end (at-loop .loop .i) (at-start .args .src .now) (at-start .args .s .now) (omega arith)
 
 pub put-words-spec : {M : Type 1} → statement M
-put-words-spec =
-    tie.close
-    (tie.spec
-    Inv-loop
-    μ-loop
-    loop-holds
-    mul-m
-    shared-slice-read-m
-    mul-k
-    cast-s
-    slice-write-s
-    cast-s-2
-    add-s
-    slice-write-s-2
-    add-i
-    loop-less
-    loop-again
-    same-length
-    returns)
+put-words-spec = tie.close (tie.spec Inv-loop μ-loop loop-holds mul-m shared-slice-read-m mul-k cast-s slice-write-s cast-s-2 add-s slice-write-s-2 add-i
+    loop-less loop-again same-length returns)

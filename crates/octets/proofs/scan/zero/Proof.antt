@@ -1,4 +1,4 @@
--- `octets::scan::zero` meets its contract.
+-- `octets::scan::zero` meets its contract: the first i bytes are zero, the rest is as it was.
 use Prim.Native.Nat.{_-_, _≤_}
 use borrow.Author.Fill.{fill-more}
 use borrow.Author.Needs.{needs}
@@ -29,24 +29,19 @@ loop-less : tie.Need-loop-less Inv-loop μ-loop
 loop-less c = search needs
 
 loop-again : tie.Need-loop-again Inv-loop μ-loop
-loop-again c = (omega arith, simp length-set (c .before .loop .inv .1), rw (c .before .loop .inv .2) (fill-more (c .before .loop .i) 0 (c .before .before .args .s .now) (omega arith)))
+loop-again c =
+    let at-loop = c .before in
+    let at-start = at-loop .before in
+    (omega arith, simp length-set (at-loop .loop .inv .1), rw (at-loop .loop .inv .2) (fill-more (at-loop .loop .i) 0 (at-start .args .s .now) (omega arith)))
 
 same-length : tie.Need-same-length Inv-loop μ-loop
 same-length c = search needs
 
 returns : tie.Need-returns Inv-loop μ-loop
-returns c = c .before .loop .inv .2 ∙ laws.zero-end (c .before .loop .i) (c .before .before .args .s .now) (omega arith)
+returns c =
+    let at-loop = c .before in
+    let at-start = at-loop .before in
+    at-loop .loop .inv .2 ∙ laws.zero-end (at-loop .loop .i) (at-start .args .s .now) (omega arith)
 
 pub zero-spec : {M : Type 1} → statement M
-zero-spec =
-    tie.close
-    (tie.spec
-    Inv-loop
-    μ-loop
-    loop-holds
-    slice-write-s
-    add-i
-    loop-less
-    loop-again
-    same-length
-    returns)
+zero-spec = tie.close (tie.spec Inv-loop μ-loop loop-holds slice-write-s add-i loop-less loop-again same-length returns)

@@ -1,4 +1,4 @@
--- `rows::row::capped` meets its contract.
+-- `rows::row::capped` meets its contract: k is past `to` by one at most, and one is taken off then.
 use borrow.Author.Needs.{needs}
 use Prim.Native.Nat.{_-_}
 use Rattle.rows.proofs.Passes as passes

@@ -1,10 +1,6 @@
--- `rows::row::close_arc` meets its contract.
+-- `rows::row::close_arc` meets its contract: one pass, or three passes over whole rows, leave the entries of the arc (`remade-short`, `remade`).
 use borrow.Author.Needs.{needs}
-use Prim.Native.Nat.{_+_}
 use native.Mathlib.Omega.{arith}
-use lib.ListN.{length}
-use Rattle.strand.specs.Vocabulary.{nth}
-use Rattle.rows.specs.Rows.{matches}
 use Rattle.rows.proofs.Parts.{part}
 use Rattle.rows.proofs.Passes as passes
 use Rattle.rows.proofs.TableLaws as law
@@ -33,45 +29,80 @@ add-if1 : tie.Need-add-if1
 add-if1 c = search needs
 
 close-short-requires : tie.Need-close-short-requires
-close-short-requires c κs = (c .before .before .before .before .before .before .before .before .pre .0, (c .before .before .before .before .before .before .before .before .pre .1 .0, (law.steps-of _ _ _ _ _ _ (c .before .before .before .before .before .before .before .before .pre .1 .0) (c .before .before .before .before .before .before .before .before .pre .1 .1 .0) (c .before .before .before .steps-at .ensures .0) (c .before .before .before .before .before .before .before .before .pre .0 .ends), (omega (arith, c .before .before .before .before .before .before .before .before .pre .0 .ends), λ j a b. c .before .before .before .before .before .before .before .before .pre .1 .1 .1 .1 j a b .1))))
+close-short-requires c κs =
+    let at-steps-at = c .before .before .before in
+    let at-start = at-steps-at .before .before .before .before .before in (
+      at-start .pre .0,
+      (
+        at-start .pre .1 .0,
+        (
+          law.steps-of _ _ _ _ _ _ (at-start .pre .1 .0) (at-start .pre .1 .1 .0) (at-steps-at .steps-at .ensures .0) (at-start .pre .0 .ends),
+          (omega (arith, at-start .pre .0 .ends), λ j a b. at-start .pre .1 .1 .1 .1 j a b .1),
+        ),
+      ),
+    )
 
 same-length : tie.Need-same-length
 same-length c = search needs
 
 returns : tie.Need-returns
-returns c = passes.remade-short (matches (c .before .before .before .before .before .before .before .before .before .before .before .args .p .now) (c .before .before .before .before .before .before .before .before .before .before .before .args .x)) (matches (c .before .before .before .before .before .before .before .before .before .before .before .args .p .now) (c .before .before .before .before .before .before .before .before .before .before .before .args .y)) (nth (c .before .before .before .before .before .before .before .before .before .before .before .args .pm .now)) (c .before .before .before .before .before .before .before .before .before .before .before .args .from) (c .before .before .before .before .before .before .before .before .before .before .before .args .to) (part (c .before .before .before .before .before .before .steps-at .result) (c .before .before .before .before .before .before .before .before .before .before .before .args .tables .now)) (law.step-capped _ _ _ _ _ _ (c .before .before .before .before .before .before .before .before .before .before .before .pre .1 .0) (c .before .before .before .before .before .before .before .before .before .before .before .pre .1 .1 .0) (c .before .before .before .before .before .before .steps-at .ensures .0) (c .before .before .before .before .before .before .before .before .before .before .before .pre .0 .ends)) _ _ (c .before .before .before .before .before .before .before .before .before .before .before .pre .1 .1 .1 .1) (c .before .before .close-short .ensures)
+returns c =
+    let at-close-short = c .before .before in
+    let at-steps-at = at-close-short .before .before .before .before in
+    let at-start = at-steps-at .before .before .before .before .before in
+    passes.remade-short _ _ _ _ _ (part (at-steps-at .steps-at .result) (at-start .args .tables .now))
+    (law.step-capped _ _ _ _ _ _ (at-start .pre .1 .0) (at-start .pre .1 .1 .0) (at-steps-at .steps-at .ensures .0) (at-start .pre .0 .ends)) _ _
+    (at-start .pre .1 .1 .1 .1) (at-close-short .close-short .ensures)
 
 over-requires : tie.Need-over-requires
-over-requires c κs = (c .before .before .before .before .before .before .before .before .pre .0, (c .before .before .before .before .before .before .before .before .pre .1 .0, (omega (arith, c .before .before .before .before .before .before .before .before .pre .0 .ends), (omega (arith, c .before .before .before .before .before .before .before .before .pre .0 .small), omega (arith, c .before .before .before .before .before .before .before .before .pre .0 .ends)))))
+over-requires c κs =
+    let at-start = c .before .before .before .before .before .before .before .before in (
+      at-start .pre .0,
+      (at-start .pre .1 .0, (omega (arith, at-start .pre .0 .ends), (omega (arith, at-start .pre .0 .small), omega (arith, at-start .pre .0 .ends)))),
+    )
 
 step-requires : tie.Need-step-requires
-step-requires c κs = ((c .before .before .before .before .before .before .before .before .before .before .before .before .pre .0 .order, (omega (arith, c .before .before .before .before .before .before .before .before .before .before .before .before .pre .0 .ends, c .before .before .before .before .before .before .before .before .before .before .before .before .pre .0 .small), omega (arith, c .before .before .before .before .before .before .before .before .before .before .before .before .pre .0 .ends, c .before .before .before .over .ensures .long))), (law.steps-of _ _ _ _ _ _ (c .before .before .before .before .before .before .before .before .before .before .before .before .pre .1 .0) (c .before .before .before .before .before .before .before .before .before .before .before .before .pre .1 .1 .0) (c .before .before .before .before .before .before .before .steps-at .ensures .0) (c .before .before .before .before .before .before .before .before .before .before .before .before .pre .0 .ends), λ j a b. omega (arith, c .before .before .before .over .ensures .under j (omega (arith, c .before .before .before .before .before .before .before .before .before .before .before .before .pre .0 .ends)), c .before .before .before .before .before .before .before .before .before .before .before .before .pre .1 .1 .1 .1 j a b)))
+step-requires c κs =
+    let at-over = c .before .before .before in
+    let at-steps-at = at-over .before .before .before .before in
+    let at-start = at-steps-at .before .before .before .before .before in (
+      (
+        at-start .pre .0 .order,
+        (omega (arith, at-start .pre .0 .ends, at-start .pre .0 .small), omega (arith, at-start .pre .0 .ends, at-over .over .ensures .long)),
+      ),
+      (
+        law.steps-of _ _ _ _ _ _ (at-start .pre .1 .0) (at-start .pre .1 .1 .0) (at-steps-at .steps-at .ensures .0) (at-start .pre .0 .ends),
+        λ j a b. omega (arith, at-over .over .ensures .under j (omega (arith, at-start .pre .0 .ends)), at-start .pre .1 .1 .1 .1 j a b),
+      ),
+    )
 
 raise-requires : tie.Need-raise-requires
-raise-requires c κs = (c .before .before .before .before .before .before .before .before .before .before .before .before .before .before .before .before .pre .0 .order, (omega (arith, c .before .before .before .before .before .before .before .before .before .before .before .before .before .before .before .before .pre .0 .ends, c .before .before .before .before .before .before .before .before .before .before .before .before .before .before .before .before .pre .0 .small), (omega (arith, c .before .before .before .before .before .before .before .before .before .before .before .before .before .before .before .before .pre .0 .ends), omega (arith, c .before .before .before .before .before .before .before .before .before .before .before .before .before .before .before .before .pre .0 .ends, c .before .before .before .before .before .before .before .over .ensures .long, c .before .before .before .step .ensures .long))))
+raise-requires c κs =
+    let at-step = c .before .before .before in
+    let at-over = at-step .before .before .before .before in
+    let at-start = at-over .before .before .before .before .before .before .before .before .before in (
+      at-start .pre .0 .order,
+      (
+        omega (arith, at-start .pre .0 .ends, at-start .pre .0 .small),
+        (omega (arith, at-start .pre .0 .ends), omega (arith, at-start .pre .0 .ends, at-over .over .ensures .long, at-step .step .ensures .long)),
+      ),
+    )
 
 same-length-2 : tie.Need-same-length-2
 same-length-2 c = search needs
 
 returns-2 : tie.Need-returns-2
-returns-2 c = passes.remade (matches (c .before .before .before .before .before .before .before .before .before .before .before .before .before .before .before .before .before .before .before .args .p .now) (c .before .before .before .before .before .before .before .before .before .before .before .before .before .before .before .before .before .before .before .args .x)) (matches (c .before .before .before .before .before .before .before .before .before .before .before .before .before .before .before .before .before .before .before .args .p .now) (c .before .before .before .before .before .before .before .before .before .before .before .before .before .before .before .before .before .before .before .args .y)) (nth (c .before .before .before .before .before .before .before .before .before .before .before .before .before .before .before .before .before .before .before .args .pm .now)) (c .before .before .before .before .before .before .before .before .before .before .before .before .before .before .before .before .before .before .before .args .from) (c .before .before .before .before .before .before .before .before .before .before .before .before .before .before .before .before .before .before .before .args .to) (part (c .before .before .before .before .before .before .before .before .before .before .before .before .before .before .steps-at .result) (c .before .before .before .before .before .before .before .before .before .before .before .before .before .before .before .before .before .before .before .args .tables .now)) (law.step-capped _ _ _ _ _ _ (c .before .before .before .before .before .before .before .before .before .before .before .before .before .before .before .before .before .before .before .pre .1 .0) (c .before .before .before .before .before .before .before .before .before .before .before .before .before .before .before .before .before .before .before .pre .1 .1 .0) (c .before .before .before .before .before .before .before .before .before .before .before .before .before .before .steps-at .ensures .0) (c .before .before .before .before .before .before .before .before .before .before .before .before .before .before .before .before .before .before .before .pre .0 .ends)) (length (c .before .before .before .before .before .before .before .before .before .before .before .before .before .before .before .before .before .before .before .args .p .now) + 1) (c .before .before .before .before .before .before .before .before .before .before .before .before .before .before .before .before .before .before .before .args .row .now) (c .before .before .before .before .before .before .before .before .before .before .over .last .0) (c .before .before .before .before .before .before .step .last .0) (c .before .before .raise .last .0) (c .before .before .before .before .before .before .before .before .before .before .before .before .before .before .before .before .before .before .before .pre .0 .order) (omega (arith, c .before .before .before .before .before .before .before .before .before .before .before .before .before .before .before .before .before .before .before .pre .0 .ends)) (c .before .before .before .before .before .before .before .before .before .before .before .before .before .before .before .before .before .before .before .pre .1 .1 .1 .1) (c .before .before .before .before .before .before .before .before .before .before .over .ensures) (c .before .before .before .before .before .before .step .ensures) (c .before .before .raise .ensures)
+returns-2 c =
+    let at-raise = c .before .before in
+    let at-step = at-raise .before .before .before .before in
+    let at-over = at-step .before .before .before .before in
+    let at-steps-at = at-over .before .before .before .before in
+    let at-start = at-steps-at .before .before .before .before .before in
+    passes.remade _ _ _ _ _ (part (at-steps-at .steps-at .result) (at-start .args .tables .now))
+    (law.step-capped _ _ _ _ _ _ (at-start .pre .1 .0) (at-start .pre .1 .1 .0) (at-steps-at .steps-at .ensures .0) (at-start .pre .0 .ends)) _ _ _ _ _
+    (at-start .pre .0 .order) (omega (arith, at-start .pre .0 .ends)) (at-start .pre .1 .1 .1 .1) (at-over .over .ensures) (at-step .step .ensures)
+    (at-raise .raise .ensures)
 
 pub close-arc-spec : {M : Type 1} → statement M
-close-arc-spec =
-    tie.close
-    (tie.spec
-    add-w
-    steps-at-requires
-    mul-steps
-    sub-steps
-    part-steps-start
-    part-steps-end
-    add-if1
-    close-short-requires
-    same-length
-    returns
-    over-requires
-    step-requires
-    raise-requires
-    same-length-2
-    returns-2)
+close-arc-spec = tie.close (tie.spec add-w steps-at-requires mul-steps sub-steps part-steps-start part-steps-end add-if1 close-short-requires same-length
+    returns over-requires step-requires raise-requires same-length-2 returns-2)

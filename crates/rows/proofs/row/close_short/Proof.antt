@@ -1,9 +1,9 @@
--- `rows::row::close_short` meets its contract.
+-- `rows::row::close_short` meets its contract. The invariant: the entries before j are the arc's, those from j on as before (`Written`).
 use borrow.Author.Needs.{needs}
 use Prim.Native.Nat.{ℕ, _+_, _-_, _≤_, min, max}
 use native.Mathlib.Omega.{arith}
 use mathlib.Core.Path.{ap}
-use Rattle.strand.specs.Vocabulary.{nth}
+use Rattle.lists.specs.Vocabulary.{nth}
 use Rattle.strand.specs.Strands.{lettersMatch}
 use Rattle.embedding.specs.Row.{overAt}
 use Rattle.rows.specs.Rows.{Written, matches}
@@ -13,10 +13,11 @@ use Rattle.rows.proofs.row.close_short.Statement.{statement}
 use Rattle.rows.proofs.row.close_short.Tie as tie
 
 abbrev Inv-loop : tie.InvT-loop
-Inv-loop row₀ p pm tables steps from to x y j₀ row j = (from ≤ j) × (j ≤ to) × Written (λ k. max (min (nth steps (nth row₀ k)) to) (overAt (matches p x) (matches p y) (nth pm) to (nth row₀ (k + 1)) k)) row₀ row from j
+Inv-loop p pm tables steps from to x y row₀ j₀ row j = (from ≤ j) × (j ≤ to)
+    × Written (λ k. max (min (nth steps (nth row₀ k)) to) (overAt (matches p x) (matches p y) (nth pm) to (nth row₀ (k + 1)) k)) row₀ row from j
 
 abbrev μ-loop : tie.MeasureT-loop
-μ-loop row₀ p pm tables steps from to x y j₀ row j = to - j
+μ-loop p pm tables steps from to x y row₀ j₀ row j = to - j
 
 loop-holds : tie.Need-loop-holds Inv-loop μ-loop
 loop-holds c = (omega arith, omega arith, pass-none _ _ _)
@@ -28,19 +29,56 @@ slice-read-k : tie.Need-slice-read-k Inv-loop μ-loop
 slice-read-k c = omega (arith, c .before .before .loop .inv .2 .long)
 
 cast-k : tie.Need-cast-k Inv-loop μ-loop
-cast-k c = omega (arith, passes.short-index (matches (c .before .before .before .before .before .before .before .before .args .p .now) (c .before .before .before .before .before .before .before .before .args .x)) (matches (c .before .before .before .before .before .before .before .before .args .p .now) (c .before .before .before .before .before .before .before .before .args .y)) (nth (c .before .before .before .before .before .before .before .before .args .pm .now)) (c .before .before .before .before .before .before .before .before .args .to) (c .before .before .before .before .before .before .before .before .args .steps .now) (c .before .before .before .before .before .before .before .before .args .row .now) (c .before .before .loop .row) (c .before .before .before .before .before .before .before .before .args .from) (c .before .before .loop .j) (c .before .before .loop .inv .2) (c .before .before .loop .inv .0) (c .before .before .loop .inv .1) (c .before .before .before .before .before .before .before .before .pre .1 .1 .1 .1))
+cast-k c =
+    let at-loop = c .before .before in
+    let at-start = at-loop .before .before .before .before .before .before in
+    omega (
+      arith,
+      passes.short-index (matches (at-start .args .p .now) (at-start .args .x)) (matches (at-start .args .p .now) (at-start .args .y))
+          (nth (at-start .args .pm .now)) _ (at-start .args .steps .now) _ _ _ _ (at-loop .loop .inv .2) (at-loop .loop .inv .0) (at-loop .loop .inv .1)
+          (at-start .pre .1 .1 .1 .1),
+    )
 
 mul-capped : tie.Need-mul-capped Inv-loop μ-loop
-mul-capped c = omega (arith, passes.short-index (matches (c .before .before .before .before .before .before .before .before .args .p .now) (c .before .before .before .before .before .before .before .before .args .x)) (matches (c .before .before .before .before .before .before .before .before .args .p .now) (c .before .before .before .before .before .before .before .before .args .y)) (nth (c .before .before .before .before .before .before .before .before .args .pm .now)) (c .before .before .before .before .before .before .before .before .args .to) (c .before .before .before .before .before .before .before .before .args .steps .now) (c .before .before .before .before .before .before .before .before .args .row .now) (c .before .before .loop .row) (c .before .before .before .before .before .before .before .before .args .from) (c .before .before .loop .j) (c .before .before .loop .inv .2) (c .before .before .loop .inv .0) (c .before .before .loop .inv .1) (c .before .before .before .before .before .before .before .before .pre .1 .1 .1 .1), c .before .before .before .before .before .before .before .before .pre .1 .1 .0 .long)
+mul-capped c =
+    let at-loop = c .before .before in
+    let at-start = at-loop .before .before .before .before .before .before in
+    omega (
+      arith,
+      passes.short-index (matches (at-start .args .p .now) (at-start .args .x)) (matches (at-start .args .p .now) (at-start .args .y))
+          (nth (at-start .args .pm .now)) _ (at-start .args .steps .now) _ _ _ _ (at-loop .loop .inv .2) (at-loop .loop .inv .0) (at-loop .loop .inv .1)
+          (at-start .pre .1 .1 .1 .1),
+      at-start .pre .1 .1 .0 .long,
+    )
 
 shared-slice-read-capped : tie.Need-shared-slice-read-capped Inv-loop μ-loop
-shared-slice-read-capped c = omega (arith, passes.short-index (matches (c .before .before .before .before .before .before .before .before .before .args .p .now) (c .before .before .before .before .before .before .before .before .before .args .x)) (matches (c .before .before .before .before .before .before .before .before .before .args .p .now) (c .before .before .before .before .before .before .before .before .before .args .y)) (nth (c .before .before .before .before .before .before .before .before .before .args .pm .now)) (c .before .before .before .before .before .before .before .before .before .args .to) (c .before .before .before .before .before .before .before .before .before .args .steps .now) (c .before .before .before .before .before .before .before .before .before .args .row .now) (c .before .before .before .loop .row) (c .before .before .before .before .before .before .before .before .before .args .from) (c .before .before .before .loop .j) (c .before .before .before .loop .inv .2) (c .before .before .before .loop .inv .0) (c .before .before .before .loop .inv .1) (c .before .before .before .before .before .before .before .before .before .pre .1 .1 .1 .1), c .before .before .before .before .before .before .before .before .before .pre .1 .1 .0 .long)
+shared-slice-read-capped c =
+    let at-loop = c .before .before .before in
+    let at-start = at-loop .before .before .before .before .before .before in
+    omega (
+      arith,
+      passes.short-index (matches (at-start .args .p .now) (at-start .args .x)) (matches (at-start .args .p .now) (at-start .args .y))
+          (nth (at-start .args .pm .now)) _ (at-start .args .steps .now) _ _ _ _ (at-loop .loop .inv .2) (at-loop .loop .inv .0) (at-loop .loop .inv .1)
+          (at-start .pre .1 .1 .1 .1),
+      at-start .pre .1 .1 .0 .long,
+    )
 
 cast-capped : tie.Need-cast-capped Inv-loop μ-loop
 cast-capped c = omega arith
 
 capped-requires : tie.Need-capped-requires Inv-loop μ-loop
-capped-requires c κs = omega (arith, passes.short-index (matches (c .before .before .before .before .before .before .before .before .before .args .p .now) (c .before .before .before .before .before .before .before .before .before .args .x)) (matches (c .before .before .before .before .before .before .before .before .before .args .p .now) (c .before .before .before .before .before .before .before .before .before .args .y)) (nth (c .before .before .before .before .before .before .before .before .before .args .pm .now)) (c .before .before .before .before .before .before .before .before .before .args .to) (c .before .before .before .before .before .before .before .before .before .args .steps .now) (c .before .before .before .before .before .before .before .before .before .args .row .now) (c .before .before .before .loop .row) (c .before .before .before .before .before .before .before .before .before .args .from) (c .before .before .before .loop .j) (c .before .before .before .loop .inv .2) (c .before .before .before .loop .inv .0) (c .before .before .before .loop .inv .1) (c .before .before .before .before .before .before .before .before .before .pre .1 .1 .1 .1), c .before .before .before .before .before .before .before .before .before .pre .1 .1 .0 .high (nth (c .before .before .before .loop .row) (c .before .before .before .loop .j)) (passes.short-index (matches (c .before .before .before .before .before .before .before .before .before .args .p .now) (c .before .before .before .before .before .before .before .before .before .args .x)) (matches (c .before .before .before .before .before .before .before .before .before .args .p .now) (c .before .before .before .before .before .before .before .before .before .args .y)) (nth (c .before .before .before .before .before .before .before .before .before .args .pm .now)) (c .before .before .before .before .before .before .before .before .before .args .to) (c .before .before .before .before .before .before .before .before .before .args .steps .now) (c .before .before .before .before .before .before .before .before .before .args .row .now) (c .before .before .before .loop .row) (c .before .before .before .before .before .before .before .before .before .args .from) (c .before .before .before .loop .j) (c .before .before .before .loop .inv .2) (c .before .before .before .loop .inv .0) (c .before .before .before .loop .inv .1) (c .before .before .before .before .before .before .before .before .before .pre .1 .1 .1 .1)))
+capped-requires c κs =
+    let at-loop = c .before .before .before in
+    let at-start = at-loop .before .before .before .before .before .before in
+    omega (
+      arith,
+      passes.short-index (matches (at-start .args .p .now) (at-start .args .x)) (matches (at-start .args .p .now) (at-start .args .y))
+          (nth (at-start .args .pm .now)) _ (at-start .args .steps .now) _ _ _ _ (at-loop .loop .inv .2) (at-loop .loop .inv .0) (at-loop .loop .inv .1)
+          (at-start .pre .1 .1 .1 .1),
+      at-start .pre .1 .1 .0 .high _ (passes.short-index (matches (at-start .args .p .now) (at-start .args .x))
+          (matches (at-start .args .p .now) (at-start .args .y)) (nth (at-start .args .pm .now)) _ (at-start .args .steps .now) _ _ _ _ (at-loop .loop .inv .2)
+          (at-loop .loop .inv .0) (at-loop .loop .inv .1) (at-start .pre .1 .1 .1 .1)),
+    )
 
 shared-slice-read-over-entry : tie.Need-shared-slice-read-over-entry Inv-loop μ-loop
 shared-slice-read-over-entry c = omega arith
@@ -58,19 +96,27 @@ cast-over-entry-2 : tie.Need-cast-over-entry-2 Inv-loop μ-loop
 cast-over-entry-2 c = omega arith
 
 mul-over-entry-2 : tie.Need-mul-over-entry-2 Inv-loop μ-loop
-mul-over-entry-2 c = omega (arith, c .before .before .before .before .before .before .before .before .before .before .before .before .pre .1 .0 .long)
+mul-over-entry-2 c =
+    let at-start = c .before .before .before .before .before .before .before .before .before .before .before .before in
+    omega (arith, at-start .pre .1 .0 .long)
 
 shared-slice-read-over-entry-3 : tie.Need-shared-slice-read-over-entry-3 Inv-loop μ-loop
-shared-slice-read-over-entry-3 c = omega (arith, c .before .before .before .before .before .before .before .before .before .before .before .before .before .pre .1 .0 .long)
+shared-slice-read-over-entry-3 c =
+    let at-start = c .before .before .before .before .before .before .before .before .before .before .before .before .before in
+    omega (arith, at-start .pre .1 .0 .long)
 
 add-over-entry : tie.Need-add-over-entry Inv-loop μ-loop
 add-over-entry c = omega arith
 
 mul-over-entry-3 : tie.Need-mul-over-entry-3 Inv-loop μ-loop
-mul-over-entry-3 c = omega (arith, c .before .before .before .before .before .before .before .loop .inv .2 .long)
+mul-over-entry-3 c =
+    let at-loop = c .before .before .before .before .before .before .before in
+    omega (arith, at-loop .loop .inv .2 .long)
 
 slice-read-over-entry : tie.Need-slice-read-over-entry Inv-loop μ-loop
-slice-read-over-entry c = omega (arith, c .before .before .before .before .before .before .before .before .loop .inv .2 .long)
+slice-read-over-entry c =
+    let at-loop = c .before .before .before .before .before .before .before .before in
+    omega (arith, at-loop .loop .inv .2 .long)
 
 over-entry-requires : tie.Need-over-entry-requires Inv-loop μ-loop
 over-entry-requires c κs = search needs
@@ -79,10 +125,14 @@ larger-requires : tie.Need-larger-requires Inv-loop μ-loop
 larger-requires c κs = search needs
 
 mul-row : tie.Need-mul-row Inv-loop μ-loop
-mul-row c = omega (arith, c .before .before .before .before .before .before .before .before .before .before .loop .inv .2 .long)
+mul-row c =
+    let at-loop = c .before .before .before .before .before .before .before .before .before .before in
+    omega (arith, at-loop .loop .inv .2 .long)
 
 slice-write-row : tie.Need-slice-write-row Inv-loop μ-loop
-slice-write-row c = omega (arith, c .before .before .before .before .before .before .before .before .before .before .loop .inv .2 .long)
+slice-write-row c =
+    let at-loop = c .before .before .before .before .before .before .before .before .before .before in
+    omega (arith, at-loop .loop .inv .2 .long)
 
 add-j : tie.Need-add-j Inv-loop μ-loop
 add-j c = omega arith
@@ -91,7 +141,21 @@ loop-less : tie.Need-loop-less Inv-loop μ-loop
 loop-less c = omega arith
 
 loop-again : tie.Need-loop-again Inv-loop μ-loop
-loop-again c = (omega arith, omega arith, pass-set _ _ _ _ _ _ (c .before .before .before .before .before .before .before .before .before .before .loop .inv .2) (c .before .before .before .before .before .before .before .before .before .before .loop .inv .0) (omega arith) (passes.short-step (matches (c .before .before .before .before .before .before .before .before .before .before .before .before .before .before .before .before .args .p .now) (c .before .before .before .before .before .before .before .before .before .before .before .before .before .before .before .before .args .x)) (matches (c .before .before .before .before .before .before .before .before .before .before .before .before .before .before .before .before .args .p .now) (c .before .before .before .before .before .before .before .before .before .before .before .before .before .before .before .before .args .y)) (nth (c .before .before .before .before .before .before .before .before .before .before .before .before .before .before .before .before .args .pm .now)) (c .before .before .before .before .before .before .before .before .before .before .before .before .before .before .before .before .args .to) (c .before .before .before .before .before .before .before .before .before .before .before .before .before .before .before .before .args .steps .now) (c .before .before .before .before .before .before .before .before .before .before .before .before .before .before .before .before .args .row .now) (c .before .before .before .before .before .before .before .before .before .before .loop .row) (c .before .before .before .before .before .before .before .before .before .before .before .before .before .before .before .before .args .from) (c .before .before .before .before .before .before .before .before .before .before .loop .j) (c .before .before .before .before .before .before .before .before .before .before .loop .inv .2) _ _ _ (lettersMatch (nth (c .before .before .before .before .before .before .before .before .before .before .before .before .before .before .before .before .args .tables .now) (c .before .before .before .before .before .before .before .before .before .before .loop .j)) (c .before .before .before .before .before .before .before .before .before .before .before .before .before .before .before .before .args .y)) (c .before .before .before .before .before .before .before .before .before .loop-test .taken) (c .before .before .before .before .before .before .capped .ensures) (ap (λ (b : ℕ). lettersMatch b (c .before .before .before .before .before .before .before .before .before .before .before .before .before .before .before .before .args .y)) (c .before .before .before .before .before .before .before .before .before .before .before .before .before .before .before .before .pre .1 .0 .letter (c .before .before .before .before .before .before .before .before .before .before .loop .j) (omega arith))) (c .before .over-entry .ensures) (c .larger .ensures)))
+loop-again c =
+    let at-over-entry = c .before in
+    let at-capped = at-over-entry .before .before .before .before .before in
+    let at-loop-test = at-capped .before .before .before in
+    let at-loop = at-loop-test .before in
+    let at-start = at-loop .before .before .before .before .before .before in (
+      omega arith,
+      omega arith,
+      pass-set _ _ _ _ _ _ (at-loop .loop .inv .2) (at-loop .loop .inv .0) (omega arith) (passes.short-step
+          (matches (at-start .args .p .now) (at-start .args .x)) (matches (at-start .args .p .now) (at-start .args .y)) (nth (at-start .args .pm .now))
+          (at-start .args .to) (at-start .args .steps .now) (at-start .args .row .now) (at-loop .loop .row) (at-start .args .from) (at-loop .loop .j)
+          (at-loop .loop .inv .2) _ _ _ (lettersMatch _ _) (at-loop-test .loop-test .taken) (at-capped .capped .ensures)
+          (ap (λ (b : ℕ). lettersMatch b (at-start .args .y)) (at-start .pre .1 .0 .letter (at-loop .loop .j) (omega arith)))
+          (at-over-entry .over-entry .ensures) (c .larger .ensures)),
+    )
 
 same-length : tie.Need-same-length Inv-loop μ-loop
 same-length c = c .before .loop .inv .2 .long
@@ -100,35 +164,7 @@ returns : tie.Need-returns Inv-loop μ-loop
 returns c = pass-end _ _ _ _ _ _ (c .before .loop .inv .2) (c .before .loop .inv .1) (c .loop-test .left)
 
 pub close-short-spec : {M : Type 1} → statement M
-close-short-spec =
-    tie.close
-    (tie.spec
-    Inv-loop
-    μ-loop
-    loop-holds
-    mul-k
-    slice-read-k
-    cast-k
-    mul-capped
-    shared-slice-read-capped
-    cast-capped
-    capped-requires
-    shared-slice-read-over-entry
-    mul-over-entry
-    shared-slice-read-over-entry-2
-    cast-over-entry
-    cast-over-entry-2
-    mul-over-entry-2
-    shared-slice-read-over-entry-3
-    add-over-entry
-    mul-over-entry-3
-    slice-read-over-entry
-    over-entry-requires
-    larger-requires
-    mul-row
-    slice-write-row
-    add-j
-    loop-less
-    loop-again
-    same-length
+close-short-spec = tie.close (tie.spec Inv-loop μ-loop loop-holds mul-k slice-read-k cast-k mul-capped shared-slice-read-capped cast-capped capped-requires
+    shared-slice-read-over-entry mul-over-entry shared-slice-read-over-entry-2 cast-over-entry cast-over-entry-2 mul-over-entry-2 shared-slice-read-over-entry-3
+    add-over-entry mul-over-entry-3 slice-read-over-entry over-entry-requires larger-requires mul-row slice-write-row add-j loop-less loop-again same-length
     returns)

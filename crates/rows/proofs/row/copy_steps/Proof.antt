@@ -1,18 +1,18 @@
--- `rows::row::copy_steps` meets its contract.
+-- `rows::row::copy_steps` meets its contract. The invariant: the entries before j are copied (`Written`).
 use Prim.Native.Nat.{_-_, _≤_}
 use native.Mathlib.Omega.{arith}
 use mathlib.Core.Path.{refl}
-use Rattle.strand.specs.Vocabulary.{nth}
+use Rattle.lists.specs.Vocabulary.{nth}
 use Rattle.rows.specs.Rows.{Written}
 use Rattle.rows.proofs.Pass.{pass-none, pass-set, pass-end}
 use Rattle.rows.proofs.row.copy_steps.Statement.{statement}
 use Rattle.rows.proofs.row.copy_steps.Tie as tie
 
 abbrev Inv-loop : tie.InvT-loop
-Inv-loop row₀ steps from to j₀ row j = (from ≤ j) × (j ≤ to) × Written (nth steps) row₀ row from j
+Inv-loop steps from to row₀ j₀ row j = (from ≤ j) × (j ≤ to) × Written (nth steps) row₀ row from j
 
 abbrev μ-loop : tie.MeasureT-loop
-μ-loop row₀ steps from to j₀ row j = to - j
+μ-loop steps from to row₀ j₀ row j = to - j
 
 loop-holds : tie.Need-loop-holds Inv-loop μ-loop
 loop-holds c = (omega arith, omega arith, pass-none _ _ _)
@@ -36,7 +36,9 @@ loop-less : tie.Need-loop-less Inv-loop μ-loop
 loop-less c = omega arith
 
 loop-again : tie.Need-loop-again Inv-loop μ-loop
-loop-again c = (omega arith, omega arith, pass-set _ _ _ _ _ _ (c .before .before .loop .inv .2) (c .before .before .loop .inv .0) (omega arith) refl)
+loop-again c =
+    let at-loop = c .before .before in
+    (omega arith, omega arith, pass-set _ _ _ _ _ _ (at-loop .loop .inv .2) (at-loop .loop .inv .0) (omega arith) refl)
 
 same-length : tie.Need-same-length Inv-loop μ-loop
 same-length c = c .before .loop .inv .2 .long
@@ -45,18 +47,5 @@ returns : tie.Need-returns Inv-loop μ-loop
 returns c = pass-end _ _ _ _ _ _ (c .before .loop .inv .2) (c .before .loop .inv .1) (c .loop-test .left)
 
 pub copy-steps-spec : {M : Type 1} → statement M
-copy-steps-spec =
-    tie.close
-    (tie.spec
-    Inv-loop
-    μ-loop
-    loop-holds
-    mul-row
-    shared-slice-read-row
-    mul-row-2
-    slice-write-row
-    add-j
-    loop-less
-    loop-again
-    same-length
+copy-steps-spec = tie.close (tie.spec Inv-loop μ-loop loop-holds mul-row shared-slice-read-row mul-row-2 slice-write-row add-j loop-less loop-again same-length
     returns)

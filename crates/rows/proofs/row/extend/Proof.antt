@@ -1,9 +1,9 @@
--- `rows::row::extend` meets its contract.
+-- `rows::row::extend` meets its contract: the base's row in the tables says where it takes each start.
 use borrow.Author.Needs.{needs}
 use Prim.Native.Nat.{ℕ}
 use native.Mathlib.Omega.{arith}
 use mathlib.Core.Path.{ap}
-use Rattle.strand.specs.Vocabulary.{nth}
+use Rattle.lists.specs.Vocabulary.{nth}
 use Rattle.rows.proofs.Pass.{pass-as}
 use Rattle.rows.proofs.TableLaws as tables
 use Rattle.rows.proofs.Parts.{part}
@@ -26,23 +26,24 @@ part-extend-by-end : tie.Need-part-extend-by-end
 part-extend-by-end c = search needs
 
 extend-by-requires : tie.Need-extend-by-requires
-extend-by-requires c κs = ((omega arith, (omega arith, omega arith)), tables.steps-of (c .before .before .before .before .before .before .before .args .p .now) (c .before .before .before .before .before .before .before .args .pm .now) (c .before .before .before .before .before .before .before .args .tables .now) (c .before .before .before .before .before .before .before .args .b) (c .before .before .steps-at .result) (c .before .before .before .before .before .before .before .args .to) (c .before .before .before .before .before .before .before .pre .1 .0) (c .before .before .before .before .before .before .before .pre .1 .1 .0) (c .before .before .steps-at .ensures .0) (c .before .before .before .before .before .before .before .pre .0 .ends))
+extend-by-requires c κs =
+    let at-steps-at = c .before .before in
+    let at-start = at-steps-at .before .before .before .before .before in (
+      (omega arith, (omega arith, omega arith)),
+      tables.steps-of _ _ _ _ _ _ (at-start .pre .1 .0) (at-start .pre .1 .1 .0) (at-steps-at .steps-at .ensures .0) (at-start .pre .0 .ends),
+    )
 
 same-length : tie.Need-same-length
 same-length c = search needs
 
 returns : tie.Need-returns
-returns c = pass-as (λ (j : ℕ). nth (c .before .before .before .before .before .before .before .before .before .before .args .row .now) (nth (part (c .before .before .before .before .before .steps-at .result) (c .before .before .before .before .before .before .before .before .before .before .args .tables .now)) j)) _ _ _ _ _ (c .before .before .extend-by .ensures) (λ k h. ap (nth (c .before .before .before .before .before .before .before .before .before .before .args .row .now)) (tables.step-unit (c .before .before .before .before .before .before .before .before .before .before .args .p .now) (c .before .before .before .before .before .before .before .before .before .before .args .pm .now) (c .before .before .before .before .before .before .before .before .before .before .args .tables .now) (c .before .before .before .before .before .before .before .before .before .before .args .b) (c .before .before .before .before .before .steps-at .result) (c .before .before .before .before .before .before .before .before .before .before .args .to) (c .before .before .before .before .before .before .before .before .before .before .pre .1 .0) (c .before .before .before .before .before .before .before .before .before .before .pre .1 .1 .0) (c .before .before .before .before .before .steps-at .ensures .0) (c .before .before .before .before .before .before .before .before .before .before .pre .0 .ends) k h))
+returns c =
+    let at-extend-by = c .before .before in
+    let at-steps-at = at-extend-by .before .before .before in
+    let at-start = at-steps-at .before .before .before .before .before in
+    pass-as (λ (j : ℕ). nth (at-start .args .row .now) (nth (part (at-steps-at .steps-at .result) (at-start .args .tables .now)) j)) _ _ _ _ _
+    (at-extend-by .extend-by .ensures) (λ k h. ap (nth (at-start .args .row .now))
+    (tables.step-unit _ _ _ _ _ _ (at-start .pre .1 .0) (at-start .pre .1 .1 .0) (at-steps-at .steps-at .ensures .0) (at-start .pre .0 .ends) k h))
 
 pub extend-spec : {M : Type 1} → statement M
-extend-spec =
-    tie.close
-    (tie.spec
-    steps-at-requires
-    mul-extend-by
-    sub-extend-by
-    part-extend-by-start
-    part-extend-by-end
-    extend-by-requires
-    same-length
-    returns)
+extend-spec = tie.close (tie.spec steps-at-requires mul-extend-by sub-extend-by part-extend-by-start part-extend-by-end extend-by-requires same-length returns)

@@ -1,8 +1,9 @@
--- `rows::row::extend_by` meets its contract.
+-- `rows::row::extend_by` meets its contract. The invariant: the entries before j are looked up where the base's row leads, j or j + 1 (`Written`); both are
+-- not yet written.
 use borrow.Author.Needs.{needs}
 use Prim.Native.Nat.{_-_, _≤_}
 use native.Mathlib.Omega.{arith}
-use Rattle.strand.specs.Vocabulary.{nth}
+use Rattle.lists.specs.Vocabulary.{nth}
 use Rattle.rows.specs.Rows.{Written}
 use Rattle.rows.proofs.Pass.{pass-none, pass-set, pass-end}
 use Rattle.rows.proofs.TableLaws as tables
@@ -10,10 +11,10 @@ use Rattle.rows.proofs.row.extend_by.Statement.{statement}
 use Rattle.rows.proofs.row.extend_by.Tie as tie
 
 abbrev Inv-loop : tie.InvT-loop
-Inv-loop row₀ steps from to j₀ row j = (from ≤ j) × (j ≤ to) × Written (λ k. nth row₀ (nth steps k)) row₀ row from j
+Inv-loop steps from to row₀ j₀ row j = (from ≤ j) × (j ≤ to) × Written (λ k. nth row₀ (nth steps k)) row₀ row from j
 
 abbrev μ-loop : tie.MeasureT-loop
-μ-loop row₀ steps from to j₀ row j = to - j
+μ-loop steps from to row₀ j₀ row j = to - j
 
 loop-holds : tie.Need-loop-holds Inv-loop μ-loop
 loop-holds c = (omega arith, omega arith, pass-none _ _ _)
@@ -40,16 +41,22 @@ mul-extend-entry-3 : tie.Need-mul-extend-entry-3 Inv-loop μ-loop
 mul-extend-entry-3 c = omega (arith, c .before .before .before .loop .inv .2 .long)
 
 slice-read-extend-entry-2 : tie.Need-slice-read-extend-entry-2 Inv-loop μ-loop
-slice-read-extend-entry-2 c = omega (arith, c .before .before .before .before .loop .inv .2 .long)
+slice-read-extend-entry-2 c =
+    let at-loop = c .before .before .before .before in
+    omega (arith, at-loop .loop .inv .2 .long)
 
 extend-entry-requires : tie.Need-extend-entry-requires Inv-loop μ-loop
 extend-entry-requires c κs = search needs
 
 mul-row : tie.Need-mul-row Inv-loop μ-loop
-mul-row c = omega (arith, c .before .before .before .before .before .loop .inv .2 .long)
+mul-row c =
+    let at-loop = c .before .before .before .before .before in
+    omega (arith, at-loop .loop .inv .2 .long)
 
 slice-write-row : tie.Need-slice-write-row Inv-loop μ-loop
-slice-write-row c = omega (arith, c .before .before .before .before .before .loop .inv .2 .long)
+slice-write-row c =
+    let at-loop = c .before .before .before .before .before in
+    omega (arith, at-loop .loop .inv .2 .long)
 
 add-j : tie.Need-add-j Inv-loop μ-loop
 add-j c = omega arith
@@ -58,7 +65,15 @@ loop-less : tie.Need-loop-less Inv-loop μ-loop
 loop-less c = omega arith
 
 loop-again : tie.Need-loop-again Inv-loop μ-loop
-loop-again c = (omega arith, omega arith, pass-set _ _ _ _ _ _ (c .before .before .before .before .before .loop .inv .2) (c .before .before .before .before .before .loop .inv .0) (omega arith) (tables.extend-step _ _ _ _ _ _ _ (c .before .before .before .before .before .before .before .before .pre .1) (c .before .before .before .before .before .loop .inv .2) (c .before .before .before .before .loop-test .taken) (c .extend-entry .ensures)))
+loop-again c =
+    let at-loop-test = c .before .before .before .before in
+    let at-loop = at-loop-test .before in
+    let at-start = at-loop .before .before .before in (
+      omega arith,
+      omega arith,
+      pass-set _ _ _ _ _ _ (at-loop .loop .inv .2) (at-loop .loop .inv .0) (omega arith)
+          (tables.extend-step _ _ _ _ _ _ _ (at-start .pre .1) (at-loop .loop .inv .2) (at-loop-test .loop-test .taken) (c .extend-entry .ensures)),
+    )
 
 same-length : tie.Need-same-length Inv-loop μ-loop
 same-length c = c .before .loop .inv .2 .long
@@ -67,25 +82,6 @@ returns : tie.Need-returns Inv-loop μ-loop
 returns c = pass-end _ _ _ _ _ _ (c .before .loop .inv .2) (c .before .loop .inv .1) (c .loop-test .left)
 
 pub extend-by-spec : {M : Type 1} → statement M
-extend-by-spec =
-    tie.close
-    (tie.spec
-    Inv-loop
-    μ-loop
-    loop-holds
-    mul-extend-entry
-    shared-slice-read-extend-entry
-    cast-extend-entry
-    mul-extend-entry-2
-    slice-read-extend-entry
-    add-extend-entry
-    mul-extend-entry-3
-    slice-read-extend-entry-2
-    extend-entry-requires
-    mul-row
-    slice-write-row
-    add-j
-    loop-less
-    loop-again
-    same-length
-    returns)
+extend-by-spec = tie.close (tie.spec Inv-loop μ-loop loop-holds mul-extend-entry shared-slice-read-extend-entry cast-extend-entry mul-extend-entry-2
+    slice-read-extend-entry add-extend-entry mul-extend-entry-3 slice-read-extend-entry-2 extend-entry-requires mul-row slice-write-row add-j loop-less
+    loop-again same-length returns)

@@ -1,7 +1,7 @@
--- `rows::row::step` meets its contract.
+-- `rows::row::step` meets its contract. The invariant: the entries before j are taken on, those from j on as before (`Written`).
 use Prim.Native.Nat.{_-_, _≤_}
 use native.Mathlib.Omega.{arith}
-use Rattle.strand.specs.Vocabulary.{nth}
+use Rattle.lists.specs.Vocabulary.{nth}
 use Rattle.rows.specs.Rows.{Written}
 use Rattle.rows.proofs.Pass.{pass-none, pass-set, pass-end}
 use Rattle.rows.proofs.Passes as passes
@@ -9,10 +9,10 @@ use Rattle.rows.proofs.row.step.Statement.{statement}
 use Rattle.rows.proofs.row.step.Tie as tie
 
 abbrev Inv-loop : tie.InvT-loop
-Inv-loop row₀ steps from to j₀ row j = (from ≤ j) × (j ≤ to) × Written (λ k. nth steps (nth row₀ k)) row₀ row from j
+Inv-loop steps from to row₀ j₀ row j = (from ≤ j) × (j ≤ to) × Written (λ k. nth steps (nth row₀ k)) row₀ row from j
 
 abbrev μ-loop : tie.MeasureT-loop
-μ-loop row₀ steps from to j₀ row j = to - j
+μ-loop steps from to row₀ j₀ row j = to - j
 
 loop-holds : tie.Need-loop-holds Inv-loop μ-loop
 loop-holds c = (omega arith, omega arith, pass-none _ _ _)
@@ -24,13 +24,33 @@ slice-read-k : tie.Need-slice-read-k Inv-loop μ-loop
 slice-read-k c = omega (arith, c .before .before .loop .inv .2 .long)
 
 cast-k : tie.Need-cast-k Inv-loop μ-loop
-cast-k c = omega (arith, passes.step-index (c .before .before .before .args .steps .now) (c .before .before .before .args .row .now) (c .before .before .loop .row) (c .before .before .before .args .from) (c .before .before .before .args .to) (c .before .before .loop .j) (c .before .before .loop .inv .2) (c .before .before .loop .inv .0) (c .before .before .loop .inv .1) (c .before .before .before .pre .1 .1))
+cast-k c =
+    let at-loop = c .before .before in
+    let at-start = at-loop .before in
+    omega (
+      arith,
+      passes.step-index (at-start .args .steps .now) _ _ _ _ _ (at-loop .loop .inv .2) (at-loop .loop .inv .0) (at-loop .loop .inv .1) (at-start .pre .1 .1),
+    )
 
 mul-row : tie.Need-mul-row Inv-loop μ-loop
-mul-row c = omega (arith, passes.step-index (c .before .before .before .args .steps .now) (c .before .before .before .args .row .now) (c .before .before .loop .row) (c .before .before .before .args .from) (c .before .before .before .args .to) (c .before .before .loop .j) (c .before .before .loop .inv .2) (c .before .before .loop .inv .0) (c .before .before .loop .inv .1) (c .before .before .before .pre .1 .1), c .before .before .before .pre .1 .0 .long)
+mul-row c =
+    let at-loop = c .before .before in
+    let at-start = at-loop .before in
+    omega (
+      arith,
+      passes.step-index (at-start .args .steps .now) _ _ _ _ _ (at-loop .loop .inv .2) (at-loop .loop .inv .0) (at-loop .loop .inv .1) (at-start .pre .1 .1),
+      at-start .pre .1 .0 .long,
+    )
 
 shared-slice-read-row : tie.Need-shared-slice-read-row Inv-loop μ-loop
-shared-slice-read-row c = omega (arith, passes.step-index (c .before .before .before .before .args .steps .now) (c .before .before .before .before .args .row .now) (c .before .before .before .loop .row) (c .before .before .before .before .args .from) (c .before .before .before .before .args .to) (c .before .before .before .loop .j) (c .before .before .before .loop .inv .2) (c .before .before .before .loop .inv .0) (c .before .before .before .loop .inv .1) (c .before .before .before .before .pre .1 .1), c .before .before .before .before .pre .1 .0 .long)
+shared-slice-read-row c =
+    let at-loop = c .before .before .before in
+    let at-start = at-loop .before in
+    omega (
+      arith,
+      passes.step-index (at-start .args .steps .now) _ _ _ _ _ (at-loop .loop .inv .2) (at-loop .loop .inv .0) (at-loop .loop .inv .1) (at-start .pre .1 .1),
+      at-start .pre .1 .0 .long,
+    )
 
 mul-row-2 : tie.Need-mul-row-2 Inv-loop μ-loop
 mul-row-2 c = omega (arith, c .before .before .before .loop .inv .2 .long)
@@ -45,7 +65,14 @@ loop-less : tie.Need-loop-less Inv-loop μ-loop
 loop-less c = omega arith
 
 loop-again : tie.Need-loop-again Inv-loop μ-loop
-loop-again c = (omega arith, omega arith, pass-set _ _ _ _ _ _ (c .before .before .before .loop .inv .2) (c .before .before .before .loop .inv .0) (omega arith) (passes.step-step (c .before .before .before .before .args .steps .now) (c .before .before .before .before .args .row .now) (c .before .before .before .loop .row) (c .before .before .before .before .args .from) (c .before .before .before .before .args .to) (c .before .before .before .loop .j) (c .before .before .before .loop .inv .2) (c .before .before .before .loop .inv .0) (c .before .before .before .loop .inv .1) (c .before .before .before .before .pre .1 .1)))
+loop-again c =
+    let at-loop = c .before .before .before in
+    let at-start = at-loop .before in (
+      omega arith,
+      omega arith,
+      pass-set _ _ _ _ _ _ (at-loop .loop .inv .2) (at-loop .loop .inv .0) (omega arith) (passes.step-step (at-start .args .steps .now) _ _ _ _ _
+          (at-loop .loop .inv .2) (at-loop .loop .inv .0) (at-loop .loop .inv .1) (at-start .pre .1 .1)),
+    )
 
 same-length : tie.Need-same-length Inv-loop μ-loop
 same-length c = c .before .loop .inv .2 .long
@@ -54,21 +81,5 @@ returns : tie.Need-returns Inv-loop μ-loop
 returns c = pass-end _ _ _ _ _ _ (c .before .loop .inv .2) (c .before .loop .inv .1) (c .loop-test .left)
 
 pub step-spec : {M : Type 1} → statement M
-step-spec =
-    tie.close
-    (tie.spec
-    Inv-loop
-    μ-loop
-    loop-holds
-    mul-k
-    slice-read-k
-    cast-k
-    mul-row
-    shared-slice-read-row
-    mul-row-2
-    slice-write-row
-    add-j
-    loop-less
-    loop-again
-    same-length
-    returns)
+step-spec = tie.close (tie.spec Inv-loop μ-loop loop-holds mul-k slice-read-k cast-k mul-row shared-slice-read-row mul-row-2 slice-write-row add-j loop-less
+    loop-again same-length returns)

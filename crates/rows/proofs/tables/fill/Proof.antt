@@ -1,4 +1,4 @@
--- `rows::tables::fill` meets its contract.
+-- `rows::tables::fill` meets its contract: the letters and the four rows stand side by side, and each pass leaves the others as they are.
 use borrow.Author.Needs.{needs}
 use Rattle.rows.proofs.TableLaws as tables
 use Rattle.rows.proofs.tables.fill.Statement.{statement}
@@ -23,16 +23,15 @@ same-length : tie.Need-same-length
 same-length c = search needs
 
 returns : tie.Need-returns
-returns c = tables.tables-made _ _ _ _ _ _ _ _ (c .before .before .before .before .before .before .before .before .before .before .before .before .before .before .before .before .before .before .before .before .before .before .before .pre .1 .1) (c .before .before .before .before .before .before .before .before .before .before .before .before .before .before .before .before .before .before .put-letters .ensures) (c .before .before .before .before .before .before .before .before .before .before .before .before .before .before .put-base .ensures) (c .before .before .before .before .before .before .before .before .before .before .put-base2 .ensures) (c .before .before .before .before .before .before .put-base3 .ensures) (c .before .before .put-base4 .ensures)
+returns c =
+    let at-put-base4 = c .before .before in
+    let at-put-base3 = at-put-base4 .before .before .before .before in
+    let at-put-base2 = at-put-base3 .before .before .before .before in
+    let at-put-base = at-put-base2 .before .before .before .before in
+    let at-put-letters = at-put-base .before .before .before .before in
+    let at-start = at-put-letters .before .before .before .before .before in
+    tables.tables-made _ _ _ _ _ _ _ _ (at-start .pre .1 .1) (at-put-letters .put-letters .ensures) (at-put-base .put-base .ensures)
+    (at-put-base2 .put-base2 .ensures) (at-put-base3 .put-base3 .ensures) (at-put-base4 .put-base4 .ensures)
 
 pub fill-spec : {M : Type 1} → statement M
-fill-spec =
-    tie.close
-    (tie.spec
-    put-letters-requires
-    put-base-requires
-    put-base-requires-2
-    put-base-requires-3
-    put-base-requires-4
-    same-length
-    returns)
+fill-spec = tie.close (tie.spec put-letters-requires put-base-requires put-base-requires-2 put-base-requires-3 put-base-requires-4 same-length returns)

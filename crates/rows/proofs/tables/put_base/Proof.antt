@@ -1,4 +1,4 @@
--- `rows::tables::put_base` meets its contract.
+-- `rows::tables::put_base` meets its contract: the base's row fits in at its place.
 use borrow.Author.Needs.{needs}
 use Rattle.rows.proofs.TableLaws as tables
 use Rattle.rows.proofs.tables.put_base.Statement.{statement}
@@ -14,7 +14,12 @@ same-length : tie.Need-same-length
 same-length c = search needs
 
 returns : tie.Need-returns
-returns c = tables.put-at (c .before .before .before .before .before .before .before .before .args .p .now) (c .before .before .before .before .before .before .before .before .args .pm .now) (c .before .before .before .before .before .before .before .before .args .b) (c .before .before .before .before .steps-at .result) _ _ (c .before .before .before .before .steps-at .ensures .0) (c .before .before .put-steps .ensures)
+returns c =
+    let at-put-steps = c .before .before in
+    let at-steps-at = at-put-steps .before .before in
+    let at-start = at-steps-at .before .before .before .before in
+    tables.put-at (at-start .args .p .now) (at-start .args .pm .now) (at-start .args .b) _ _ _ (at-steps-at .steps-at .ensures .0)
+    (at-put-steps .put-steps .ensures)
 
 pub put-base-spec : {M : Type 1} → statement M
 put-base-spec = tie.close (tie.spec steps-at-requires put-steps-requires same-length returns)

@@ -1,4 +1,4 @@
--- `rows::tables::steps_at` meets its contract.
+-- `rows::tables::steps_at` meets its contract: the product is that of `stepsAt`, and two bits are below 4.
 use borrow.Author.Needs.{needs}
 use Prim.Native.Nat.{_/_, _%_}
 use native.Mathlib.Omega.{arith}
@@ -22,7 +22,7 @@ mul-result c = omega (arith, tables.row-below (c .args .m) (c .args .b / 2 % 4) 
 
 returns : tie.Need-returns
 unfolding stepsAt
-returns c = (refl, tables.steps-within (c .args .m) (c .args .b))
+returns c = (refl, tables.steps-within _ _)
 
 pub steps-at-spec : {M : Type 1} → statement M
 steps-at-spec = tie.close (tie.spec add-result cast-result add-result-2 mul-result returns)

@@ -1,4 +1,4 @@
--- `screening::text::put_byte` meets its contract.
+-- `screening::text::put_byte` meets its contract. One store: the byte at `at` is b, every other byte is the old one.
 use borrow.Author.Needs.{needs}
 use Rattle.screening.proofs.TextLaws as law
 use Rattle.screening.proofs.text.put_byte.Statement.{statement}

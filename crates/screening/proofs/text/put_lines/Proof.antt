@@ -1,4 +1,5 @@
--- `screening::text::put_lines` meets its contract.
+-- `screening::text::put_lines` meets its contract. The invariant: the lines of the first i numbers are written from `at` to `past`. One turn writes
+-- one line more (`take (i + 1)`), and at the end i is `count`.
 use Prim.Native.Nat.{_-_, _≤_}
 use native.Mathlib.Omega.{arith}
 use mathlib.Core.Path.{_≡_, refl, _∙_}
@@ -27,7 +28,11 @@ cast-put-line : tie.Need-cast-put-line Inv-loop μ-loop
 cast-put-line c = omega (arith, c .shared-slice-known2 .given (c .before .before .before .loop .i))
 
 put-line-requires : tie.Need-put-line-requires Inv-loop μ-loop
-put-line-requires c κs = omega (arith, c .before .before .before .loop .inv .1, law.lines-room _ (c .before .before .loop-test .taken) (c .before .before .before .before .before .before .pre .0) (c .before .before .before .before .before .before .pre .1) (c .before .before .before .loop .inv .2))
+put-line-requires c κs =
+    let at-loop-test = c .before .before in
+    let at-loop = at-loop-test .before in
+    let at-start = at-loop .before .before .before in
+    omega (arith, at-loop .loop .inv .1, law.lines-room _ (at-loop-test .loop-test .taken) (at-start .pre .0) (at-start .pre .1) (at-loop .loop .inv .2))
 
 add-i : tie.Need-add-i Inv-loop μ-loop
 add-i c = omega arith
@@ -36,7 +41,15 @@ loop-less : tie.Need-loop-less Inv-loop μ-loop
 loop-less c = omega arith
 
 loop-again : tie.Need-loop-again Inv-loop μ-loop
-loop-again c = (omega arith, c .before .before .put-line .kept .0 ∙ c .before .before .before .before .before .before .loop .inv .1, law.lines-next _ (c .before .before .before .before .before .loop-test .taken) (c .before .before .before .before .before .before .before .before .before .pre .0) (c .before .before .before .before .before .before .before .before .before .pre .1) (c .before .before .before .before .before .before .loop .inv .2) (c .before .before .put-line .ensures))
+loop-again c =
+    let at-put-line = c .before .before in
+    let at-loop-test = at-put-line .before .before .before in
+    let at-loop = at-loop-test .before in
+    let at-start = at-loop .before .before .before in (
+      omega arith,
+      at-put-line .put-line .kept .0 ∙ at-loop .loop .inv .1,
+      law.lines-next _ (at-loop-test .loop-test .taken) (at-start .pre .0) (at-start .pre .1) (at-loop .loop .inv .2) (at-put-line .put-line .ensures),
+    )
 
 same-length : tie.Need-same-length Inv-loop μ-loop
 same-length c = c .before .loop .inv .1
@@ -45,18 +58,5 @@ returns : tie.Need-returns Inv-loop μ-loop
 returns c = law.lines-end _ _ _ (c .before .loop .inv .0) (c .loop-test .left) (c .before .loop .inv .2)
 
 pub put-lines-spec : {M : Type 1} → statement M
-put-lines-spec =
-    tie.close
-    (tie.spec
-    Inv-loop
-    μ-loop
-    loop-holds
-    mul-put-line
-    shared-slice-read-put-line
-    cast-put-line
-    put-line-requires
-    add-i
-    loop-less
-    loop-again
-    same-length
-    returns)
+put-lines-spec = tie.close (tie.spec Inv-loop μ-loop loop-holds mul-put-line shared-slice-read-put-line cast-put-line put-line-requires add-i loop-less
+    loop-again same-length returns)

@@ -1,4 +1,4 @@
--- `strand::letters::is_letter` meets its contract.
+-- `strand::letters::is_letter` meets its contract: each return is one letter.
 use borrow.Author.Tests.{eq-eqb, ne-eqb}
 use Rattle.strand.specs.Strands.{isLetter}
 use Rattle.strand.proofs.letters.is_letter.Statement.{statement}

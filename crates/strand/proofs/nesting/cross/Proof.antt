@@ -1,4 +1,4 @@
--- `strand::nesting::cross` meets its contract.
+-- `strand::nesting::cross` meets its contract: each return is one comparison.
 use mathlib.Core.Path.{sym}
 use Rattle.strand.proofs.NestingLaws.{cross-below, cross-ended, cross-last}
 use Rattle.strand.proofs.nesting.cross.Statement.{statement}

@@ -1,12 +1,12 @@
--- `strand::nesting::crossed` meets its contract.
+-- `strand::nesting::crossed` meets its contract: no arc that begins below a crosses the one at i.
 use borrow.Author.Needs.{needs}
 use Prim.Native.Nat.{_-_, _≤_}
 use native.Mathlib.Omega.{arith}
 use mathlib.Core.Path.{_≡_, sym, _∙_}
 use mathlib.Core.Bool.{false}
-use Rattle.strand.specs.Vocabulary.{nth, some}
+use Rattle.lists.specs.Vocabulary.{nth, some}
 use Rattle.strand.specs.Strands.{crosses, crossedAt}
-use Rattle.strand.proofs.ListLaws.{some-yes, some-no, some-more, some-end}
+use Rattle.lists.proofs.ListLaws.{some-yes, some-no, some-more, some-end}
 use Rattle.strand.proofs.nesting.crossed.Statement.{statement}
 use Rattle.strand.proofs.nesting.crossed.Tie as tie
 
@@ -42,7 +42,10 @@ cross-requires c κs = search needs
 
 returns : tie.Need-returns Inv-loop μ-loop
 unfolding crossedAt
-returns c = sym (some-yes (λ k. crosses k (nth (c .before .before .before .before .before .before .before .args .mates .now) k) (c .before .before .before .before .before .before .before .args .i) (nth (c .before .before .before .before .before .before .before .args .mates .now) (c .before .before .before .before .before .before .before .args .i))) _ (c .before .before .before .before .loop .a) (c .before .before .before .loop-test .taken) (sym (c .before .cross .ensures) ∙ c .if1 .taken))
+returns c =
+    let at-cross = c .before in
+    let at-loop-test = at-cross .before .before in
+    sym (some-yes (λ k. crosses k _ _ _) _ _ (at-loop-test .loop-test .taken) (sym (at-cross .cross .ensures) ∙ c .if1 .taken))
 
 add-a : tie.Need-add-a Inv-loop μ-loop
 add-a c = omega arith
@@ -51,28 +54,15 @@ loop-less : tie.Need-loop-less Inv-loop μ-loop
 loop-less c = omega arith
 
 loop-again : tie.Need-loop-again Inv-loop μ-loop
-loop-again c = (omega arith, some-more _ (c .before .before .before .before .loop .a) (c .before .before .before .before .loop .inv .1) (sym (c .before .cross .ensures) ∙ c .if1 .left))
+loop-again c =
+    let at-cross = c .before in
+    let at-loop = at-cross .before .before .before in
+    (omega arith, some-more _ _ (at-loop .loop .inv .1) (sym (at-cross .cross .ensures) ∙ c .if1 .left))
 
 returns-2 : tie.Need-returns-2 Inv-loop μ-loop
 unfolding crossedAt
 returns-2 c = sym (some-end _ _ _ (c .before .loop .inv .0) (c .loop-test .left) (c .before .loop .inv .1))
 
 pub crossed-spec : {M : Type 1} → statement M
-crossed-spec =
-    tie.close
-    (tie.spec
-    Inv-loop
-    μ-loop
-    mul-j
-    shared-slice-read-j
-    cast-j
-    loop-holds
-    mul-cross
-    shared-slice-read-cross
-    cast-cross
-    cross-requires
-    returns
-    add-a
-    loop-less
-    loop-again
-    returns-2)
+crossed-spec = tie.close (tie.spec Inv-loop μ-loop mul-j shared-slice-read-j cast-j loop-holds mul-cross shared-slice-read-cross cast-cross cross-requires
+    returns add-a loop-less loop-again returns-2)

@@ -1,13 +1,13 @@
--- `strand::nesting::lowest_outside` meets its contract.
+-- `strand::nesting::lowest_outside` meets its contract: the first i mates are in range.
 use Prim.Native.Nat.{_-_, _≤_}
 use native.Mathlib.Omega.{arith}
 use mathlib.Core.Path.{_≡_, sym}
 use lib.ListN.{length}
 use borrow.Author.Tests.{le-leb, lt-leb}
-use Rattle.strand.specs.Vocabulary.{lowest}
+use Rattle.lists.specs.Vocabulary.{lowest}
 use Rattle.strand.specs.Strands.{mateOutside}
-use Rattle.strand.proofs.ListLaws.{lowest-none, lowest-more, lowest-found, lowest-end}
-use Rattle.strand.proofs.NestingLaws.{outside}
+use Rattle.lists.proofs.ListLaws.{lowest-none, lowest-more, lowest-found, lowest-end}
+use Rattle.strand.proofs.NestingLaws.{range-test}
 use Rattle.strand.proofs.nesting.lowest_outside.Statement.{statement}
 use Rattle.strand.proofs.nesting.lowest_outside.Tie as tie
 
@@ -30,7 +30,10 @@ cast-if1 : tie.Need-cast-if1 Inv-loop μ-loop
 cast-if1 c = omega (arith, c .shared-slice-known .given (c .before .before .loop .i))
 
 returns : tie.Need-returns Inv-loop μ-loop
-returns c = sym (lowest-found _ _ _ (c .before .before .before .loop .inv .1) (c .before .before .loop-test .taken) (outside _ _ _ (le-leb _ _ (c .if1 .taken))))
+returns c =
+    let at-loop-test = c .before .before in
+    let at-loop = at-loop-test .before in
+    sym (lowest-found _ _ _ (at-loop .loop .inv .1) (at-loop-test .loop-test .taken) (range-test _ _ _ (le-leb _ _ (c .if1 .taken))))
 
 add-i : tie.Need-add-i Inv-loop μ-loop
 add-i c = omega arith
@@ -39,23 +42,10 @@ loop-less : tie.Need-loop-less Inv-loop μ-loop
 loop-less c = omega arith
 
 loop-again : tie.Need-loop-again Inv-loop μ-loop
-loop-again c = (omega arith, lowest-more _ _ (c .before .before .before .loop .inv .1) (outside _ _ _ (lt-leb _ _ (c .if1 .left))))
+loop-again c = (omega arith, lowest-more _ _ (c .before .before .before .loop .inv .1) (range-test _ _ _ (lt-leb _ _ (c .if1 .left))))
 
 returns-2 : tie.Need-returns-2 Inv-loop μ-loop
 returns-2 c = lowest-end _ _ _ (c .before .loop .inv .1) (c .before .loop .inv .0) (c .loop-test .left)
 
 pub lowest-outside-spec : {M : Type 1} → statement M
-lowest-outside-spec =
-    tie.close
-    (tie.spec
-    Inv-loop
-    μ-loop
-    loop-holds
-    mul-if1
-    shared-slice-read-if1
-    cast-if1
-    returns
-    add-i
-    loop-less
-    loop-again
-    returns-2)
+lowest-outside-spec = tie.close (tie.spec Inv-loop μ-loop loop-holds mul-if1 shared-slice-read-if1 cast-if1 returns add-i loop-less loop-again returns-2)

@@ -1,4 +1,5 @@
--- `strand_test::cases::cases` meets its contract.
+-- `strand_test::cases::cases` meets its contract. No step fails and the loop ends: the invariant is that i is at most the number of lines, and that
+-- bases and mates keep their lengths.
 use borrow.Author.Needs.{needs}
 use Prim.Native.Nat.{_-_, _/_, _≤_}
 use mathlib.Core.Path.{_≡_}
@@ -43,18 +44,4 @@ returns : tie.Need-returns Inv-loop μ-loop
 returns c = search needs
 
 pub cases-spec : {M : Type 1} → statement M
-cases-spec =
-    tie.close
-    (tie.spec
-    Inv-loop
-    μ-loop
-    loop-holds
-    mul-part
-    part-requires
-    told-requires
-    add-i
-    loop-less
-    loop-again
-    same-length
-    same-length-2
-    returns)
+cases-spec = tie.close (tie.spec Inv-loop μ-loop loop-holds mul-part part-requires told-requires add-i loop-less loop-again same-length same-length-2 returns)

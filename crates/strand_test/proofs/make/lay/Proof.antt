@@ -1,4 +1,5 @@
--- `strand_test::make::lay` meets its contract.
+-- `strand_test::make::lay` meets its contract. No step fails and the loop ends: the invariant is i ≤ n, and that the mates keep their length, which
+-- `set_entry` says of each turn.
 use Prim.Native.Nat.{_-_, _≤_}
 use mathlib.Core.Path.{_≡_, refl, _∙_}
 use native.Mathlib.Omega.{arith}
@@ -28,7 +29,10 @@ loop-less : tie.Need-loop-less Inv-loop μ-loop
 loop-less c = omega arith
 
 loop-again : tie.Need-loop-again Inv-loop μ-loop
-loop-again c = (omega arith, c .before .before .set-entry .kept .0 ∙ c .before .before .before .before .before .before .loop .inv .1)
+loop-again c =
+    let at-set-entry = c .before .before in
+    let at-loop = at-set-entry .before .before .before .before in
+    (omega arith, at-set-entry .set-entry .kept .0 ∙ at-loop .loop .inv .1)
 
 same-length : tie.Need-same-length Inv-loop μ-loop
 same-length c = c .before .loop .inv .1
@@ -37,16 +41,4 @@ returns : tie.Need-returns Inv-loop μ-loop
 returns c = tt
 
 pub lay-spec : {M : Type 1} → statement M
-lay-spec =
-    tie.close
-    (tie.spec
-    Inv-loop
-    μ-loop
-    loop-holds
-    by-rule-requires
-    set-entry-requires
-    add-i
-    loop-less
-    loop-again
-    same-length
-    returns)
+lay-spec = tie.close (tie.spec Inv-loop μ-loop loop-holds by-rule-requires set-entry-requires add-i loop-less loop-again same-length returns)

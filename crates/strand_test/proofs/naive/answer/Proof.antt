@@ -1,4 +1,4 @@
--- `strand_test::naive::answer` meets its contract.
+-- `strand_test::naive::answer` meets its contract. No step fails and the loop ends: the invariant is row ≤ 8.
 use Prim.Native.Nat.{_-_, _≤_}
 use native.Mathlib.Omega.{arith}
 use Rattle.strand_test.proofs.naive.answer.Statement.{statement}
@@ -10,20 +10,20 @@ Inv-loop bases mates side least greatest row₀ row = row ≤ 8
 abbrev μ-loop : tie.MeasureT-loop
 μ-loop bases mates side least greatest row₀ row = 8 - row
 
-code-requires : tie.Need-code-requires Inv-loop μ-loop
-code-requires c κs = tt
+refused-requires : tie.Need-refused-requires Inv-loop μ-loop
+refused-requires c κs = tt
 
 returns : tie.Need-returns Inv-loop μ-loop
 returns c = tt
 
-code-requires-2 : tie.Need-code-requires-2 Inv-loop μ-loop
-code-requires-2 c κs = tt
+refused-requires-2 : tie.Need-refused-requires-2 Inv-loop μ-loop
+refused-requires-2 c κs = tt
 
 returns-2 : tie.Need-returns-2 Inv-loop μ-loop
 returns-2 c = tt
 
-code-requires-3 : tie.Need-code-requires-3 Inv-loop μ-loop
-code-requires-3 c κs = tt
+refused-requires-3 : tie.Need-refused-requires-3 Inv-loop μ-loop
+refused-requires-3 c κs = tt
 
 returns-3 : tie.Need-returns-3 Inv-loop μ-loop
 returns-3 c = tt
@@ -34,8 +34,8 @@ loop-holds c = omega arith
 lowest-requires : tie.Need-lowest-requires Inv-loop μ-loop
 lowest-requires c κs = tt
 
-code-requires-4 : tie.Need-code-requires-4 Inv-loop μ-loop
-code-requires-4 c κs = tt
+refused-requires-4 : tie.Need-refused-requires-4 Inv-loop μ-loop
+refused-requires-4 c κs = tt
 
 returns-4 : tie.Need-returns-4 Inv-loop μ-loop
 returns-4 c = tt
@@ -58,15 +58,15 @@ answer-spec =
     (tie.spec
     Inv-loop
     μ-loop
-    code-requires
+    refused-requires
     returns
-    code-requires-2
+    refused-requires-2
     returns-2
-    code-requires-3
+    refused-requires-3
     returns-3
     loop-holds
     lowest-requires
-    code-requires-4
+    refused-requires-4
     returns-4
     add-row
     loop-less

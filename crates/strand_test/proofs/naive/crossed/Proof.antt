@@ -1,4 +1,4 @@
--- `strand_test::naive::crossed` meets its contract.
+-- `strand_test::naive::crossed` meets its contract. No step fails and the loop ends: the invariant is that a is at most the number of mates.
 use Prim.Native.Nat.{_-_, _≤_}
 use native.Mathlib.Omega.{arith}
 use lib.ListN.{length}
@@ -39,17 +39,4 @@ returns-2 : tie.Need-returns-2 Inv-loop μ-loop
 returns-2 c = tt
 
 pub crossed-spec : {M : Type 1} → statement M
-crossed-spec =
-    tie.close
-    (tie.spec
-    Inv-loop
-    μ-loop
-    entry-at-requires
-    loop-holds
-    entry-at-requires-2
-    cross-requires
-    returns
-    add-a
-    loop-less
-    loop-again
-    returns-2)
+crossed-spec = tie.close (tie.spec Inv-loop μ-loop entry-at-requires loop-holds entry-at-requires-2 cross-requires returns add-a loop-less loop-again returns-2)

@@ -1,4 +1,4 @@
--- `strand_test::naive::lowest` meets its contract.
+-- `strand_test::naive::lowest` meets its contract. No step fails and the loop ends: the invariant is that i is at most the number of bases.
 use Prim.Native.Nat.{_-_, _≤_}
 use native.Mathlib.Omega.{arith}
 use lib.ListN.{length}
@@ -33,15 +33,4 @@ returns-2 : tie.Need-returns-2 Inv-loop μ-loop
 returns-2 c = tt
 
 pub lowest-spec : {M : Type 1} → statement M
-lowest-spec =
-    tie.close
-    (tie.spec
-    Inv-loop
-    μ-loop
-    loop-holds
-    applies-requires
-    returns
-    add-i
-    loop-less
-    loop-again
-    returns-2)
+lowest-spec = tie.close (tie.spec Inv-loop μ-loop loop-holds applies-requires returns add-i loop-less loop-again returns-2)

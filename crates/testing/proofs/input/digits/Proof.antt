@@ -1,4 +1,5 @@
--- `testing::input::digits` meets its contract.
+-- `testing::input::digits` meets its contract. The contract promises nothing, so the proof says that no step fails and the loop ends. The invariant:
+-- k is at most the length of `to`, and that length is kept.
 use borrow.Author.Needs.{needs}
 use Prim.Native.Nat.{_-_, _≤_}
 use mathlib.Core.Path.{_≡_}
@@ -40,17 +41,4 @@ returns : tie.Need-returns Inv-loop μ-loop
 returns c = search needs
 
 pub digits-spec : {M : Type 1} → statement M
-digits-spec =
-    tie.close
-    (tie.spec
-    Inv-loop
-    μ-loop
-    loop-holds
-    add-digit-at
-    digit-at-requires
-    set-entry-requires
-    add-k
-    loop-less
-    loop-again
-    same-length
-    returns)
+digits-spec = tie.close (tie.spec Inv-loop μ-loop loop-holds add-digit-at digit-at-requires set-entry-requires add-k loop-less loop-again same-length returns)

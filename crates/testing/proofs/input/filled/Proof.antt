@@ -1,4 +1,4 @@
--- `testing::input::filled` meets its contract.
+-- `testing::input::filled` meets its contract. No step fails and the loop ends: the invariant is k ≤ n, and the column read stays below 512.
 use borrow.Author.Needs.{needs}
 use Prim.Native.Nat.{_-_, _≤_}
 use Rattle.testing.proofs.input.filled.Statement.{statement}
@@ -35,16 +35,4 @@ returns-2 : tie.Need-returns-2 Inv-loop μ-loop
 returns-2 c = search needs
 
 pub filled-spec : {M : Type 1} → statement M
-filled-spec =
-    tie.close
-    (tie.spec
-    Inv-loop
-    μ-loop
-    loop-holds
-    add-byte-at
-    byte-at-requires
-    returns
-    add-k
-    loop-less
-    loop-again
-    returns-2)
+filled-spec = tie.close (tie.spec Inv-loop μ-loop loop-holds add-byte-at byte-at-requires returns add-k loop-less loop-again returns-2)

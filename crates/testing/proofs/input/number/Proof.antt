@@ -1,4 +1,5 @@
--- `testing::input::number` meets its contract.
+-- `testing::input::number` meets its contract. No step fails and the loop ends: the invariant is k ≤ n. v is cut to nine digits before it gets one
+-- more, so no product and no sum overflows.
 use borrow.Author.Needs.{needs}
 use Prim.Native.Nat.{_-_, _≤_}
 use Rattle.testing.proofs.input.number.Statement.{statement}
@@ -38,17 +39,4 @@ returns : tie.Need-returns Inv-loop μ-loop
 returns c = search needs
 
 pub number-spec : {M : Type 1} → statement M
-number-spec =
-    tie.close
-    (tie.spec
-    Inv-loop
-    μ-loop
-    loop-holds
-    mul-v
-    add-digit-at
-    digit-at-requires
-    add-v
-    add-k
-    loop-less
-    loop-again
-    returns)
+number-spec = tie.close (tie.spec Inv-loop μ-loop loop-holds mul-v add-digit-at digit-at-requires add-v add-k loop-less loop-again returns)

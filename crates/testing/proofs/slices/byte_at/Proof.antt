@@ -1,4 +1,5 @@
--- `testing::slices::byte_at` meets its contract.
+-- `testing::slices::byte_at` meets its contract. The read is guarded by the length, and a byte fits a usize: that every entry of the slice is a byte
+-- is given where the slice is read.
 use borrow.Author.Needs.{needs}
 use native.Mathlib.Omega.{arith}
 use Rattle.testing.proofs.slices.byte_at.Statement.{statement}

@@ -1,4 +1,5 @@
--- `testing::slices::entry_at` meets its contract.
+-- `testing::slices::entry_at` meets its contract. The read is guarded by the length, and an entry fits a usize: that every entry of the slice is a
+-- u16 is given where the slice is read.
 use borrow.Author.Needs.{needs}
 use native.Mathlib.Omega.{arith}
 use Rattle.testing.proofs.slices.entry_at.Statement.{statement}

@@ -1,4 +1,5 @@
--- `testing::slices::sum_entries` meets its contract.
+-- `testing::slices::sum_entries` meets its contract. No step fails and the loop ends: the invariant is that i is at most the length of s; `further`
+-- takes any sum.
 use borrow.Author.Needs.{needs}
 use Prim.Native.Nat.{_-_, _≤_}
 use lib.ListN.{length}
@@ -33,15 +34,4 @@ returns : tie.Need-returns Inv-loop μ-loop
 returns c = search needs
 
 pub sum-entries-spec : {M : Type 1} → statement M
-sum-entries-spec =
-    tie.close
-    (tie.spec
-    Inv-loop
-    μ-loop
-    loop-holds
-    entry-at-requires
-    further-requires
-    add-i
-    loop-less
-    loop-again
-    returns)
+sum-entries-spec = tie.close (tie.spec Inv-loop μ-loop loop-holds entry-at-requires further-requires add-i loop-less loop-again returns)

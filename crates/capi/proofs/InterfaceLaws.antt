@@ -1,0 +1,20 @@
+-- From a call's own statement to the statement for C: the struct in place of the answer, beside the effect on the buffers.
+use Prim.Native.Nat.{ℕ}
+use mathlib.Core.Path.{_≡_, ap, _∙_}
+use mathlib.Core.List.{List}
+use Rattle.calls.specs.declared.Queried.{Queried}
+use Rattle.calls.specs.Calls.{Effect, effect, QueryEffect, queried}
+use Rattle.capi.specs.declared.Answer.{Answer}
+use Rattle.capi.specs.Interface.{effectInC, queryInC, queriedInC, queryEffectInC}
+
+pub effect-in-c
+    : {A : Type 0} (inC : A → Answer) {r : Answer} {a : A} {catalog cache : List ℕ} {e : Effect A}
+    → r ≡ inC a → effect a catalog cache ≡ e → effect r catalog cache ≡ effectInC inC e
+unfolding effectInC
+effect-in-c inC {catalog = catalog} {cache = cache} same outcome = ap (λ x. effect x catalog cache) same ∙ ap (effectInC inC) outcome
+
+pub query-in-c
+    : {r : Answer} {a : Queried} {cache hits : List ℕ} {e : QueryEffect}
+    → r ≡ queryInC a → queried a cache hits ≡ e → queriedInC r cache hits ≡ queryEffectInC e
+unfolding queryEffectInC
+query-in-c {cache = cache} {hits = hits} same effect = ap (λ x. queriedInC x cache hits) same ∙ ap queryEffectInC effect

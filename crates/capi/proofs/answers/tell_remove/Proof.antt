@@ -1,0 +1,30 @@
+-- `capi::answers::tell_remove` meets its contract. By cases on the answer: each return is `removeInC` of its case.
+use borrow.Author.Needs.{needs}
+use mathlib.Core.Path.{ap, sym, _∙_}
+use Rattle.capi.specs.Interface.{removeInC}
+use Rattle.capi.proofs.answers.tell_remove.Statement.{statement}
+use Rattle.capi.proofs.answers.tell_remove.Tie as tie
+
+enum-known-a : tie.Need-enum-known-a
+enum-known-a c = search needs
+
+refuse-requires : tie.Need-refuse-requires
+refuse-requires c κs = search needs
+
+returns : tie.Need-returns
+unfolding removeInC
+returns c = c .refuse .ensures ∙ ap removeInC (sym (c .before .before .a .given .1))
+
+enum-told : tie.Need-enum-told
+enum-told c = search needs
+
+accept-requires : tie.Need-accept-requires
+accept-requires c κs = search needs
+
+returns-2 : tie.Need-returns-2
+unfolding removeInC
+returns-2 c = c .accept .ensures ∙ ap removeInC (sym (c .before .enum-told .given .1))
+
+pub tell-remove-spec : {M : Type 1} → statement M
+tell-remove-spec =
+    tie.close (tie.spec enum-known-a refuse-requires returns enum-told accept-requires returns-2)

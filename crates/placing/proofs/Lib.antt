@@ -1,0 +1,4 @@
+pub mod Top
+pub mod TakeLaws
+pub mod Descent
+pub mod Levels

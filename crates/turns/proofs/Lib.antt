@@ -1,4 +1,0 @@
-pub mod Top
-pub mod Turning
-pub mod Descent
-pub mod Levels

@@ -1,0 +1,312 @@
+#!/usr/bin/env python3
+"""Document 01 in plain Python, for the scripts beside it: strands and their refusals, embeddings, blocks. It shares nothing with the library.
+
+A strand is its bases, a text with a character for each byte, and its mates, a list of numbers. `--self-test` holds the search to the
+definition of an embedding, and blocks to the rules.
+"""
+import collections
+import itertools
+import random
+import sys
+
+LETTERS = 'ACGU'
+LONGEST = 4096  # of the direct calls
+LONGEST_MOLECULE, LONGEST_MOTIF = 160, 120
+MOST_BLOCKS, MOST_SLOTS, MOST_SCREENED = 512, 64, 64
+
+# ---- strands
+
+
+def nested(mates):
+    """Whether mates lie in the strand, are mutual, and no two arcs cross."""
+    closing = []
+    for i, mate in enumerate(mates):
+        if mate >= len(mates) or mates[mate] != i:
+            return False
+        if mate > i:
+            closing.append(mate)
+        elif mate < i and closing.pop() != i:
+            return False
+    return True
+
+
+def strand_refusal(bases, mates, longest=LONGEST, least=1):
+    """Row and place of the first of rows 1 to 7 that applies, or None."""
+    n = len(bases)
+    if n != len(mates):
+        return 1, 0
+    if n < least:
+        return 2, 0
+    if n > longest:
+        return 3, 0
+    rows = ((4, lambda i: bases[i] not in LETTERS),
+            (5, lambda i: mates[i] >= n),
+            (6, lambda i: mates[mates[i]] != i),
+            (7, lambda i: any(a < i < mates[a] < mates[i] for a in range(i))))
+    if nested(mates):  # the last three need not be tried
+        rows = rows[:1]
+    return next(((row, i) for row, applies in rows for i in range(n) if applies(i)), None)
+
+
+# 01's small examples of these rows: bases, mates, row, place.
+REFUSED = (
+    ('AC', [0], 1, 0),
+    ('', [], 2, 0),
+    ('AXC', [0, 1, 2], 4, 1),
+    ('A', [1], 5, 0),
+    ('AC', [1, 1], 6, 0),
+    ('ACGU', [2, 3, 0, 1], 7, 1),
+)
+
+
+def key(bases, mates):
+    return sum(bases.encode('latin-1')) + sum(mates)
+
+
+def work_size(m, n=LONGEST_MOLECULE):
+    """How many entries of work a motif of m bases and a molecule of n ask for."""
+    return 64 * (m + 1) + 8 * n
+
+
+def random_strand(rng, most):
+    """A nested strand of 1 to `most` bases."""
+    n = rng.randint(1, most)
+    mates, begun = list(range(n)), []
+    for i in range(n):
+        move = rng.random()
+        if begun and move < 0.35:
+            mates[i] = begun.pop()
+            mates[mates[i]] = i
+        elif move < 0.7:
+            begun.append(i)
+    return ''.join(rng.choice(LETTERS) for _ in range(n)), mates
+
+
+# ---- embeddings
+
+def matches(letter, base):
+    """Whether a letter of a motif may go to a base of a molecule."""
+    return letter == base
+
+
+def longest(p, pm, q, qm):
+    """The longest closed prefix of the motif p that embeds in the molecule q. For a stretch of q, ends[j] is the end of the longest closed stretch
+    of p that begins at j and embeds there; stretches of q side by side are joined by looking one up in the other."""
+    m = len(p)
+    fits = {c: [matches(letter, c) for letter in p] for c in LETTERS}
+    free = {c: [j for j in range(m) if pm[j] == j and fits[c][j]] for c in LETTERS}
+    arcs = [(j, e) for j, e in enumerate(pm) if e > j]
+
+    def of_base(base):
+        """The ends for one unbonded base."""
+        ends = list(range(m + 1))
+        for j in free[base]:
+            ends[j] = j + 1
+        return ends
+    steps = {c: of_base(c) for c in LETTERS}
+
+    def around(inside, left, right):
+        """The ends for an arc, from those for what lies inside it."""
+        ends = [steps[right][k] for k in inside]
+        for j in free[left]:
+            ends[j] = max(ends[j], inside[j + 1])
+        for j, e in arcs:
+            if fits[left][j] and fits[right][e] and inside[j + 1] >= e:
+                ends[j] = max(ends[j], e + 1)
+        return ends
+
+    begun = []  # of the stretches that are open: what they have so far
+    ends = list(range(m + 1))
+    for i, base in enumerate(q):
+        if qm[i] > i:
+            begun.append(ends)
+            ends = list(range(m + 1))
+        else:
+            step = steps[base]
+            if qm[i] < i:
+                step = around(ends, q[qm[i]], base)
+                ends = begun.pop()
+            ends = [step[k] for k in ends]
+    return ends[0]
+
+
+def embeds(p, pm, q, qm):
+    return longest(p, pm, q, qm) == len(p)
+
+
+def is_embedding(p, pm, q, qm, places):
+    """Whether the places are an embedding of so many bases of p, in 01's own words."""
+    pairs = list(itertools.combinations(range(len(places)), 2))
+    return (all(x < len(q) for x in places)
+            and all(places[i] < places[j] for i, j in pairs)
+            and all(matches(p[i], q[x]) for i, x in enumerate(places))
+            and all((pm[i] == j) == (qm[places[i]] == places[j]) for i, j in pairs))
+
+
+def longest_by_definition(p, pm, q, qm):
+    """The same as `longest`, over all lists of rising places: for the self-test."""
+    closed = [k for k in range(len(p) + 1) if all(mate < k for mate in pm[:k])]
+    return max(k for k in closed if any(is_embedding(p, pm, q, qm, f) for f in itertools.combinations(range(len(q)), k)))
+
+
+# 01's table of settled examples: motif, molecule, L.
+SETTLED = (
+    ('A', [0], 'A', [0], 1),
+    ('GC', [1, 0], 'GAC', [2, 1, 0], 2),
+    ('GC', [0, 1], 'GAC', [2, 1, 0], 1),
+    ('GC', [1, 0], 'GC', [0, 1], 0),
+    ('GC', [0, 1], 'GCC', [2, 1, 0], 2),
+    ('GC', [0, 1], 'GGC', [2, 1, 0], 2),
+    ('AGC', [0, 2, 1], 'AG', [0, 1], 1),
+    ('AGC', [0, 2, 1], 'AGAC', [0, 3, 2, 1], 3),
+    ('GGCC', [3, 2, 1, 0], 'GGCC', [0, 2, 1, 3], 0),
+)
+
+# ---- blocks
+
+BLOCK = 512
+CHECKSUM_AT = 508
+SEARCHED_AT, HITS_AT, MAP = 380, 444, 64
+
+# Byte 0, the greatest length, where bases and mates begin, and where the unused places of mates end.
+Form = collections.namedtuple('Form', 'kind longest bases_at mates_at mates_end')
+MOLECULE = Form(1, LONGEST_MOLECULE, 28, 188, CHECKSUM_AT)
+ENTRY = Form(2, LONGEST_MOTIF, 20, 140, SEARCHED_AT)
+FORMS = {form.kind: form for form in (MOLECULE, ENTRY)}
+
+
+def checksum(block):
+    return sum((i + 1) * block[i] for i in range(CHECKSUM_AT))
+
+
+def seal(block):
+    """Writes the checksum of a block."""
+    block[CHECKSUM_AT:BLOCK] = checksum(block).to_bytes(4, 'little')
+
+
+def encode(form, bases, mates, searched=bytes(MAP), hits=bytes(MAP)):
+    """The block of a strand, for an entry with its two maps."""
+    block = bytearray(BLOCK)
+    block[0], block[1] = form.kind, len(bases)
+    block[form.bases_at:form.bases_at + len(bases)] = bases.encode('latin-1')
+    block[form.mates_at:form.mates_at + 2 * len(mates)] = b''.join(mate.to_bytes(2, 'little') for mate in mates)
+    if form is ENTRY:
+        block[SEARCHED_AT:CHECKSUM_AT] = bytes(searched) + bytes(hits)
+    seal(block)
+    return block
+
+
+def decode(form, block):
+    """Bases and mates of a block; the empty block has none."""
+    n, at = block[1], form.mates_at
+    return block[form.bases_at:form.bases_at + n].decode('latin-1'), [block[i] + 256 * block[i + 1] for i in range(at, at + 2 * n, 2)]
+
+
+def fault(form, block):
+    """None for a sound block, else a byte and what is wrong there."""
+    if len(block) != BLOCK:
+        return len(block), 'a block has %d bytes' % BLOCK
+    if not any(block):
+        return None
+    if block[0] != form.kind:
+        return 0, 'the kind of this block is %d, not %d' % (form.kind, block[0])
+    n = block[1]
+    if not 1 <= n <= form.longest:
+        return 1, 'the length is %d, and 1 to %d are taken' % (n, form.longest)
+    for a, b in ((2, form.bases_at), (form.bases_at + n, form.mates_at), (form.mates_at + 2 * n, form.mates_end)):
+        for i in range(a, b):
+            if block[i] != 0:
+                return i, 'an unused byte is %d, not 0' % block[i]
+    return fault_of_strand(form, *decode(form, block)) or fault_of_end(form, block)
+
+
+def fault_of_strand(form, bases, mates):
+    refusal = strand_refusal(bases, mates, form.longest)
+    if refusal is None:
+        return None
+    row, i = refusal
+    if row == 4:
+        return form.bases_at + i, 'base %d is no letter of %s' % (i, LETTERS)
+    return form.mates_at + 2 * i, {
+        5: 'the mate of base %d is %d, and there are %d bases' % (i, mates[i], len(bases)),
+        6: 'the mate of base %d is %d, whose mate is another' % (i, mates[i]),
+        7: 'the bond of bases %d and %d crosses another' % (i, mates[i])}[row]
+
+
+def fault_of_end(form, block):
+    if form is ENTRY:
+        for i in range(MAP):
+            if block[HITS_AT + i] & ~block[SEARCHED_AT + i]:
+                return HITS_AT + i, 'a hit was not searched'
+    if int.from_bytes(block[CHECKSUM_AT:], 'little') != checksum(block):
+        return CHECKSUM_AT, 'the checksum is not %d' % checksum(block)
+    return None
+
+
+def sound(form, block):
+    return fault(form, block) is None
+
+
+def bit(d):
+    """The byte of number d in a map, and its bit there."""
+    return d // 8, 1 << d % 8
+
+
+def has_bit(block, at, d):
+    i, one = bit(d)
+    return at + i < len(block) and bool(block[at + i] & one)
+
+
+def set_bit(block, at, d):
+    i, one = bit(d)
+    block[at + i] |= one
+
+
+def forget(block, d):
+    """Takes number d out of both maps of an entry; the empty block stays."""
+    if block[0]:
+        i, one = bit(d)
+        for at in (SEARCHED_AT, HITS_AT):
+            if at + i < len(block):
+                block[at + i] &= ~one & 255
+        seal(block)
+
+
+# ---- self-test
+
+def few_letters(strand):
+    """The strand with A in the place of G, and C in that of U."""
+    return strand[0].replace('G', 'A').replace('U', 'C'), strand[1]
+
+
+def self_test():
+    for p, pm, q, qm, told in SETTLED:
+        assert longest(p, pm, q, qm) == told == longest_by_definition(p, pm, q, qm), (p, pm, q, qm)
+    rng, lengths = random.Random(1), collections.Counter()
+    for _ in range(8000):
+        p, q = (few_letters(random_strand(rng, n)) for n in (6, 9))
+        told = longest(*p, *q)
+        assert told == longest_by_definition(*p, *q), (p, q)
+        lengths[told == len(p[0])] += 1
+    assert min(lengths.values()) > 800, lengths
+    for bases, mates, row, place in REFUSED:
+        assert strand_refusal(bases, mates) == (row, place) and (row < 5 or not nested(mates))
+    assert checksum(encode(MOLECULE, 'A', [0])) == 1888 and key('GC', [1, 0]) == key('GC', [0, 1]) == 139
+    for form in FORMS.values():
+        assert sound(form, bytes(BLOCK)) and decode(form, bytes(BLOCK)) == ('', [])
+        for _ in range(300):
+            bases, mates = random_strand(rng, form.longest)
+            block = encode(form, bases, mates, b'\7' * MAP, b'\5' * MAP)
+            assert nested(mates) and sound(form, block) and decode(form, block) == (bases, mates)
+            i = rng.randrange(BLOCK)
+            block[i] = (block[i] + rng.randint(1, 255)) % 256
+            assert not sound(form, block), i
+        for bases, mates, row, _ in REFUSED:
+            assert not sound(form, encode(form, bases, mates)), row
+
+
+if __name__ == '__main__':
+    if sys.argv[1:] != ['--self-test']:
+        sys.exit(__doc__)
+    self_test()
+    print('self-test: ok')
