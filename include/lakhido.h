@@ -1,8 +1,8 @@
 /* Lakhido: motif search and answer cache for folded RNA.
  *
  * Link with target/staticlib/libcapi.a, which `rt staticlib capi` writes (x86-64). Each function is proved to give the answer and to leave the
- * buffers that this file describes, for all inputs that keep the rules of "Buffers" (crates/capi/src/lib.rt has the contracts). Nothing
- * checks this file against the library: it is written by hand.
+ * buffers that this file describes, for all inputs that keep the rules of "Buffers" (crates/capi/src/lib.rt has the contracts). This file
+ * is written by hand: tools/verify-interface holds its declarations and numbers to the library's source; its text nothing checks.
  *
  * Strands. A molecule or a motif is two buffers of one length: bases as bytes ('A', 'C', 'G', 'U') and mates as 16-bit numbers. Positions
  * count from 0. The mate of a base without a bond is its own position. Two mates i < j are an arc, and arcs must not cross.
@@ -27,6 +27,9 @@
 #ifdef __cplusplus
 extern "C" {
 #endif
+
+/* The version of this file and of the library. */
+#define LAKHIDO_VERSION "0.1.0"
 
 /* Lengths of strands: 1 to LAKHIDO_MOST bases for check, length, show and verify; 1 to LAKHIDO_MOLECULE_MOST for a molecule of the catalog;
  * 1 to LAKHIDO_MOTIF_MOST for the motif of a query. */
@@ -89,7 +92,7 @@ lakhido_answer lakhido_check(const uint8_t *bases, size_t bases_length, const ui
 
 /* value: the length L of the longest closed prefix of the motif that embeds in the molecule. (Closed: no arc of the motif has one end in the
  * prefix and one outside.) It is the motif's length exactly when the motif embeds.
- * Leaves anything in `work`.
+ * An accepted call leaves anything in `work`.
  * Refused by: 1 to 7 of the motif, 1 to 7 of the molecule, 8. */
 lakhido_answer lakhido_length(const uint8_t *motif_bases, size_t motif_bases_length, const uint16_t *motif_mates, size_t motif_mates_length,
                               const uint8_t *bases, size_t bases_length, const uint16_t *mates, size_t mates_length, uint16_t *work,
@@ -97,7 +100,7 @@ lakhido_answer lakhido_length(const uint8_t *motif_bases, size_t motif_bases_len
 
 /* value: L, as lakhido_length. Writes the position of each of the prefix's L bases in an embedding to the first L entries of `places`, and
  * keeps the later ones. `places` has at least as many entries as the motif has bases.
- * Leaves anything in `work`.
+ * An accepted call leaves anything in `work`.
  * Refused by: 1 to 7 of the motif, 1 to 7 of the molecule, 9, 8. */
 lakhido_answer lakhido_show(const uint8_t *motif_bases, size_t motif_bases_length, const uint16_t *motif_mates, size_t motif_mates_length,
                             const uint8_t *bases, size_t bases_length, const uint16_t *mates, size_t mates_length, uint16_t *places,
@@ -120,9 +123,10 @@ lakhido_answer lakhido_add(uint8_t *catalog, size_t catalog_length, uint8_t *cac
 lakhido_answer lakhido_remove(uint8_t *catalog, size_t catalog_length, uint8_t *cache, size_t cache_length, size_t number);
 
 /* value: how many molecules of the catalog the motif embeds in. Writes their numbers, rising, to the start of `hits`, and keeps the later
- * entries; `hits` has at least as many entries as the catalog has blocks.
+ * entries; `hits` has at least as many entries as the catalog has blocks. A sound cache entry of this motif is believed: so this holds of a
+ * cache that was zeros at first and that these calls alone wrote, but for one altered byte in each block between one accepted call and the next.
  * searched: how many molecules were searched, the others being known from the cache.
- * Zeroes every unsound block of the cache and writes the block of the motif's slot. Leaves anything in `work`.
+ * Zeroes every unsound block of the cache and writes the block of the motif's slot. An accepted call leaves anything in `work`.
  * Refused by: 10, 11, 1 to 7 of the motif (1 to LAKHIDO_MOTIF_MOST bases), 9, 8. */
 lakhido_answer lakhido_query(const uint8_t *catalog, size_t catalog_length, uint8_t *cache, size_t cache_length, const uint8_t *motif_bases,
                              size_t motif_bases_length, const uint16_t *motif_mates, size_t motif_mates_length, uint16_t *work,

@@ -6,7 +6,8 @@
 //! - any bytes and any 16-bit numbers are values of `u8` and `u16`, so whatever a call writes leaves the slices valid;
 //! - the functions take every content and length, keep no pointer, do not unwind and have no state.
 //!
-//! That the library does what the header says is proved in the repository. That the declarations here match the header no tool checks; the tests make all calls.
+//! That the library does what the header says is proved in the repository. `tools/verify-interface` holds the declarations here to the Rattle source, and the functions
+//! below, whose parameters have its names, to the order of its parameters; it is no proof. The tests make all calls.
 
 /// `lakhido_answer`: refusal 0 means accepted.
 #[repr(C)]
@@ -130,7 +131,7 @@ pub fn verify(p: &[u8], pm: &[u16], q: &[u8], qm: &[u16], places: &[u16]) -> Ans
     }
 }
 
-pub fn add(catalog: &mut [u8], cache: &mut [u8], number: usize, bases: &[u8], mates: &[u16]) -> Answer {
+pub fn add(catalog: &mut [u8], cache: &mut [u8], d: usize, bases: &[u8], mates: &[u16]) -> Answer {
     // SAFETY: `catalog` and `cache` alone are written, within their lengths; both are `&mut` slices, apart from each other and from the others.
     unsafe {
         c::lakhido_add(
@@ -138,7 +139,7 @@ pub fn add(catalog: &mut [u8], cache: &mut [u8], number: usize, bases: &[u8], ma
             catalog.len(),
             cache.as_mut_ptr(),
             cache.len(),
-            number,
+            d,
             bases.as_ptr(),
             bases.len(),
             mates.as_ptr(),
@@ -147,9 +148,9 @@ pub fn add(catalog: &mut [u8], cache: &mut [u8], number: usize, bases: &[u8], ma
     }
 }
 
-pub fn remove(catalog: &mut [u8], cache: &mut [u8], number: usize) -> Answer {
+pub fn remove(catalog: &mut [u8], cache: &mut [u8], d: usize) -> Answer {
     // SAFETY: `catalog` and `cache` are written within their lengths; both are `&mut` slices, apart from each other.
-    unsafe { c::lakhido_remove(catalog.as_mut_ptr(), catalog.len(), cache.as_mut_ptr(), cache.len(), number) }
+    unsafe { c::lakhido_remove(catalog.as_mut_ptr(), catalog.len(), cache.as_mut_ptr(), cache.len(), d) }
 }
 
 pub fn query(catalog: &[u8], cache: &mut [u8], p: &[u8], pm: &[u16], work: &mut [u16], hits: &mut [u16]) -> Answer {

@@ -48,7 +48,7 @@
 //! To build: `rt staticlib capi` in the repository proves the library and writes `target/staticlib/libcapi.a` (x86-64), which this crate links. Another
 //! folder is named by the variable `LAKHIDO_LIB_DIR`.
 //!
-//! A call may use up to 1 MiB of stack (measured by a test, not proved).
+//! A call needs no more than [`STACK`] bytes of stack.
 
 mod ffi;
 mod refusal;
@@ -67,6 +67,8 @@ pub const BLOCK: usize = 512;
 pub const BLOCKS_MOST: usize = 512;
 /// The most blocks of a cache; it has at least one.
 pub const SLOTS_MOST: usize = 64;
+/// Bytes of stack that are enough for any call (measured by a test, not proved).
+pub const STACK: usize = 1048576;
 
 /// The least work slice for [`length`] and [`show`]: a motif of m bases, a molecule of n.
 pub const fn work_size(m: usize, n: usize) -> usize {
@@ -122,7 +124,7 @@ pub fn length(motif: Strand, molecule: Strand, work: &mut [u16]) -> Result<usize
 }
 
 /// As [`length`], and writes the places of an embedding of that prefix to the start of `places`, keeping the later entries. `places` has at
-/// least as many entries as the motif has bases.
+/// least as many entries as the motif has bases. `work` is as for [`length`].
 ///
 /// Refused by the reasons 1 to 7 of the motif, 1 to 7 of the molecule, 9, 8.
 pub fn show(motif: Strand, molecule: Strand, places: &mut [u16], work: &mut [u16]) -> Result<usize, Refusal> {
@@ -156,6 +158,9 @@ pub fn remove(catalog: &mut [u8], cache: &mut [u8], number: usize) -> Result<(),
 /// Finds the molecules of the catalog that the motif, of 1 to [`MOTIF_MOST`] bases, embeds in, and writes their numbers, rising, to the start of `hits`,
 /// keeping the later entries. `hits` has at least as many entries as the catalog has blocks. What the cache knows of this motif is not searched
 /// again; the block of the motif's slot is written anew, and every unsound block of the cache is zeroed.
+///
+/// A sound cache entry of this motif is believed: so this holds of a cache that was zeros at first and that these calls alone wrote, but for one altered
+/// byte in each block between one accepted call and the next.
 ///
 /// A cache block, or slot, keeps the answers of one motif; motifs whose key (sum of bytes and mates) is equal mod the number of blocks share one, and the
 /// later takes its place.

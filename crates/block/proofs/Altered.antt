@@ -11,13 +11,13 @@ use lib.ListN.{length, set, length-set}
 use lib.Seq.{getD-set-same, getD-set-other}
 use borrow.Author.Tests.{eqb-true, eq-eqb, ne-eqb}
 use Rattle.lists.specs.Vocabulary.{nth, all}
-use Rattle.octets.specs.Numbers.{isZero, word32}
-use Rattle.block.specs.Checksum.{sumTo, checksumOf, checksumOk}
-use Rattle.block.specs.Content.{Kind, moleculeKind, entryKind, isEmpty}
+use Rattle.octets.specs.Octets.{isZero, word32}
+use Rattle.block.specs.Content.{sumTo, checksumOf, checksumOk, Kind, moleculeKind, entryKind, isEmpty}
+use Rattle.block.specs.Motif.{motifKind, soundMotif}
 use Rattle.block.specs.Block.{strandRules, entryRules, soundStrand, soundMolecule, soundEntry}
 use Rattle.lists.proofs.ListLaws.{zeros-at, zeros-not, by-bool}
 use Rattle.block.proofs.SumLaws.{sum-set, sum-set-out}
-use Rattle.block.proofs.SoundLaws.{Sound, blank, filled, molecule-is, molecule-size, entry-is, entry-size}
+use Rattle.block.proofs.SoundLaws.{Sound, blank, filled, strand-is, strand-size, molecule-is, molecule-size, entry-is, entry-size}
 
 -- ---- the checksum
 
@@ -175,6 +175,12 @@ module _ (s : List ℕ) (i v : ℕ) where
   unfolding soundMolecule soundStrand strandRules
   molecule-changed e h n =
       let x = changed moleculeKind (omega arith) s i v (molecule-size s e) h (λ q. n (sym q)) (molecule-is s e) in rw (x .0, x .1, and-false, and-false)
+
+  pub motif-changed : soundMotif s ≡ true → i < 512 → (nth s i ≡ v → ⊥) → soundMotif (set s i v) ≡ false
+  unfolding soundMotif soundStrand strandRules
+  motif-changed e h n =
+      let x = changed motifKind (omega arith) s i v (strand-size motifKind s e) h (λ q. n (sym q)) (strand-is motifKind s e) in
+      rw (x .0, x .1, and-false, and-false)
 
   pub entry-changed : soundEntry s ≡ true → i < 512 → (nth s i ≡ v → ⊥) → soundEntry (set s i v) ≡ false
   unfolding soundEntry entryRules

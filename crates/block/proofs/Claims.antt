@@ -4,14 +4,15 @@ use mathlib.Core.Path.{_≡_, refl, sym, ap, _∙_}
 use mathlib.Core.Bool.{Bool, true, false}
 use mathlib.Core.Logic.{_⊎_, inl, inr}
 use mathlib.Core.List.{List}
-use Rattle.strand.specs.Strands.{Strand, Proper}
+use Rattle.strand.specs.Strands.{Strand, Proper, leastMotif}
 use Rattle.refusals.specs.Rules.{motifSide}
-use Rattle.strand.specs.StrandRules.{leastMotif}
-use Rattle.octets.specs.Numbers.{Bytes}
-use Rattle.block.specs.Content.{entryBases, emptyBlock, isEmpty, moleculeIn, motifHandedIn, motifIn, searchedIn, hitIn, encodeMotif}
-use Rattle.block.specs.Block.{soundMolecule, soundMotif, soundEntry, holdsMotif}
+use Rattle.octets.specs.Octets.{Bytes}
+use Rattle.block.specs.Content.{entryBases, emptyBlock, isEmpty, moleculeIn, motifIn, searchedIn, hitIn}
+use Rattle.block.specs.Motif.{motifHandedIn, encodeMotif, soundMotif, holdsMotif}
+use Rattle.block.specs.Block.{soundMolecule, soundEntry}
 use Rattle.block.specs.Statements.{HoldsMolecule, HoldsMotif, HoldsEntry, MoleculeSound, MotifSound, MotifHeld, EntrySound, EntryBack, Claims}
 use Rattle.block.proofs.ContentLaws as law
+use Rattle.block.proofs.Examples.{layout}
 
 molecule-says : (s : List ℕ) → Bytes s → MoleculeSound s
 molecule-says s bytes = ((λ ok. to ok (isEmpty s) refl), from)
@@ -86,4 +87,8 @@ claims =
       molecule-back = law.molecule-back;
       motif-back = law.motif-back;
       entry-back = entry-back;
+      molecule-altered = λ s ok i v. law.molecule-changed s i v ok;
+      motif-altered = λ s ok i v. law.motif-changed s i v ok;
+      entry-altered = λ s ok i v. law.entry-changed s i v ok;
+      layout = layout;
     }

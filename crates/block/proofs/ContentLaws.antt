@@ -9,26 +9,24 @@ use native.Mathlib.Omega.{arith}
 use lib.ListN.{length, drop, replicate, length-drop, length-set, length-replicate}
 use lib.Seq.{length-take-le}
 use Rattle.lists.specs.Vocabulary.{nth}
-use Rattle.strand.specs.Strands.{Strand, Proper}
+use Rattle.strand.specs.Strands.{Strand, Proper, leastMotif, leastMolecule}
 use Rattle.refusals.specs.Rules.{moleculeSide, motifSide}
-use Rattle.strand.specs.StrandRules.{leastMotif, leastMolecule}
 use Rattle.lists.proofs.ListLaws.{every-at, never, zeros-at, zeros-not, zeros-zero, zeros-are, by-bool, choose-yes, choose-no}
-use Rattle.octets.specs.Numbers.{Bytes}
-use Rattle.block.specs.Checksum.{withChecksum, checksumOk, rechecked}
-use Rattle.octets.specs.Maps.{mapBytes, without}
-use Rattle.block.specs.Content.{Kind, blockBases, entryBases, moleculeKind, motifKind, entryKind, emptyBlock, isEmpty, lengthIn}
-use Rattle.block.specs.Content.{strandIn, moleculeIn, motifHandedIn, motifIn, searchedIn, hitIn}
-use Rattle.block.specs.Content.{contentOf, strandBlock, moleculeBlock, entryWith, entryBlock, encodeMolecule, encodeMotif, encodeEntry}
-use Rattle.block.specs.Block.{hitOk, hitsOk, soundMolecule, soundMotif, soundEntry, forgot, cleaned}
-use Rattle.block.proofs.SoundLaws.{Content, Sound, blank, filled, strand-zero, entry-zero, strand-size, strand-is, molecule-is, entry-is, entry-hits-ok}
+use Rattle.octets.specs.Octets.{Bytes, mapBytes, without, clearMap}
+use Rattle.block.specs.Content.{withChecksum, checksumOk, rechecked, Kind, blockBases, entryBases, moleculeKind, entryKind, emptyBlock, isEmpty}
+use Rattle.block.specs.Content.{lengthIn, strandIn, moleculeIn, motifIn, searchedIn, hitIn, contentOf, strandBlock, entryWith}
+use Rattle.block.specs.Content.{encodeMolecule, encodeEntry}
+use Rattle.block.specs.Motif.{motifKind, motifHandedIn, encodeMotif, soundMotif}
+use Rattle.block.specs.Block.{hitOk, hitsOk, soundMolecule, soundEntry, forgot, cleaned}
+use Rattle.block.proofs.SoundLaws.{Content, Sound, blank, filled, strand-zero, entry-zero, strand-size, strand-is, molecule-is, entry-is}
+use Rattle.block.proofs.SoundLaws.{entry-hits-ok}
 pub use Rattle.block.proofs.SoundLaws.{molecule-size, entry-size, held-sound, sound-held}
-pub use Rattle.block.proofs.Altered.{molecule-changed, entry-changed}
+pub use Rattle.block.proofs.Altered.{molecule-changed, motif-changed, entry-changed}
 use Rattle.block.proofs.RoundTrip as trip
 use Rattle.block.proofs.EntryLaws as entry
 use Rattle.block.proofs.EncodedLaws.{strand-proper, strand-same, entry-same}
 use lib.Dec.{eqb}
 use borrow.Author.Tests.{eq-eqb, ne-eqb}
-use Rattle.octets.specs.Bits.{clearMap}
 
 -- ---- the empty block
 
@@ -65,22 +63,22 @@ first-byte k own bases mates t = refl
 
 module _ (q : Strand) (ok : Proper moleculeSide leastMolecule blockBases (q .bases) (q .mates)) where
   pub molecule-length : length (encodeMolecule q) ≡ 512
-  unfolding encodeMolecule moleculeBlock
+  unfolding encodeMolecule
   molecule-length = trip.block-length moleculeKind [] (q .bases) (q .mates) refl (omega arith) (omega arith) ok (omega arith)
 
   pub molecule-sound : soundMolecule (encodeMolecule q) ≡ true
-  unfolding encodeMolecule moleculeBlock soundMolecule
+  unfolding encodeMolecule soundMolecule
   molecule-sound = trip.block-sound moleculeKind [] (q .bases) (q .mates) refl (omega arith) (omega arith) ok (omega arith) (omega arith) trip.small-none
 
   -- Decoded again.
   pub molecule-back : moleculeIn (encodeMolecule q) ≡ q
-  unfolding moleculeIn encodeMolecule moleculeBlock
+  unfolding moleculeIn encodeMolecule
   molecule-back = trip.block-back moleculeKind [] (q .bases) (q .mates) refl (omega arith) (omega arith) ok (omega arith)
 
   pub molecule-full : isEmpty (encodeMolecule q) ≡ false
   molecule-full =
       not-empty (encodeMolecule q) 0 molecule-length
-      (unfold encodeMolecule moleculeBlock strandBlock withChecksum in (first-byte moleculeKind [] (q .bases) (q .mates) _))
+      (unfold encodeMolecule strandBlock withChecksum in (first-byte moleculeKind [] (q .bases) (q .mates) _))
 
 -- The same of the block that hands a motif in.
 module _ (q : Strand) (ok : Proper motifSide leastMotif blockBases (q .bases) (q .mates)) where
@@ -103,18 +101,18 @@ module _ (q : Strand) (ok : Proper motifSide leastMotif blockBases (q .bases) (q
 
 -- A block that hands a motif in has the bytes of the molecule block with the same bases and mates.
 pub motif-bytes : (q : Strand) → encodeMotif q ≡ encodeMolecule q
-unfolding encodeMotif encodeMolecule moleculeBlock strandBlock contentOf
+unfolding encodeMotif encodeMolecule strandBlock contentOf
 motif-bytes q = refl
 
 -- ---- the entry of a motif, searched numbers s and hits h
 
 module _ (q : Strand) (ok : Proper motifSide leastMotif entryBases (q .bases) (q .mates)) (s h : ℕ → Bool) where
   pub entry-length : length (encodeEntry q s h) ≡ 512
-  unfolding encodeEntry entryBlock
+  unfolding encodeEntry
   entry-length = unfold entry.kept in (entry.entry-length [] (q .bases) (q .mates) refl ok s h)
 
   pub entry-sound-below : ((d : ℕ) → d < 512 → h d ≡ true → s d ≡ true) → soundEntry (encodeEntry q s h) ≡ true
-  unfolding encodeEntry entryBlock
+  unfolding encodeEntry
   entry-sound-below sub = entry.entry-sound [] (q .bases) (q .mates) refl ok s h (λ d l. needed d (h d) (s d) (sub d l)) trip.small-none
     where
       needed : (d : ℕ) (a b : Bool) → (a ≡ true → b ≡ true) → not a || b ≡ true
@@ -127,26 +125,26 @@ module _ (q : Strand) (ok : Proper motifSide leastMotif entryBases (q .bases) (q
   pub entry-full : isEmpty (encodeEntry q s h) ≡ false
   entry-full =
       not-empty (encodeEntry q s h) 1 entry-length
-      (unfold encodeEntry entryBlock entryWith withChecksum in
+      (unfold encodeEntry entryWith withChecksum in
       (ap (λ (l : List ℕ). nth l 0) (append-assoc (contentOf entryKind [] (q .bases) (q .mates) ++ mapBytes s) (mapBytes h) _
       ∙ append-assoc (contentOf entryKind [] (q .bases) (q .mates)) (mapBytes s) _) ∙ first-byte entryKind [] (q .bases) (q .mates) _))
 
   -- Decoded again: the motif, the searched and the hit bits.
   pub entry-motif : motifIn (encodeEntry q s h) ≡ q
-  unfolding motifIn encodeEntry entryBlock
+  unfolding motifIn encodeEntry
   entry-motif = unfold entry.kept in (entry.entry-back [] (q .bases) (q .mates) refl ok s h)
 
   pub entry-searched : (d : ℕ) → d < 512 → searchedIn (encodeEntry q s h) d ≡ s d
-  unfolding searchedIn encodeEntry entryBlock
+  unfolding searchedIn encodeEntry
   entry-searched d l = unfold entry.kept in (entry.entry-searched [] (q .bases) (q .mates) refl ok s h d l)
 
   pub entry-hit : (d : ℕ) → d < 512 → hitIn (encodeEntry q s h) d ≡ h d
-  unfolding hitIn encodeEntry entryBlock
+  unfolding hitIn encodeEntry
   entry-hit d l = unfold entry.kept in (entry.entry-hit [] (q .bases) (q .mates) refl ok s h d l)
 
   -- Bit d cleared in both maps.
   pub entry-forgot : (d : ℕ) → d < 512 → forgot d (encodeEntry q s h) ≡ encodeEntry q (without d s) (without d h)
-  unfolding encodeEntry entryBlock
+  unfolding encodeEntry
   entry-forgot d l = entry.entry-forget [] (q .bases) (q .mates) refl ok s h d l
 
 -- ---- what soundness gives
@@ -181,7 +179,7 @@ module _ (s : List ℕ) (ok : soundMolecule s ≡ true) where
         strand-proper moleculeKind s (omega arith) (omega arith) (omega (arith, molecule-size s ok)) (content-of moleculeKind s full (molecule-is s ok) .0)
 
     pub molecule-again : Bytes s → encodeMolecule (moleculeIn s) ≡ s
-    unfolding encodeMolecule moleculeBlock moleculeIn
+    unfolding encodeMolecule moleculeIn
     molecule-again bytes =
         let r = content-of moleculeKind s full (molecule-is s ok) in
         strand-same s bytes (molecule-size s ok) (r .1) moleculeKind (omega arith) (omega arith) (omega arith) (r .0)
@@ -238,7 +236,7 @@ module _ (s : List ℕ) (ok : soundEntry s ≡ true) where
     entry-proper = strand-proper entryKind s (omega arith) (omega arith) (omega (arith, entry-size s ok)) (content-of entryKind s full (entry-is s ok) .0)
 
     pub entry-again : Bytes s → encodeEntry (motifIn s) (searchedIn s) (hitIn s) ≡ s
-    unfolding encodeEntry entryBlock motifIn searchedIn hitIn
+    unfolding encodeEntry motifIn searchedIn hitIn
     entry-again bytes = let r = content-of entryKind s full (entry-is s ok) in entry-same s bytes (entry-size s ok) (r .1) (r .0)
 
     pub entry-hit-searched : (d : ℕ) → d < 512 → hitIn s d ≡ true → searchedIn s d ≡ true

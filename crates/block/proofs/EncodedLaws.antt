@@ -11,11 +11,10 @@ use Rattle.lists.specs.Vocabulary.{nth, between, all, tab}
 use Rattle.strand.specs.Strands.{Proper}
 use Rattle.lists.proofs.ListLaws.{length-tab, zeros-are}
 use Rattle.strand.proofs.VerdictLaws.{nested-yes}
-use Rattle.octets.specs.Numbers.{Bytes, isZero, word16, word32, bytes32, words, bytesOf}
-use Rattle.block.specs.Checksum.{sumTo, checksumOf, checksumOk, withChecksum}
-use Rattle.octets.specs.Bits.{bitOf, mapBit}
-use Rattle.octets.specs.Maps.{mapBytes}
-use Rattle.block.specs.Content.{Kind, entryKind, matesAt, matesEnd, lengthIn, ownIn, strandIn, padded, headOf, contentOf, strandBlock, entryWith}
+use Rattle.octets.specs.Octets.{Bytes, isZero, word16, word32, bytes32, words, bytesOf, bitOf, mapBit, mapBytes}
+use Rattle.block.specs.Content.{sumTo, checksumOf, checksumOk, withChecksum, Kind, entryKind, matesAt, lengthIn, strandIn, padded, headOf, contentOf}
+use Rattle.block.specs.Content.{strandBlock, entryWith}
+use Rattle.block.proofs.PartLaws.{matesEnd, ownIn}
 use Rattle.octets.proofs.ByteLaws.{small-drop, small-between}
 use Rattle.block.proofs.SumLaws.{sum-append}
 use Rattle.octets.proofs.MapLaws.{map-is, map-ext}

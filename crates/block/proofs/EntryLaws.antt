@@ -9,11 +9,8 @@ use borrow.Author.Tests.{eq-eqb}
 use Rattle.lists.specs.Vocabulary.{nth, choose}
 use Rattle.strand.specs.Strands.{strandOf, Proper}
 use Rattle.lists.proofs.ListLaws.{every-true}
-use Rattle.octets.specs.Numbers.{Bytes, bytes32}
-use Rattle.block.specs.Checksum.{checksumOf, checksumOk, withChecksum}
-use Rattle.octets.specs.Bits.{mapBit, clearMap}
-use Rattle.octets.specs.Maps.{mapBytes, without}
-use Rattle.block.specs.Content.{entryKind, strandIn, contentOf, entryWith}
+use Rattle.octets.specs.Octets.{Bytes, bytes32, mapBit, clearMap, mapBytes, without}
+use Rattle.block.specs.Content.{checksumOf, checksumOk, withChecksum, entryKind, strandIn, contentOf, entryWith}
 use Rattle.block.specs.Block.{contentOk, hitOk, hitsOk, soundEntry, forgot}
 use Rattle.block.proofs.PartLaws.{length-content, check-put}
 use Rattle.octets.proofs.MapLaws.{length-map, map-in, map-bit, clear-in, map-clear, map-small, length-clear}

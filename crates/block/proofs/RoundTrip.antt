@@ -15,14 +15,14 @@ use Rattle.lists.specs.Vocabulary.{nth, all, between}
 use Rattle.strand.specs.Strands.{strandOf, isLetter, isNested, Proper}
 use Rattle.lists.proofs.ListLaws.{length-tab, nth-tab, every-at, never, zeros-zero}
 use Rattle.strand.proofs.VerdictLaws.{nested-test}
-use Rattle.octets.specs.Numbers.{Bytes, isZero, word16, word32, bytes32, words, bytesOf}
-use Rattle.block.specs.Checksum.{sumTo, checksumOf, checksumOk, withChecksum}
-use Rattle.block.specs.Content.{Kind, matesAt, matesEnd, lengthIn, ownIn, matesIn, strandIn, padded, headOf, contentOf, strandBlock}
+use Rattle.octets.specs.Octets.{Bytes, isZero, word16, word32, bytes32, words, bytesOf}
+use Rattle.block.specs.Content.{sumTo, checksumOf, checksumOk, withChecksum, Kind, matesAt, lengthIn, matesIn, strandIn, padded, headOf, contentOf}
+use Rattle.block.specs.Content.{strandBlock}
+use Rattle.block.proofs.PartLaws.{matesEnd, ownIn, regroup, length-content, length-padded, length-head}
 use Rattle.block.specs.Block.{bytesWith, bytesOk, contentOk, soundStrand}
 use Rattle.octets.proofs.ByteLaws.{small-append, small-zeros, small-bytes}
 use Rattle.block.proofs.SumLaws.{sum-append, sum-small}
 use Rattle.octets.proofs.ScanLaws.{length-bytes}
-use Rattle.block.proofs.PartLaws.{regroup, length-content, length-padded, length-head}
 use Rattle.block.proofs.SoundLaws.{all-but-unused, unused-mates, all-but-mates, all-but-nested, strand-rules}
 
 -- ---- two-byte numbers

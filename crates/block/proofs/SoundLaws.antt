@@ -12,12 +12,13 @@ use lib.Seq.{take-at, length-take-le, take-all}
 use Rattle.lists.specs.Vocabulary.{nth, every, all, between, lowest}
 use Rattle.strand.specs.Strands.{isLetter, notLetter, isNested}
 use Rattle.lists.proofs.ListLaws.{length-tab, every-at, every-true, and-left, and-right, never, is-true, both-ways, every-lowest}
-use Rattle.octets.specs.Numbers.{isZero, words}
-use Rattle.block.specs.Checksum.{checksumOk}
-use Rattle.octets.specs.Bits.{bitOf, mapBit, bitsWithin}
-use Rattle.block.specs.Content.{Kind, moleculeKind, entryKind, matesAt, matesEnd, isEmpty, lengthIn, matesIn}
-use Rattle.block.specs.Block.{blockOf, blockCount, baseBytesOk, mateBytesOk, bytesWith, bytesOk, contentOk, hitOk, hitsOk, strandRules}
-use Rattle.block.specs.Block.{entryRules, soundStrand, soundMolecule, soundMotif, soundEntry, holdsMotif}
+use Rattle.octets.specs.Octets.{isZero, words, bitOf, mapBit}
+use Rattle.block.specs.Content.{checksumOk, Kind, moleculeKind, entryKind, matesAt, isEmpty, lengthIn, matesIn}
+use Rattle.octets.specs.Bits.{bitsWithin}
+use Rattle.block.proofs.PartLaws.{matesEnd}
+use Rattle.block.specs.Block.{blockOf, blockCount, baseBytesOk, mateBytesOk, bytesWith, bytesOk, contentOk, hitOk, hitsOk, strandRules, entryRules}
+use Rattle.block.specs.Block.{soundStrand, soundMolecule, soundEntry}
+use Rattle.block.specs.Motif.{soundMotif, holdsMotif}
 
 -- ---- the content, rule by rule
 

@@ -1,19 +1,20 @@
 -- The weighted sum of a block: one byte more, a bound, the bytes it depends on, and one byte changed. The checksum of whole blocks and of less.
 use mathlib.Core.Path.{_≡_, refl, sym, ap, ap₂, _∙_}
 use mathlib.Core.Bool.{Bool, false}
-use mathlib.Core.List.{List, _++_}
+use mathlib.Core.List.{List, [], _∷_, _++_, append-nil, append-assoc}
 use mathlib.Core.Logic.{⊎-elim}
 use Prim.Native.Nat.{ℕ, zero, suc, _+_, _*_, _<_, _≤_}
 use native.Mathlib.Omega.{arith}
 use native.Mathlib.Nat.{mul-le-mul, le-of-suc-le-suc, not-suc-le-zero, eq-or-lt-of-le}
 use native.Mathlib.Numerals.{add-one}
-use lib.ListN.{length, set, List·getD-append}
-use lib.Seq.{getD-set-same, getD-set-other}
+use lib.ListN.{length, set, length-append, List·getD-append}
+use lib.Seq.{getD-set-same, getD-set-other, getD-append-add}
 use borrow.Author.Tests.{le-leb, lt-leb}
 use Rattle.lists.specs.Vocabulary.{nth}
 use Rattle.lists.proofs.ListLaws.{choose-yes, choose-no}
-use Rattle.octets.specs.Numbers.{Bytes}
-use Rattle.block.specs.Checksum.{sumTo, checksumOk, checksumRight, rechecked, recheckedWhole}
+use Rattle.octets.specs.Octets.{Bytes}
+use Rattle.block.specs.Content.{sumTo, checksumOk, rechecked}
+use Rattle.block.specs.Inner.{checksumRight, recheckedWhole}
 
 pub sum-none : (s : List ℕ) → sumTo s 0 ≡ 0
 unfolding sumTo
@@ -63,18 +64,37 @@ sum-small s (suc n) hs h =
     let ih : sumTo s n ≤ 129540 * n = sum-small s n hs (omega arith) in
     omega (arith, term-small n (nth s n) (omega arith) (hs n))
 
--- Zeros from a on add nothing.
-pub sum-blank : (s : List ℕ) (a m : ℕ) → ((i : ℕ) → a ≤ i → nth s i ≡ 0) → sumTo s (a + m) ≡ sumTo s a
-unfolding sumTo
-sum-blank s a zero z = let e : a + 0 ≡ a = omega arith in ap (sumTo s) e
-sum-blank s a (suc m) z =
-    ap (sumTo s) next ∙ ap₂ (λ (x y : ℕ). x + suc (a + m) * y) (sum-blank s a m z) (z (a + m) (omega arith)) ∙ none
-  where
-    next : a + suc m ≡ suc (a + m)
-    next = omega arith
+-- ---- in one walk over a list, which antt computes for a whole block
 
-    none : sumTo s a + suc (a + m) * 0 ≡ sumTo s a
-    none = omega arith
+-- The weights of the entries are k, k + 1, ..
+unfoldable pub weighed : ℕ → List ℕ → ℕ
+weighed k [] = 0
+weighed k (x ∷ s) = k * x + weighed (suc k) s
+
+walk-last : (p : List ℕ) (x : ℕ) → sumTo (p ++ (x ∷ [])) (suc (length p)) ≡ sumTo p (length p) + suc (length p) * x
+unfolding sumTo
+walk-last p x = ap₂ (λ (y z : ℕ). y + suc (length p) * z) (sum-append p (x ∷ []) (length p) (omega arith)) there
+  where
+    here : length p ≡ length p + 0
+    here = omega arith
+
+    there : nth (p ++ (x ∷ [])) (length p) ≡ x
+    there = ap (nth (p ++ (x ∷ []))) here ∙ getD-append-add p (x ∷ []) 0 0
+
+walk-from : (p s : List ℕ) → sumTo (p ++ s) (length p + length s) ≡ sumTo p (length p) + weighed (suc (length p)) s
+unfolding weighed
+walk-from p [] = let e : length p + 0 ≡ length p = omega arith in ap₂ sumTo (append-nil p) e ∙ omega arith
+walk-from p (x ∷ s) = ap₂ sumTo (sym (append-assoc p (x ∷ []) s)) next ∙ walk-from (p ++ (x ∷ [])) s ∙ rw more (omega (arith, walk-last p x))
+  where
+    more : length (p ++ (x ∷ [])) ≡ suc (length p)
+    more = length-append p (x ∷ []) ∙ omega arith
+
+    next : length p + suc (length s) ≡ length (p ++ (x ∷ [])) + length s
+    next = omega (arith, more)
+
+pub sum-walk : (s : List ℕ) → sumTo s (length s) ≡ weighed 1 s
+unfolding sumTo
+sum-walk s = let e : length s ≡ 0 + length s = omega arith in ap (sumTo s) e ∙ walk-from [] s ∙ omega arith
 
 -- ---- whole blocks, and less
 

@@ -1,16 +1,14 @@
 -- The blocks of a buffer, when a block is sound, and what the calls do to one.
-use Prim.Native.Nat.{ℕ, _+_, _*_, _/_}
-use mathlib.Core.List.{List}
+use Prim.Native.Nat.{ℕ, zero, suc, _+_, _*_, _/_}
+use mathlib.Core.List.{List, [], _++_}
 use mathlib.Core.Bool.{Bool, not, _&&_, _||_}
-use lib.ListN.{length, replicate}
+use lib.ListN.{length, take, drop, replicate}
 use lib.Dec.{eqb, leb}
 use Rattle.lists.specs.Vocabulary.{nth, between, every, all, choose}
 use Rattle.strand.specs.Strands.{isLetter, isNested}
-use Rattle.octets.specs.Numbers.{isZero}
-use Rattle.block.specs.Checksum.{blockSize, checksumOk, rechecked}
-use Rattle.octets.specs.Bits.{mapBit, clearMap}
-use Rattle.octets.specs.Maps.{mapBits}
-use Rattle.block.specs.Content.{Kind, moleculeKind, motifKind, entryKind, matesAt, searchedAt, hitAt, isEmpty, lengthIn, matesIn}
+use Rattle.octets.specs.Octets.{isZero, mapBit, clearMap, mapBits}
+use Rattle.block.specs.Content.{blockSize, checksumOk, rechecked, Kind, moleculeKind, entryKind, matesAt, searchedAt, hitAt, isEmpty, lengthIn}
+use Rattle.block.specs.Content.{matesIn}
 
 -- Block d of a buffer.
 abbrev pub blockOf : ℕ → List ℕ → List ℕ
@@ -19,6 +17,18 @@ blockOf d buf = between (blockSize * d) (blockSize * d + blockSize) buf
 -- The number of its blocks: B of a catalog, S of a cache.
 abbrev pub blockCount : List ℕ → ℕ
 blockCount buf = length buf / blockSize
+
+-- Block d of the buffer replaced by b.
+unfoldable pub putBlock : ℕ → List ℕ → List ℕ → List ℕ
+putBlock d b s = take (blockSize * d) s ++ b ++ drop (blockSize * d + blockSize) s
+
+-- f of each of the first n blocks, one after the other; each whole block replaced by f of it.
+unfoldable pub blocksTo : (List ℕ → List ℕ) → ℕ → List ℕ → List ℕ
+blocksTo f zero s = []
+blocksTo f (suc d) s = blocksTo f d s ++ f (blockOf d s)
+
+unfoldable pub eachBlock : (List ℕ → List ℕ) → List ℕ → List ℕ
+eachBlock f s = blocksTo f (blockCount s) s ++ drop (blockSize * blockCount s) s
 
 -- The bytes of n bases that begin at `start`, with room for `most`: bytes from `blank` up to them zero, letters of the side, unused places zero.
 unfoldable pub baseBytesOk : ℕ → ℕ → ℕ → ℕ → ℕ → List ℕ → Bool
@@ -60,22 +70,16 @@ strandRules k s = contentOk k s && checksumOk s
 unfoldable pub entryRules : List ℕ → Bool
 entryRules s = contentOk entryKind s && hitsOk s && checksumOk s
 
--- A block is sound when it is empty, or all its rules hold: a block of a strand, of a catalog, handed in as a motif, and of a cache.
+-- 01: "A block is sound when it is empty, or has its buffer's kind, every rule above, a length in range, a nested content and the right check."
+-- Of a block with a strand, of a catalog block, and of a cache block.
 unfoldable pub soundStrand : Kind → List ℕ → Bool
 soundStrand k s = eqb (length s) blockSize && (isEmpty s || strandRules k s)
 
 unfoldable pub soundMolecule : List ℕ → Bool
 soundMolecule s = soundStrand moleculeKind s
 
-unfoldable pub soundMotif : List ℕ → Bool
-soundMotif s = soundStrand motifKind s
-
 unfoldable pub soundEntry : List ℕ → Bool
 soundEntry s = eqb (length s) blockSize && (isEmpty s || entryRules s)
-
--- A block that holds a motif: sound, and not empty.
-unfoldable pub holdsMotif : List ℕ → Bool
-holdsMotif s = soundMotif s && not (isEmpty s)
 
 -- An unsound cache block is zeroed.
 unfoldable pub cleaned : List ℕ → List ℕ

@@ -1,16 +1,40 @@
--- What a block holds, and the block that holds it: molecule blocks, blocks handed in as a motif, and cache entries (01: kept blocks).
-use Prim.Native.Nat.{ℕ, _+_, _-_, _*_}
-use mathlib.Core.List.{List, [], _∷_, _++_}
-use mathlib.Core.Bool.{Bool, not, _&&_}
+-- The checksum of a block (01: its check), what a block holds, and the block that holds it: molecule blocks and cache entries (01: kept blocks).
+use Prim.Native.Nat.{ℕ, zero, suc, _+_, _*_, _-_}
+use mathlib.Core.List.{List, _++_, [], _∷_}
+use mathlib.Core.Bool.{Bool, _&&_, not}
+use lib.Dec.{eqb}
 use lib.ListN.{length, drop, replicate}
+use lib.Seq.{sets}
 use Rattle.lists.specs.Vocabulary.{nth, between, all}
-use Rattle.strand.specs.Strands.{Strand, sameStrand}
+use Rattle.octets.specs.Octets.{word32, bytes32, isZero, words, bytesOf, mapBit, mapBytes}
+use Rattle.strand.specs.Strands.{Strand, sameStrand, leastMotif, leastMolecule}
 use Rattle.refusals.specs.Rules.{motifSide, moleculeSide}
-use Rattle.strand.specs.StrandRules.{leastMotif, leastMolecule}
-use Rattle.octets.specs.Numbers.{isZero, words, bytesOf}
-use Rattle.block.specs.Checksum.{blockSize, withChecksum}
-use Rattle.octets.specs.Bits.{mapBit}
-use Rattle.octets.specs.Maps.{mapBytes}
+
+-- A block has 512 bytes, and its checksum stands in bytes 508 to 511.
+abbrev pub blockSize : ℕ
+blockSize = 512
+
+abbrev pub checksumAt : ℕ
+checksumAt = 508
+
+-- The sum over the first n bytes, byte i weighed by i + 1.
+unfoldable pub sumTo : List ℕ → ℕ → ℕ
+sumTo s zero = 0
+sumTo s (suc n) = sumTo s n + suc n * nth s n
+
+-- The checksum that a block should have: the sum over bytes 0 to 507; and whether it has it.
+unfoldable pub checksumOf : List ℕ → ℕ
+checksumOf s = sumTo s checksumAt
+
+unfoldable pub checksumOk : List ℕ → Bool
+checksumOk s = eqb (checksumOf s) (word32 s checksumAt)
+
+-- The first 508 bytes with their checksum after them; a block with its checksum written anew.
+unfoldable pub withChecksum : List ℕ → List ℕ
+withChecksum body = body ++ bytes32 (checksumOf body)
+
+unfoldable pub rechecked : List ℕ → List ℕ
+rechecked s = sets s checksumAt (bytes32 (checksumOf s))
 
 -- The numbers of a kind of block: its byte 0; the side whose letters its bases are (01 has one alphabet for both sides); its least and its
 -- greatest length; where its zero bytes begin, the bytes from 2 up to there being the kind's own; and where its bases begin.
@@ -22,9 +46,6 @@ pub record Kind : Type 0 where
   pub blank : ℕ
   pub start : ℕ
 
-abbrev pub kindOf : ℕ → ℕ → ℕ → ℕ → ℕ → ℕ → Kind
-kindOf mark side least most blank start = record { mark = mark; side = side; least = least; most = most; blank = blank; start = start }
-
 -- A molecule block has places for 160 bases, a cache entry for 120.
 abbrev pub blockBases : ℕ
 blockBases = 160
@@ -32,23 +53,17 @@ blockBases = 160
 abbrev pub entryBases : ℕ
 entryBases = 120
 
--- Molecule block: byte 0 is 1, bases from 28. A block handed in as a motif is laid out alike; its letters and its least length are a motif's.
--- Cache entry: byte 0 is 2, bases from 20. None has bytes of its own.
+-- 01: "Molecule block: byte 0 is 1; byte 1 the length; 2 to 27 zero; bases from 28 .. Kept block: byte 0 is 2; byte 1 the motif's length; 2 to 19
+-- zero; bases from 20". Neither has bytes of its own.
 abbrev pub moleculeKind : Kind
-moleculeKind = kindOf 1 moleculeSide leastMolecule blockBases 2 28
-
-abbrev pub motifKind : Kind
-motifKind = kindOf 1 motifSide leastMotif blockBases 2 28
+moleculeKind = record { mark = 1; side = moleculeSide; least = leastMolecule; most = blockBases; blank = 2; start = 28 }
 
 abbrev pub entryKind : Kind
-entryKind = kindOf 2 motifSide leastMotif entryBases 2 20
+entryKind = record { mark = 2; side = motifSide; least = leastMotif; most = entryBases; blank = 2; start = 20 }
 
 -- The mates follow the places for bases, two bytes each: from 188 and from 140. They end at 508 and at 380.
 abbrev pub matesAt : Kind → ℕ
 matesAt k = k .start + k .most
-
-abbrev pub matesEnd : Kind → ℕ
-matesEnd k = matesAt k + 2 * k .most
 
 -- The searched map is bytes 380 to 443 of a cache entry, the hit map bytes 444 to 507.
 abbrev pub searchedAt : ℕ
@@ -66,12 +81,9 @@ isEmpty s = all isZero s
 
 -- ---- decode
 
--- Byte 1 is the length. The kind's own bytes, the mates, and the strand of a block.
+-- Byte 1 is the length. The mates, and the strand of a block.
 abbrev pub lengthIn : List ℕ → ℕ
 lengthIn s = nth s 1
-
-abbrev pub ownIn : Kind → List ℕ → List ℕ
-ownIn k s = between 2 (k .blank) s
 
 abbrev pub matesIn : Kind → List ℕ → List ℕ
 matesIn k s = words (lengthIn s) (drop (matesAt k) s)
@@ -79,12 +91,9 @@ matesIn k s = words (lengthIn s) (drop (matesAt k) s)
 unfoldable pub strandIn : Kind → List ℕ → Strand
 strandIn k s = record { bases = between (k .start) (k .start + lengthIn s) s; mates = matesIn k s }
 
--- The molecule of a molecule block; the motif of a block handed in as one; the motif of a cache entry, its searched bits and its hit bits.
+-- The molecule of a molecule block; the motif of a cache entry, its searched bits and its hit bits.
 unfoldable pub moleculeIn : List ℕ → Strand
 moleculeIn s = strandIn moleculeKind s
-
-unfoldable pub motifHandedIn : List ℕ → Strand
-motifHandedIn s = strandIn motifKind s
 
 unfoldable pub motifIn : List ℕ → Strand
 motifIn s = strandIn entryKind s
@@ -114,26 +123,16 @@ unfoldable pub contentOf : Kind → List ℕ → List ℕ → List ℕ → List 
 contentOf k own bases mates =
     headOf (k .start) (k .mark) (length bases) own ++ padded (k .most) bases ++ padded (2 * k .most) (bytesOf mates)
 
--- The block of a strand; that of a motif with its searched and its hit map as 64 bytes each.
+-- The block of a strand, and that of a motif with its searched and its hit map as 64 bytes each; `own` are the kind's own bytes.
 unfoldable pub strandBlock : Kind → List ℕ → List ℕ → List ℕ → List ℕ
 strandBlock k own bases mates = withChecksum (contentOf k own bases mates)
 
 unfoldable pub entryWith : List ℕ → List ℕ → List ℕ → List ℕ → List ℕ → List ℕ
 entryWith own bases mates searched hits = withChecksum (contentOf entryKind own bases mates ++ searched ++ hits)
 
--- Molecule block and cache entry, neither with bytes of its own.
-unfoldable pub moleculeBlock : List ℕ → List ℕ → List ℕ
-moleculeBlock bases mates = strandBlock moleculeKind [] bases mates
-
-unfoldable pub entryBlock : List ℕ → List ℕ → List ℕ → List ℕ → List ℕ
-entryBlock bases mates searched hits = entryWith [] bases mates searched hits
-
--- The same of strands, with the maps as sets of numbers; and the block that hands a motif in.
+-- The block of a molecule; the entry of a motif, with its searched numbers and its hits as sets.
 unfoldable pub encodeMolecule : Strand → List ℕ
-encodeMolecule q = moleculeBlock (q .bases) (q .mates)
-
-unfoldable pub encodeMotif : Strand → List ℕ
-encodeMotif q = strandBlock motifKind [] (q .bases) (q .mates)
+encodeMolecule q = strandBlock moleculeKind [] (q .bases) (q .mates)
 
 unfoldable pub encodeEntry : Strand → (ℕ → Bool) → (ℕ → Bool) → List ℕ
-encodeEntry q searched hits = entryBlock (q .bases) (q .mates) (mapBytes searched) (mapBytes hits)
+encodeEntry p searched hits = entryWith [] (p .bases) (p .mates) (mapBytes searched) (mapBytes hits)

@@ -1,4 +1,7 @@
-pub mod Checksum
+-- The definitions in reading order. Motif is for the screen program, Inner for the contracts inside this crate.
 pub mod Content
 pub mod Block
+pub mod Motif
+pub mod Examples
 pub mod Statements
+pub mod Inner

@@ -2,17 +2,18 @@
 -- proves it.
 use Prim.Native.Nat.{ℕ, _<_}
 use mathlib.Core.Path.{_≡_}
-use mathlib.Core.Bool.{Bool, true}
+use mathlib.Core.Bool.{Bool, true, false}
 use mathlib.Core.Logic.{_⊎_, _↔_}
 use mathlib.Core.List.{List}
-use Rattle.strand.specs.Strands.{Strand, Proper}
+use lib.ListN.{set}
+use Rattle.lists.specs.Vocabulary.{nth}
+use Rattle.strand.specs.Strands.{Strand, Proper, leastMotif, leastMolecule}
 use Rattle.refusals.specs.Rules.{motifSide, moleculeSide}
-use Rattle.strand.specs.StrandRules.{leastMotif, leastMolecule}
-use Rattle.octets.specs.Numbers.{Bytes}
-use Rattle.octets.specs.Maps.{mapBits, without}
-use Rattle.block.specs.Content.{blockBases, entryBases, emptyBlock, moleculeIn, motifHandedIn, motifIn, searchedIn, hitIn, encodeMolecule}
-use Rattle.block.specs.Content.{encodeMotif, encodeEntry}
-use Rattle.block.specs.Block.{soundMolecule, soundMotif, soundEntry, holdsMotif, forgot}
+use Rattle.octets.specs.Octets.{Bytes, mapBits, without}
+use Rattle.block.specs.Content.{blockSize, blockBases, entryBases, emptyBlock, moleculeIn, motifIn, searchedIn, hitIn, encodeMolecule, encodeEntry}
+use Rattle.block.specs.Motif.{motifHandedIn, encodeMotif, soundMotif, holdsMotif}
+use Rattle.block.specs.Block.{soundMolecule, soundEntry, forgot}
+use Rattle.block.specs.Examples.{LayoutExamples}
 
 -- The block holds a proper molecule of 1 to 160 bases, and is its encoding.
 pub record HoldsMolecule (s : List ℕ) (q : Strand) : Type 0 where
@@ -61,6 +62,17 @@ pub record EntryBack (q : Strand) (searched hits : ℕ → Bool) : Type 0 where
   pub hit-bit : (d : ℕ) → d < mapBits → hitIn (encodeEntry q searched hits) d ≡ hits d
   pub forgotten : (d : ℕ) → d < mapBits → forgot d (encodeEntry q searched hits) ≡ encodeEntry q (without d searched) (without d hits)
 
+-- A sound block, empty or not, is not sound any more when one of its bytes, the checksum's too, gets another value. 01, demand 3: "An
+-- alteration sets one byte of one shelf block; if the byte's value changes, that slot becomes nothing".
+abbrev pub MoleculeAltered : List ℕ → Type 0
+MoleculeAltered s = (i v : ℕ) → i < blockSize → (nth s i ≡ v → ⊥) → soundMolecule (set s i v) ≡ false
+
+abbrev pub MotifAltered : List ℕ → Type 0
+MotifAltered s = (i v : ℕ) → i < blockSize → (nth s i ≡ v → ⊥) → soundMotif (set s i v) ≡ false
+
+abbrev pub EntryAltered : List ℕ → Type 0
+EntryAltered s = (i v : ℕ) → i < blockSize → (nth s i ≡ v → ⊥) → soundEntry (set s i v) ≡ false
+
 -- All the claims.
 pub record Claims : Type 0 where
   pub molecule-sound : (s : List ℕ) → Bytes s → MoleculeSound s
@@ -70,3 +82,7 @@ pub record Claims : Type 0 where
   pub molecule-back : (q : Strand) → Proper moleculeSide leastMolecule blockBases (q .bases) (q .mates) → MoleculeBack q
   pub motif-back : (q : Strand) → Proper motifSide leastMotif blockBases (q .bases) (q .mates) → MotifBack q
   pub entry-back : (q : Strand) → Proper motifSide leastMotif entryBases (q .bases) (q .mates) → (searched hits : ℕ → Bool) → EntryBack q searched hits
+  pub molecule-altered : (s : List ℕ) → soundMolecule s ≡ true → MoleculeAltered s
+  pub motif-altered : (s : List ℕ) → soundMotif s ≡ true → MotifAltered s
+  pub entry-altered : (s : List ℕ) → soundEntry s ≡ true → EntryAltered s
+  pub layout : LayoutExamples

@@ -3,7 +3,8 @@ use crate::layout;
 ghost use mathlib.Core.Path.{_≡_};
 ghost use Prim.Native.Nat.{_+_, _*_, _≤_};
 ghost use lib.ListN.{length};
-ghost use Rattle.block.specs.Checksum.{checksumAt, checksumOf, checksumRight, recheckedWhole};
+ghost use Rattle.block.specs.Content.{checksumAt, checksumOf};
+ghost use Rattle.block.specs.Inner.{checksumRight, recheckedWhole};
 
 // A byte as a number of 32 bits.
 fn wide32(x: u8) -> u32

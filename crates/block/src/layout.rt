@@ -1,4 +1,4 @@
-// Where things stand in a block, and how many there is room for (specs/Checksum and specs/Content have the same numbers).
+// Where things stand in a block, and how many there is room for (specs/Content has the same numbers).
 pub const BLOCK_SIZE: usize = 512;
 
 pub const CHECKSUM_AT: usize = 508;

@@ -6,10 +6,11 @@ ghost use Prim.Native.Nat.{_+_, _*_, _≤_};
 ghost use lib.ListN.{length, drop};
 ghost use Rattle.lists.specs.Vocabulary.{all};
 ghost use Rattle.strand.specs.Strands.{isLetter, isNested};
-ghost use Rattle.octets.specs.Numbers.{words};
-ghost use Rattle.block.specs.Checksum.{blockSize, checksumAt};
-ghost use Rattle.block.specs.Content.{kindOf, blockBases};
-ghost use Rattle.block.specs.Block.{blockOf, baseBytesOk, mateBytesOk, bytesOk, contentOk, hitsOk, soundStrand, soundMolecule, soundMotif, soundEntry, holdsMotif};
+ghost use Rattle.octets.specs.Octets.{words};
+ghost use Rattle.block.specs.Content.{blockSize, checksumAt, blockBases};
+ghost use Rattle.block.specs.Inner.{kindOf};
+ghost use Rattle.block.specs.Block.{blockOf, baseBytesOk, mateBytesOk, bytesOk, contentOk, hitsOk, soundStrand, soundMolecule, soundEntry};
+ghost use Rattle.block.specs.Motif.{soundMotif, holdsMotif};
 
 // Whether every byte is a letter of the side.
 fn all_letters(side: u8, s: &[u8]) -> bool

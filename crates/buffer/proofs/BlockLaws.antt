@@ -9,8 +9,7 @@ use native.Mathlib.Decide.{decLt}
 use lib.ListN.{length, take, drop, length-append, length-drop, List·getD-append}
 use lib.Seq.{take-at, drop-at, length-take-le, ext-getD, getD-take, getD-drop, getD-append-add}
 use Rattle.lists.specs.Vocabulary.{nth}
-use Rattle.block.specs.Block.{blockOf, blockCount}
-use Rattle.buffer.specs.Buffer.{blocksTo, eachBlock, putBlock}
+use Rattle.block.specs.Block.{blockOf, blockCount, blocksTo, eachBlock, putBlock}
 use Rattle.buffer.proofs.BufferLaws.{length-blocks, blocks-length}
 use Rattle.block.proofs.PartLaws.{regroup}
 

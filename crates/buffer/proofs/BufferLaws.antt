@@ -7,8 +7,7 @@ use native.Mathlib.Numerals.{add-one}
 use borrow.Rule.Slice.PartMut.{putMid}
 use lib.ListN.{length, take, drop, length-append, length-drop}
 use lib.Seq.{drop-at, drop-drop, length-take-le}
-use Rattle.block.specs.Block.{blockOf, blockCount}
-use Rattle.buffer.specs.Buffer.{blocksTo, eachBlock, putBlock}
+use Rattle.block.specs.Block.{blockOf, blockCount, blocksTo, eachBlock, putBlock}
 use Rattle.codec.proofs.CodeLaws.{put-next}
 
 -- ---- one block more: f of a block has the length of the block

@@ -9,9 +9,9 @@ use borrow.Rule.Slice.PartMut.{putMid}
 use lib.ListN.{length, take, drop, take-append-drop, replicate}
 use Rattle.lists.specs.Vocabulary.{choose}
 use Rattle.strand.specs.Strands.{strandOf}
-use Rattle.block.specs.Content.{emptyBlock, moleculeBlock, encodeMolecule}
-use Rattle.block.specs.Block.{blockOf, blockCount}
-use Rattle.buffer.specs.Buffer.{putBlock, blockFits, moleculePut, zeroPut}
+use Rattle.block.specs.Content.{emptyBlock, encodeMolecule}
+use Rattle.block.specs.Block.{blockOf, blockCount, putBlock}
+use Rattle.buffer.specs.Buffer.{blockFits, moleculePut, zeroPut}
 use Rattle.codec.specs.Outcomes.{Wrote, wrote, wroteIf, strandFits, moleculeWrote}
 use Rattle.buffer.proofs.BlockLaws.{length-block}
 use Rattle.buffer.proofs.BufferLaws.{put-is}
@@ -40,7 +40,8 @@ module _ (d : ℕ) (bases mates buf : List ℕ) where
   unfolding moleculePut moleculeWrote blockFits encodeMolecule
   put-done r x h e =
       let l : length (blockOf d buf) ≡ 512 = length-block d buf (omega arith) in
-      rw (lt-ltb d (blockCount buf) h) (part-put d (moleculeBlock bases mates) buf x r (strandFits 512 160 (length bases) (length mates)) (rw l at e))
+      rw (lt-ltb d (blockCount buf) h)
+      (part-put d (encodeMolecule (strandOf bases mates)) buf x r (strandFits 512 160 (length bases) (length mates)) (rw l at e))
 
   -- Where there is a block d and the molecule fits, its block is written.
   pub molecule-put-there : (r : Bool) (x : List ℕ) → d < blockCount buf → length bases ≤ 160 → length mates ≡ length bases

@@ -2,8 +2,8 @@
 use block::layout;
 ghost use mathlib.Core.Path.{_≡_};
 ghost use Rattle.strand.specs.Strands.{strandOf};
-ghost use Rattle.buffer.specs.Buffer.{eachBlock, moleculePut, zeroPut};
-ghost use Rattle.block.specs.Block.{cleaned, forgot};
+ghost use Rattle.block.specs.Block.{eachBlock, cleaned, forgot};
+ghost use Rattle.buffer.specs.Buffer.{moleculePut, zeroPut};
 ghost use Rattle.codec.specs.Outcomes.{wrote};
 
 // Zero each cache block that is not sound.

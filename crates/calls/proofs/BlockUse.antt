@@ -5,18 +5,16 @@ use mathlib.Core.Path.{_≡_, sym, _∙_, ap}
 use mathlib.Core.Bool.{Bool, true, false}
 use mathlib.Core.List.{List}
 use lib.ListN.{length, replicate}
-use Rattle.strand.specs.Strands.{Strand, sameStrand, Proper}
+use Rattle.strand.specs.Strands.{Strand, sameStrand, Proper, leastMotif, leastMolecule}
 use Rattle.refusals.specs.Rules.{motifSide, moleculeSide}
-use Rattle.strand.specs.StrandRules.{leastMotif, leastMolecule}
 use Rattle.strand.proofs.VerdictLaws.{accepted-proper}
-use Rattle.block.specs.Checksum.{blockSize}
+use Rattle.block.specs.Content.{blockSize, emptyBlock, isEmpty, moleculeIn, encodeMolecule, encodeEntry, motifIn, searchedIn, hitIn, keepsMotif}
 use Rattle.block.specs.Block.{soundMolecule, soundEntry, cleaned, forgot}
-use Rattle.octets.specs.Maps.{without}
-use Rattle.block.specs.Content.{emptyBlock, isEmpty, moleculeIn, encodeMolecule, encodeEntry, motifIn, searchedIn, hitIn, keepsMotif}
+use Rattle.octets.specs.Octets.{without}
 use Rattle.refusals.specs.declared.Verdict.the-variants.{Accepted}
 use Rattle.block.proofs.ContentLaws as law
 pub use Rattle.block.proofs.ContentLaws.{empty-length, empty-empty, empty-molecule, empty-entry, empty-forgot, entry-changed, molecule-first}
-use Rattle.calls.specs.Limits.{mostMoleculeBases, mostMotifBases, mostCatalogBlocks, moleculeVerdict, motifVerdict}
+use Rattle.calls.specs.Buffers.{mostMoleculeBases, mostMotifBases, mostCatalogBlocks, moleculeVerdict, motifVerdict}
 
 module _ (q : Strand) (ok : moleculeVerdict q ≡ Accepted) where
   good : Proper moleculeSide leastMolecule mostMoleculeBases (q .bases) (q .mates)

@@ -8,17 +8,14 @@ use lib.ListN.{length}
 use Rattle.strand.specs.Strands.{Strand, sameStrand}
 use Rattle.refusals.proofs.RuleLaws.{by-accepted}
 use Rattle.refusals.specs.declared.Verdict.the-variants.{Accepted}
-use Rattle.block.specs.Checksum.{blockSize}
-use Rattle.block.specs.Block.{blockOf, soundEntry, cleaned, forgot, blockCount}
-use Rattle.block.specs.Content.{emptyBlock, encodeMolecule, encodeEntry}
+use Rattle.block.specs.Content.{blockSize, emptyBlock, encodeMolecule, encodeEntry}
+use Rattle.block.specs.Block.{blockOf, soundEntry, cleaned, forgot, blockCount, eachBlock, putBlock}
 use Rattle.block.proofs.ContentLaws.{length-cleaned}
-use Rattle.buffer.specs.Buffer.{eachBlock, putBlock}
 use Rattle.buffer.proofs.BlockLaws.{block-each, length-each, length-block}
 use Rattle.calls.specs.declared.Added.the-variants.{Stored}
 use Rattle.calls.specs.declared.Removed.the-variants.{Cleared}
 use Rattle.calls.specs.declared.Queried.{Queried}
-use Rattle.calls.specs.Limits.{mostCatalogBlocks, motifVerdict}
-use Rattle.calls.specs.Buffers.{slotOf, cleanCache}
+use Rattle.calls.specs.Buffers.{mostCatalogBlocks, motifVerdict, slotOf, cleanCache}
 use Rattle.calls.specs.Calls.{effect, addVerdict, addOutcome, removeVerdict, removeOutcome, queried, queryVerdict, isKnown, queryAccepted}
 use Rattle.calls.specs.Calls.{queryOutcome}
 use Rattle.calls.proofs.BlockUse as leaf

@@ -12,20 +12,15 @@ use lib.ListN.{length, drop, getD-replicate}
 use lib.Seq.{take-at, drop-at}
 use borrow.Author.Tests.{eq-eqb, lt-ltb}
 use Rattle.lists.specs.Vocabulary.{select}
-use Rattle.strand.specs.Strands.{Strand, key, sameStrand, Proper}
+use Rattle.strand.specs.Strands.{Strand, key, sameStrand, Proper, leastMotif}
 use Rattle.refusals.specs.Rules.{motifSide}
-use Rattle.strand.specs.StrandRules.{leastMotif}
 use Rattle.lists.proofs.ListLaws.{and-true, by-bool, same-refl, choose-yes, choose-no}
-use Rattle.block.specs.Checksum.{blockSize}
-use Rattle.octets.specs.Maps.{without}
-use Rattle.octets.specs.Bits.{mapBit}
-use Rattle.octets.specs.Numbers.{Bytes}
+use Rattle.block.specs.Content.{blockSize, searchedAt, hitAt, emptyBlock, isEmpty, moleculeIn, motifIn, searchedIn, hitIn, keepsMotif, encodeMolecule}
+use Rattle.block.specs.Content.{encodeEntry}
+use Rattle.octets.specs.Octets.{without, mapBit, Bytes}
 use Rattle.octets.proofs.ByteLaws.{small-zeros, small-between}
 use Rattle.octets.proofs.BitLaws.{zero-bit}
-use Rattle.block.specs.Block.{blockOf, soundMolecule, soundEntry, cleaned, forgot, blockCount}
-use Rattle.buffer.specs.Buffer.{eachBlock, putBlock}
-use Rattle.block.specs.Content.{searchedAt, hitAt, emptyBlock, isEmpty, moleculeIn, motifIn, searchedIn, hitIn, keepsMotif, encodeMolecule}
-use Rattle.block.specs.Content.{encodeEntry}
+use Rattle.block.specs.Block.{blockOf, soundMolecule, soundEntry, cleaned, forgot, blockCount, eachBlock, putBlock}
 use Rattle.buffer.proofs.BlockLaws.{length-block, length-put, block-put, block-other}
 use Rattle.block.proofs.ContentLaws as law
 use Rattle.refusals.specs.declared.Verdict.the-variants.{Accepted, Refused}
@@ -34,15 +29,15 @@ use Rattle.refusals.proofs.RuleLaws.{by-accepted, by-refused}
 use Rattle.calls.specs.declared.Added.the-variants.{Refused as NotAdded}
 use Rattle.calls.specs.declared.Removed.the-variants.{Refused as NotRemoved}
 use Rattle.calls.specs.declared.Queried.the-variants.{Refused as NotQueried}
-use Rattle.calls.specs.Limits.{mostCatalogBlocks, mostMotifBases}
-use Rattle.calls.specs.Buffers.{held, moleculeAt, slotOf, cleanCache}
+use Rattle.calls.specs.Buffers.{mostCatalogBlocks, mostMotifBases, held, moleculeAt, slotOf, cleanCache, Usable}
 use Rattle.calls.specs.Calls.{effect, addVerdict, addOutcome, removeVerdict, removeOutcome, queried, queryVerdict, isKnown, toSearch, isHit}
-use Rattle.calls.specs.Calls.{queryAccepted, queryOutcome}
-use Rattle.calls.specs.Results.{found, queryResult}
+use Rattle.calls.specs.Calls.{queryAccepted, queryOutcome, found, queryResult}
 use Rattle.calls.specs.Statements.{AllSound, OnlyAt, AddLeaves, RemoveLeaves, QueryLeaves, slotIn, entryFor, Claims}
+use Rattle.calls.proofs.Accepting.{add-accepts, remove-accepts, query-accepts}
+use Rattle.calls.proofs.Refusing.{add-refuses, add-keeps, remove-refuses, remove-keeps, query-refuses, query-keeps}
 use Rattle.calls.proofs.BlockUse as leaf
 use Rattle.calls.proofs.ReadingLaws as read
-use Rattle.calls.proofs.FactLaws.{Sized, add-facts, remove-facts, query-facts}
+use Rattle.calls.proofs.FactLaws.{add-facts, remove-facts, query-facts}
 
 -- Whether a number is held, from its block
 
@@ -235,7 +230,7 @@ module _ (embeds : Strand → Strand → Bool) where
     abbrev entry : List ℕ
     entry = encodeEntry p (held catalog) hit
 
-    sizes : Sized catalog cache
+    sizes : Usable catalog cache
     sizes = query-facts catalog cache p work (length hits) e .0
 
     good : Proper motifSide leastMotif mostMotifBases (p .bases) (p .mates)
@@ -314,9 +309,15 @@ claims embeds =
       add-accepted = add-accepted;
       remove-accepted = remove-accepted;
       query-accepted = query-accepted embeds;
-      add-refused = add-refused;
-      remove-refused = remove-refused;
-      query-refused = query-refused embeds;
+      add-accepts = add-accepts;
+      remove-accepts = remove-accepts;
+      query-accepts = query-accepts;
+      add-refuses = add-refuses;
+      add-keeps = add-keeps;
+      remove-refuses = remove-refuses;
+      remove-keeps = remove-keeps;
+      query-refuses = query-refuses embeds;
+      query-keeps = query-keeps embeds;
       hit-held = hit-held embeds;
       same-motif = same-motif embeds;
       other-motif = other-motif embeds;

@@ -7,20 +7,17 @@ use native.Mathlib.Omega.{arith}
 use lib.ListN.{length}
 use lib.Dec.{eqb, ltb, leb}
 use borrow.Author.Tests.{eqb-true, leb-true, leb-false, ltb-false, ltb-true}
-use Rattle.strand.specs.Strands.{Strand, Proper}
-use Rattle.refusals.specs.Rules.{motifSide, moleculeSide, noSide, wrongSlice, notWholeBlocks, unsoundBlock, numberTooLarge, alreadyHeld, workTooShort}
-use Rattle.refusals.specs.Rules.{refuseIf, refuseAtLowest}
-use Rattle.strand.specs.StrandRules.{leastMotif, leastMolecule, strandVerdict}
+use Rattle.strand.specs.Strands.{Strand, Proper, leastMotif, leastMolecule, strandVerdict}
+use Rattle.refusals.specs.Rules.{motifSide, moleculeSide, noSide, wrongSlice, notWholeBlocks, unsoundBlock, numberTooLarge, alreadyHeld, notHeld, workTooShort}
+use Rattle.refusals.specs.Rules.{refuseIf, refuseAtLowest, workSize}
 use Rattle.lists.proofs.ListLaws.{and-true, not-not, true-not}
 use Rattle.refusals.proofs.RuleLaws.{first-pass, rule-pass, rule-at-pass}
 use Rattle.strand.proofs.VerdictLaws.{accepted-proper}
-use Rattle.refusals.specs.Work.{workSize}
-use Rattle.block.specs.Checksum.{blockSize}
+use Rattle.block.specs.Content.{blockSize, isEmpty}
 use Rattle.block.specs.Block.{soundMolecule, blockOf, blockCount}
-use Rattle.block.specs.Content.{isEmpty}
 use Rattle.refusals.specs.declared.Verdict.the-variants.{Accepted}
-use Rattle.calls.specs.Limits.{mostCatalogBlocks, mostCacheBlocks, mostMoleculeBases, mostMotifBases, moleculeVerdict, motifVerdict, workVerdict}
-use Rattle.calls.specs.Buffers.{isWhole, areWhole, unsoundAt, held, buffersVerdict}
+use Rattle.calls.specs.Buffers.{mostCatalogBlocks, mostCacheBlocks, mostMoleculeBases, mostMotifBases, moleculeVerdict, motifVerdict, workVerdict}
+use Rattle.calls.specs.Buffers.{isWhole, areWhole, unsoundAt, held, buffersVerdict, Usable}
 use Rattle.calls.specs.Calls.{addVerdict, removeVerdict, queryVerdict}
 
 whole-facts : (most : ℕ) (s : List ℕ) → isWhole most s ≡ true → (length s ≡ blockSize * blockCount s) × (1 ≤ blockCount s) × (blockCount s ≤ most)
@@ -36,14 +33,7 @@ unfolding unsoundAt
 sound-block cat d e = not-not _ e
 
 -- Buffers that rules 10 and 11 let pass.
-pub record Sized (cat cache : List ℕ) : Type 0 where
-  pub filled : length cat ≡ blockSize * blockCount cat
-  pub most : blockCount cat ≤ mostCatalogBlocks
-  pub whole : length cache ≡ blockSize * blockCount cache
-  pub slots : 1 ≤ blockCount cache
-  pub blocks : (d : ℕ) → d < blockCount cat → soundMolecule (blockOf d cat) ≡ true
-
-pub sized : (cat cache : List ℕ) → buffersVerdict cat cache ≡ Accepted → Sized cat cache
+pub sized : (cat cache : List ℕ) → buffersVerdict cat cache ≡ Accepted → Usable cat cache
 unfolding buffersVerdict areWhole
 sized cat cache e =
     let a = first-pass (refuseIf notWholeBlocks noSide (not (isWhole mostCatalogBlocks cat && isWhole mostCacheBlocks cache))) _ e in
@@ -51,9 +41,11 @@ sized cat cache e =
     let w = and-true (isWhole mostCatalogBlocks cat) (isWhole mostCacheBlocks cache) (not-not _ (rule-pass notWholeBlocks noSide _ (a .0))) in
     record {
       filled = whole-facts mostCatalogBlocks cat (w .0) .0;
+      least = whole-facts mostCatalogBlocks cat (w .0) .1;
       most = whole-facts mostCatalogBlocks cat (w .0) .2;
       whole = whole-facts mostCacheBlocks cache (w .1) .0;
       slots = whole-facts mostCacheBlocks cache (w .1) .1;
+      most-slots = whole-facts mostCacheBlocks cache (w .1) .2;
       blocks = λ d l. sound-block cat d (rule-at-pass unsoundBlock noSide (blockCount cat) (unsoundAt cat) (b .0) d l);
     }
 
@@ -65,7 +57,7 @@ held-facts cat d e =
 
 module _ (cat cache : List ℕ) (d : ℕ) where
   pub add-facts : (q : Strand) → addVerdict cat cache d q ≡ Accepted
-      → (d < blockCount cat) × Proper moleculeSide leastMolecule mostMoleculeBases (q .bases) (q .mates) × Sized cat cache
+      → (d < blockCount cat) × Proper moleculeSide leastMolecule mostMoleculeBases (q .bases) (q .mates) × Usable cat cache × (held cat d ≡ false)
   unfolding addVerdict moleculeVerdict
   add-facts q e =
       let a = first-pass (buffersVerdict cat cache) _ e in
@@ -75,17 +67,19 @@ module _ (cat cache : List ℕ) (d : ℕ) where
         leb-false _ d (rule-pass numberTooLarge noSide _ (b .0)),
         accepted-proper moleculeSide leastMolecule mostMoleculeBases (q .bases) (q .mates) (f .0),
         sized cat cache (a .0),
+        rule-pass alreadyHeld noSide _ (c .0),
       )
 
-  pub remove-facts : removeVerdict cat cache d ≡ Accepted → (d < blockCount cat) × Sized cat cache
+  pub remove-facts : removeVerdict cat cache d ≡ Accepted → (d < blockCount cat) × Usable cat cache × (held cat d ≡ true)
   unfolding removeVerdict
   remove-facts e =
       let a = first-pass (buffersVerdict cat cache) _ e in
       let b = first-pass (refuseIf numberTooLarge noSide (leb (blockCount cat) d)) _ (a .1) in
-      (leb-false _ d (rule-pass numberTooLarge noSide _ (b .0)), sized cat cache (a .0))
+      let c = first-pass (refuseIf notHeld noSide (not (held cat d))) [] (b .1) in
+      (leb-false _ d (rule-pass numberTooLarge noSide _ (b .0)), sized cat cache (a .0), not-not _ (rule-pass notHeld noSide _ (c .0)))
 
 pub query-facts : (cat cache : List ℕ) (p : Strand) (work room : ℕ) → queryVerdict cat cache p work room ≡ Accepted
-    → Sized cat cache × Proper motifSide leastMotif mostMotifBases (p .bases) (p .mates) × (workSize (length (p .bases)) mostMoleculeBases ≤ work)
+    → Usable cat cache × Proper motifSide leastMotif mostMotifBases (p .bases) (p .mates) × (workSize (length (p .bases)) mostMoleculeBases ≤ work)
     × (blockCount cat ≤ room)
 unfolding queryVerdict motifVerdict workVerdict
 query-facts cat cache p work room e =

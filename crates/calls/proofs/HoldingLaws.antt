@@ -4,7 +4,7 @@ use native.Mathlib.Decide.{ℕ-discrete}
 use mathlib.Core.Path.{_≡_, refl}
 use borrow.Author.Tests.{eq-eqb, ne-eqb}
 use Rattle.lists.proofs.ListLaws.{choose-yes, choose-no}
-use Rattle.calls.specs.Holdings.{putAt}
+use Rattle.lists.specs.Vocabulary.{putAt}
 
 -- what holds of d, and of each other number, holds of all
 pub by-number : (d : ℕ) (P : ℕ → Type 0) → P d → ((e : ℕ) → (e ≡ d → ⊥) → P e) → (e : ℕ) → P e

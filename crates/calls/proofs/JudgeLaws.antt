@@ -9,18 +9,15 @@ use lib.Seq.{getD-take, getD-drop}
 use lib.Dec.{eqb, leb}
 use borrow.Author.Tests.{eq-eqb, ne-eqb, lt-ltb, le-ltb, le-leb, lt-leb}
 use Rattle.lists.specs.Vocabulary.{nth, lowest}
-use Rattle.strand.specs.Strands.{Strand}
+use Rattle.strand.specs.Strands.{Strand, leastMotif, leastMolecule, strandVerdict}
 use Rattle.refusals.specs.Rules.{noSide, motifSide, moleculeSide, wrongSlice, notWholeBlocks, unsoundBlock, numberTooLarge, alreadyHeld, notHeld}
-use Rattle.refusals.specs.Rules.{workTooShort, refusal, refuseIf}
-use Rattle.refusals.specs.Work.{workSize}
+use Rattle.refusals.specs.Rules.{workTooShort, refusal, refuseIf, workSize}
 use Rattle.refusals.proofs.RuleLaws.{first-one, first-skip, first-stop, rule-yes, rule-no, rule-at-yes, rule-at-no}
-use Rattle.strand.specs.StrandRules.{leastMotif, leastMolecule, strandVerdict}
-use Rattle.block.specs.Checksum.{blockSize}
+use Rattle.block.specs.Content.{blockSize}
 use Rattle.block.specs.Block.{soundMolecule, blockOf, blockCount}
 use Rattle.refusals.specs.declared.Refusal.{Refusal}
 use Rattle.refusals.specs.declared.Verdict.the-variants.{Accepted, Refused}
-use Rattle.calls.specs.Limits.{mostCatalogBlocks, mostCacheBlocks, mostMoleculeBases, mostMotifBases, moleculeVerdict, motifVerdict}
-use Rattle.calls.specs.Limits.{workVerdict}
+use Rattle.calls.specs.Buffers.{mostCatalogBlocks, mostCacheBlocks, mostMoleculeBases, mostMotifBases, moleculeVerdict, motifVerdict, workVerdict}
 use Rattle.calls.specs.Buffers.{isWhole, areWhole, unsoundAt, held, buffersVerdict}
 use Rattle.calls.specs.Calls.{addVerdict, removeVerdict, queryVerdict}
 use Rattle.calls.proofs.BlockUse as leaf

@@ -1,9 +1,10 @@
 pub mod BlockUse
 pub mod ReadingLaws
 pub mod FactLaws
+pub mod JudgeLaws
+mod Accepting
+mod Refusing
 pub mod Claims
 pub mod CallLaws
-pub mod JudgeLaws
-pub mod ResultLaws
 pub mod HoldingLaws
 pub mod Stores

@@ -14,10 +14,8 @@ use Rattle.lists.specs.Vocabulary.{choose}
 use Rattle.refusals.specs.Rules.{refuseAtLowest}
 use Rattle.lists.proofs.ListLaws.{by-bool, lowest-all, choose-yes, choose-no}
 use Rattle.refusals.proofs.RuleLaws.{rule-at-no}
-use Rattle.block.specs.Checksum.{blockSize}
-use Rattle.block.specs.Block.{blockOf, soundEntry, cleaned, forgot, blockCount}
-use Rattle.buffer.specs.Buffer.{eachBlock, putBlock}
-use Rattle.block.specs.Content.{emptyBlock}
+use Rattle.block.specs.Content.{blockSize, emptyBlock}
+use Rattle.block.specs.Block.{blockOf, soundEntry, cleaned, forgot, blockCount, eachBlock, putBlock}
 use Rattle.block.proofs.ContentLaws.{length-cleaned, length-forgot}
 use Rattle.buffer.proofs.BlockLaws.{block-each, length-each, length-put, block-put, block-other}
 use Rattle.refusals.specs.declared.Verdict.the-variants.{Accepted}

@@ -5,20 +5,20 @@ use native.Mathlib.Decide.{decLt}
 use mathlib.Core.Path.{_≡_, refl, sym, ap, _∙_}
 use mathlib.Core.Bool.{true, false, not, and-false}
 use mathlib.Core.List.{List, [], _∷_}
+use mathlib.Core.Option.{none as vacant, some as holds}
 use lib.Dec.{leb, ltb}
 use lib.ListN.{length, replicate, length-replicate}
 use borrow.Author.Tests.{le-ltb}
 use Rattle.strand.specs.Strands.{Strand}
-use Rattle.refusals.specs.Rules.{noSide, wrongSlice, notWholeBlocks, unsoundBlock, numberTooLarge, alreadyHeld, notHeld, first, refuseIf}
-use Rattle.refusals.specs.Rules.{refuseAtLowest}
+use Rattle.refusals.specs.Rules.{noSide, wrongSlice, notWholeBlocks, unsoundBlock, numberTooLarge, alreadyHeld, notHeld, first, refuseIf, refuseAtLowest}
 use Rattle.refusals.proofs.RuleLaws.{first-skip, first-one, first-stop}
-use Rattle.block.specs.Checksum.{blockSize}
+use Rattle.block.specs.Content.{blockSize}
 use Rattle.block.specs.Block.{blockCount}
 use Rattle.refusals.specs.declared.Verdict.{Verdict}
 use Rattle.refusals.specs.declared.Verdict.the-variants.{Accepted, Refused}
-use Rattle.calls.specs.Limits.{mostCatalogBlocks, mostCacheBlocks, inRange, moleculeVerdict, motifVerdict, workVerdict}
-use Rattle.calls.specs.Holdings.{Holding, vacant, holds, isHeld, putAt}
-use Rattle.calls.specs.Buffers.{areWhole, unsoundAt, held, moleculeAt, buffersVerdict}
+use Rattle.calls.specs.Buffers.{mostCatalogBlocks, mostCacheBlocks, inRange, moleculeVerdict, motifVerdict, workVerdict, Holding}
+use Rattle.calls.specs.Buffers.{isHeld, areWhole, unsoundAt, held, moleculeAt, buffersVerdict}
+use Rattle.lists.specs.Vocabulary.{putAt}
 use Rattle.calls.specs.Calls.{addVerdict, addOutcome, removeVerdict, removeOutcome, queryVerdict}
 use Rattle.calls.specs.Statements.{OnlyAt}
 use Rattle.calls.proofs.BlockUse as leaf

@@ -1,17 +1,53 @@
--- The catalog and the cache (01: catalogue and shelf) as buffers of blocks: all that the calls read of them, and rules 10 and 11.
-use Prim.Native.Nat.{ℕ, _%_}
-use mathlib.Core.List.{List, [], _∷_}
-use mathlib.Core.Bool.{Bool, not, _&&_}
+-- The catalog and the cache (01: catalogue and shelf) as buffers of blocks: their limits, all that the calls read of them, rules 10 and 11, and what
+-- rules 1 to 8 ask of a molecule, a motif and a work slice.
+use Prim.Native.Nat.{ℕ, _*_, _%_, _≤_, _<_}
+use mathlib.Core.Path.{_≡_}
+use mathlib.Core.Bool.{Bool, _&&_, true, false, not}
+use lib.Dec.{leb, eqb, ltb}
 use lib.ListN.{length}
-use lib.Dec.{eqb, leb, ltb}
-use Rattle.strand.specs.Strands.{Strand, key}
-use Rattle.refusals.specs.Rules.{noSide, notWholeBlocks, unsoundBlock, first, refuseIf, refuseAtLowest}
-use Rattle.block.specs.Checksum.{blockSize}
-use Rattle.block.specs.Block.{blockOf, soundMolecule, cleaned, blockCount}
-use Rattle.buffer.specs.Buffer.{eachBlock}
-use Rattle.block.specs.Content.{isEmpty, moleculeIn}
+use Rattle.strand.specs.Strands.{Strand, strandVerdict, leastMotif, leastMolecule, key}
+use Rattle.refusals.specs.Rules.{motifSide, moleculeSide, workRule, noSide, notWholeBlocks, unsoundBlock, first, refuseIf, refuseAtLowest}
+use Rattle.block.specs.Content.{blockBases, entryBases, blockSize, isEmpty, moleculeIn}
 use Rattle.refusals.specs.declared.Verdict.{Verdict}
-use Rattle.calls.specs.Limits.{mostCatalogBlocks, mostCacheBlocks}
+use mathlib.Core.List.{List, [], _∷_}
+use mathlib.Core.Option.{Option, none as vacant, some as holds}
+use Rattle.block.specs.Block.{blockOf, soundMolecule, cleaned, blockCount, eachBlock}
+
+-- 01, Blocks: B from 1 to 512, S from 1 to 64.
+abbrev pub mostCatalogBlocks : ℕ
+mostCatalogBlocks = 512
+
+abbrev pub mostCacheBlocks : ℕ
+mostCacheBlocks = 64
+
+unfoldable pub inRange : ℕ → ℕ → Bool
+inRange B S = (leb 1 B && leb B mostCatalogBlocks) && (leb 1 S && leb S mostCacheBlocks)
+
+-- 01, lengths: molecules in the catalog 1 to 160, which is what one block has places for; motifs of a query 1 to 120.
+abbrev pub mostMoleculeBases : ℕ
+mostMoleculeBases = blockBases
+
+abbrev pub mostMotifBases : ℕ
+mostMotifBases = entryBases
+
+-- Rules 1 to 7 of a molecule for the catalog, and of the motif of a query.
+unfoldable pub moleculeVerdict : Strand → Verdict
+moleculeVerdict q = strandVerdict moleculeSide leastMolecule mostMoleculeBases (q .bases) (q .mates)
+
+unfoldable pub motifVerdict : Strand → Verdict
+motifVerdict p = strandVerdict motifSide leastMotif mostMotifBases (p .bases) (p .mates)
+
+-- Rule 8 of a query with a work slice of so many entries: n is 160, the most that a molecule of the catalog has.
+unfoldable pub workVerdict : Strand → ℕ → Verdict
+workVerdict p work = workRule (length (p .bases)) mostMoleculeBases work
+
+-- What stands under a number: nothing, or a molecule; and whether it is one.
+abbrev pub Holding : Type 0
+Holding = Option Strand
+
+unfoldable pub isHeld : Holding → Bool
+isHeld vacant = false
+isHeld (holds q) = true
 
 -- Whole blocks, and their number from 1 to most.
 unfoldable pub isWhole : ℕ → List ℕ → Bool
@@ -40,6 +76,16 @@ buffersVerdict catalog cache =
     (refuseIf notWholeBlocks noSide (not (areWhole catalog cache))
     ∷ refuseAtLowest unsoundBlock noSide (blockCount catalog) (unsoundAt catalog)
     ∷ [])
+
+-- What they let pass: whole blocks, 1 to 512 and 1 to 64 of them, every block of the catalog sound.
+pub record Usable (catalog cache : List ℕ) : Type 0 where
+  pub filled : length catalog ≡ blockSize * blockCount catalog
+  pub least : 1 ≤ blockCount catalog
+  pub most : blockCount catalog ≤ mostCatalogBlocks
+  pub whole : length cache ≡ blockSize * blockCount cache
+  pub slots : 1 ≤ blockCount cache
+  pub most-slots : blockCount cache ≤ mostCacheBlocks
+  pub blocks : (d : ℕ) → d < blockCount catalog → soundMolecule (blockOf d catalog) ≡ true
 
 -- The slot of a motif in a cache of S blocks: its key mod S.
 unfoldable pub slotOf : ℕ → Strand → ℕ

@@ -1,25 +1,28 @@
--- Add, remove and query: what each answers and leaves in every buffer, for all inputs and all contents of the buffers.
+-- Add, remove and query: what each answers and leaves in every buffer, for all inputs and all contents of the buffers, and what histories compare of it.
 -- These are the definitions that the contracts of the calls cite.
-use Prim.Native.Nat.{ℕ}
+use Prim.Native.Nat.{ℕ, _≤_, _<_}
+use mathlib.Core.Path.{_≡_}
+use mathlib.Core.Logic.{_↔_}
 use mathlib.Core.List.{List, [], _∷_, _++_}
-use mathlib.Core.Bool.{Bool, not, _&&_}
-use lib.ListN.{length, drop}
+use mathlib.Core.Bool.{Bool, true, false, not, _&&_}
+use lib.ListN.{length, drop, take}
 use lib.Dec.{leb, ltb}
 use Rattle.lists.specs.Vocabulary.{choose, select}
-use Rattle.strand.specs.Strands.{Strand}
-use Rattle.refusals.specs.Rules.{noSide, wrongSlice, numberTooLarge, alreadyHeld, notHeld, first, refuseIf, byVerdict}
-use Rattle.block.specs.Block.{blockOf, forgot, blockCount}
-use Rattle.buffer.specs.Buffer.{eachBlock, putBlock}
+use Rattle.strand.specs.Strands.{Strand, Proper, leastMotif, leastMolecule}
+use Rattle.refusals.specs.Rules.{motifSide, moleculeSide, noSide, wrongSlice, numberTooLarge, alreadyHeld, notHeld, first, refuseIf, byVerdict, workSize}
+use Rattle.block.specs.Block.{blockOf, forgot, blockCount, eachBlock, putBlock}
 use Rattle.block.specs.Content.{emptyBlock, encodeMolecule, encodeEntry, keepsMotif, searchedIn, hitIn}
 use Rattle.refusals.specs.declared.Verdict.{Verdict}
+use Rattle.refusals.specs.declared.Verdict.the-variants.{Accepted}
 use Rattle.calls.specs.declared.Added.{Added}
 use Rattle.calls.specs.declared.Added.the-variants.{Stored, Refused as NotAdded}
 use Rattle.calls.specs.declared.Removed.{Removed}
 use Rattle.calls.specs.declared.Removed.the-variants.{Cleared, Refused as NotRemoved}
 use Rattle.calls.specs.declared.Queried.{Queried}
 use Rattle.calls.specs.declared.Queried.the-variants.{Hits, Refused as NotQueried}
-use Rattle.calls.specs.Limits.{moleculeVerdict, motifVerdict, workVerdict}
-use Rattle.calls.specs.Buffers.{held, moleculeAt, buffersVerdict, slotOf, cleanCache}
+use Rattle.calls.specs.Buffers.{mostMoleculeBases, mostMotifBases, moleculeVerdict, motifVerdict, workVerdict, held, moleculeAt, buffersVerdict}
+use Rattle.calls.specs.Buffers.{slotOf, cleanCache, Usable}
+use Rattle.refusals.specs.declared.Refusal.{Refusal}
 
 -- The effect of add or remove: the answer and both buffers afterwards.
 pub record Effect (A : Type 0) : Type 0 where
@@ -30,15 +33,22 @@ pub record Effect (A : Type 0) : Type 0 where
 abbrev pub effect : {A : Type 0} → A → List ℕ → List ℕ → Effect A
 effect answer catalog cache = record { answer = answer; catalog = catalog; cache = cache }
 
--- Add (number d, molecule) is refused by rules 10, 11, 12, 13, then 1 to 7.
+-- 01, Refused inputs: "Add: 10, 11, 12, 13, then 1 to 7. Remove: 10, 11, 12, 14. Query: 10, 11, motif, 9, 8." The order is the same for the calls and for the
+-- reference model: `buffers` is what 10 and 11 say, B the number of catalog blocks, `taken` the numbers held; `work` and `room` are the lengths of the work and
+-- the hit slice.
+abbrev pub addRules : Verdict → ℕ → (ℕ → Bool) → ℕ → Strand → Verdict
+addRules buffers B taken d q =
+    first (buffers ∷ refuseIf numberTooLarge noSide (leb B d) ∷ refuseIf alreadyHeld noSide (taken d) ∷ moleculeVerdict q ∷ [])
+
+abbrev pub removeRules : Verdict → ℕ → (ℕ → Bool) → ℕ → Verdict
+removeRules buffers B taken d = first (buffers ∷ refuseIf numberTooLarge noSide (leb B d) ∷ refuseIf notHeld noSide (not (taken d)) ∷ [])
+
+abbrev pub queryRules : Verdict → ℕ → Strand → ℕ → ℕ → Verdict
+queryRules buffers B p work room = first (buffers ∷ motifVerdict p ∷ refuseIf wrongSlice noSide (ltb room B) ∷ workVerdict p work ∷ [])
+
+-- Add (number d, molecule).
 unfoldable pub addVerdict : List ℕ → List ℕ → ℕ → Strand → Verdict
-addVerdict catalog cache d q =
-    first
-    (buffersVerdict catalog cache
-    ∷ refuseIf numberTooLarge noSide (leb (blockCount catalog) d)
-    ∷ refuseIf alreadyHeld noSide (held catalog d)
-    ∷ moleculeVerdict q
-    ∷ [])
+addVerdict catalog cache d q = addRules (buffersVerdict catalog cache) (blockCount catalog) (held catalog) d q
 
 -- It writes block d. A refusal leaves both buffers as they are.
 unfoldable pub addOutcome : List ℕ → List ℕ → ℕ → Strand → Effect Added
@@ -47,14 +57,9 @@ addOutcome catalog cache d q =
     (λ r. effect (NotAdded r) catalog cache)
     (effect Stored (putBlock d (encodeMolecule q) catalog) (cleanCache cache))
 
--- Remove (d) is refused by rules 10, 11, 12, 14.
+-- Remove (d).
 unfoldable pub removeVerdict : List ℕ → List ℕ → ℕ → Verdict
-removeVerdict catalog cache d =
-    first
-    (buffersVerdict catalog cache
-    ∷ refuseIf numberTooLarge noSide (leb (blockCount catalog) d)
-    ∷ refuseIf notHeld noSide (not (held catalog d))
-    ∷ [])
+removeVerdict catalog cache d = removeRules (buffersVerdict catalog cache) (blockCount catalog) (held catalog) d
 
 -- It zeroes block d, and clears bit d in both maps of every cache entry. A refusal leaves both buffers as they are.
 unfoldable pub removeOutcome : List ℕ → List ℕ → ℕ → Effect Removed
@@ -62,6 +67,16 @@ removeOutcome catalog cache d =
     byVerdict (removeVerdict catalog cache d)
     (λ r. effect (NotRemoved r) catalog cache)
     (effect Cleared (putBlock d emptyBlock catalog) (eachBlock (forgot d) (cleanCache cache)))
+
+-- Both are accepted exactly where no rule applies.
+abbrev pub AddAccepts : List ℕ → List ℕ → ℕ → Strand → Type 0
+AddAccepts catalog cache d q =
+    (addVerdict catalog cache d q ≡ Accepted)
+    ↔ (Usable catalog cache × (d < blockCount catalog) × (held catalog d ≡ false) × Proper moleculeSide leastMolecule mostMoleculeBases (q .bases) (q .mates))
+
+abbrev pub RemoveAccepts : List ℕ → List ℕ → ℕ → Type 0
+RemoveAccepts catalog cache d =
+    (removeVerdict catalog cache d ≡ Accepted) ↔ (Usable catalog cache × (d < blockCount catalog) × (held catalog d ≡ true))
 
 -- The effect of query: the answer, the cache and the slice of the hits afterwards. The catalog is only read.
 pub record QueryEffect : Type 0 where
@@ -72,15 +87,16 @@ pub record QueryEffect : Type 0 where
 abbrev pub queried : Queried → List ℕ → List ℕ → QueryEffect
 queried answer cache hits = record { answer = answer; cache = cache; hits = hits }
 
--- Query (motif) is refused by rules 10, 11, 1 to 7 of the motif, 9, 8; `work` and `room` are the lengths of the work and the hit slice.
+-- Query (motif).
 unfoldable pub queryVerdict : List ℕ → List ℕ → Strand → ℕ → ℕ → Verdict
-queryVerdict catalog cache p work room =
-    first
-    (buffersVerdict catalog cache
-    ∷ motifVerdict p
-    ∷ refuseIf wrongSlice noSide (ltb room (blockCount catalog))
-    ∷ workVerdict p work
-    ∷ [])
+queryVerdict catalog cache p work room = queryRules (buffersVerdict catalog cache) (blockCount catalog) p work room
+
+-- It is accepted exactly where no rule applies.
+abbrev pub QueryAccepts : List ℕ → List ℕ → Strand → ℕ → ℕ → Type 0
+QueryAccepts catalog cache p work room =
+    (queryVerdict catalog cache p work room ≡ Accepted)
+    ↔ (Usable catalog cache × Proper motifSide leastMotif mostMotifBases (p .bases) (p .mates) × (blockCount catalog ≤ room)
+    × (workSize (length (p .bases)) mostMoleculeBases ≤ work))
 
 -- The slot's entry keeps this very motif (same bases, same mates) with searched bit d.
 unfoldable pub isKnown : List ℕ → Strand → ℕ → Bool
@@ -112,3 +128,31 @@ module _ (embeds : Strand → Strand → Bool) where
       byVerdict (queryVerdict catalog cache p work (length hits))
       (λ r. queried (NotQueried r) cache hits)
       (queryAccepted catalog (cleanCache cache) (blockOf slot (cleanCache cache)) slot p hits)
+
+-- ---- what histories compare
+
+-- What histories compare of an answer.
+pub data Result : Type 0 where
+  -- number, side and place of a refusal
+  refused : ℕ → ℕ → ℕ → Result
+  -- an accepted add or remove
+  done : Result
+  -- an accepted query: the count, the hit list at the start of its slice, the searched number
+  found : ℕ → List ℕ → ℕ → Result
+
+-- The result of a refusal, of an add, of a remove, and of a query.
+unfoldable pub refusedBy : Refusal → Result
+refusedBy r = refused (r .number) (r .side) (r .place)
+
+unfoldable pub addResult : Added → Result
+addResult Stored = done
+addResult (NotAdded r) = refusedBy r
+
+unfoldable pub removeResult : Removed → Result
+removeResult Cleared = done
+removeResult (NotRemoved r) = refusedBy r
+
+-- `hits` is the slice of the hits afterwards.
+unfoldable pub queryResult : Queried → List ℕ → Result
+queryResult (Hits count searched) hits = found count (take count hits) searched
+queryResult (NotQueried r) hits = refusedBy r

@@ -1,7 +1,3 @@
-pub mod Limits
-pub mod Motifs
-pub mod Holdings
 pub mod Buffers
 pub mod Calls
-pub mod Results
 pub mod Statements

@@ -6,20 +6,19 @@ use mathlib.Core.Bool.{Bool, true, false, _&&_}
 use lib.ListN.{length, take, drop}
 use Rattle.lists.specs.Vocabulary.{select}
 use Rattle.strand.specs.Strands.{Strand}
-use Rattle.octets.specs.Numbers.{Bytes}
-use Rattle.octets.specs.Maps.{mapBits}
+use Rattle.octets.specs.Octets.{Bytes, mapBits}
 use Rattle.block.specs.Block.{blockOf, soundMolecule, soundEntry, cleaned, forgot, blockCount}
 use Rattle.block.specs.Content.{emptyBlock, encodeEntry, keepsMotif, searchedIn, hitIn}
-use Rattle.refusals.specs.declared.Refusal.{Refusal}
-use Rattle.refusals.specs.declared.Verdict.the-variants.{Accepted, Refused}
+use Rattle.refusals.specs.Rules.{Refuses, Keeps}
+use Rattle.refusals.specs.declared.Verdict.the-variants.{Accepted}
 use Rattle.calls.specs.declared.Added.{Added}
 use Rattle.calls.specs.declared.Added.the-variants.{Stored, Refused as NotAdded}
 use Rattle.calls.specs.declared.Removed.{Removed}
 use Rattle.calls.specs.declared.Removed.the-variants.{Cleared, Refused as NotRemoved}
 use Rattle.calls.specs.declared.Queried.the-variants.{Hits, Refused as NotQueried}
 use Rattle.calls.specs.Buffers.{held, moleculeAt, slotOf, cleanCache}
-use Rattle.calls.specs.Calls.{Effect, effect, addVerdict, addOutcome, removeVerdict, removeOutcome, QueryEffect, queried, queryVerdict}
-use Rattle.calls.specs.Calls.{toSearch, isHit, queryOutcome}
+use Rattle.calls.specs.Calls.{Effect, addVerdict, addOutcome, removeVerdict, removeOutcome, QueryEffect, queryVerdict, toSearch}
+use Rattle.calls.specs.Calls.{isHit, queryOutcome, QueryAccepts, AddAccepts, RemoveAccepts}
 
 -- Every block of the cache is sound.
 abbrev pub AllSound : List ℕ → Type 0
@@ -98,14 +97,24 @@ pub record Claims (embeds : Strand → Strand → Bool) : Type 0 where
   pub query-accepted : (catalog cache : List ℕ) (p : Strand) (work : ℕ) (hits : List ℕ) → queryVerdict catalog cache p work (length hits) ≡ Accepted
       → QueryLeaves catalog cache (slotIn cache p) p hits (isHit embeds catalog (entryFor cache p) p) (toSearch catalog (entryFor cache p) p)
       (queryOutcome embeds catalog cache p work hits)
-  -- a refused call tells its refusal and changes nothing
-  pub add-refused : (catalog cache : List ℕ) (d : ℕ) (q : Strand) (r : Refusal) → addVerdict catalog cache d q ≡ Refused r
-      → addOutcome catalog cache d q ≡ effect (NotAdded r) catalog cache
-  pub remove-refused : (catalog cache : List ℕ) (d : ℕ) (r : Refusal) → removeVerdict catalog cache d ≡ Refused r
-      → removeOutcome catalog cache d ≡ effect (NotRemoved r) catalog cache
-  pub query-refused : (catalog cache : List ℕ) (p : Strand) (work : ℕ) (hits : List ℕ) (r : Refusal)
-      → queryVerdict catalog cache p work (length hits) ≡ Refused r
-      → queryOutcome embeds catalog cache p work hits ≡ queried (NotQueried r) cache hits
+  -- a call is accepted exactly where no rule applies
+  pub add-accepts : (catalog cache : List ℕ) (d : ℕ) (q : Strand) → AddAccepts catalog cache d q
+  pub remove-accepts : (catalog cache : List ℕ) (d : ℕ) → RemoveAccepts catalog cache d
+  pub query-accepts : (catalog cache : List ℕ) (p : Strand) (work room : ℕ) → QueryAccepts catalog cache p work room
+  -- a call answers a refusal exactly where its rules refuse, and then changes nothing
+  pub add-refuses : (catalog cache : List ℕ) (d : ℕ) (q : Strand)
+      → Refuses (addVerdict catalog cache d q) NotAdded (addOutcome catalog cache d q .answer)
+  pub add-keeps : (catalog cache : List ℕ) (d : ℕ) (q : Strand)
+      → Keeps NotAdded (addOutcome catalog cache d q .answer) catalog cache (addOutcome catalog cache d q .catalog) (addOutcome catalog cache d q .cache)
+  pub remove-refuses : (catalog cache : List ℕ) (d : ℕ)
+      → Refuses (removeVerdict catalog cache d) NotRemoved (removeOutcome catalog cache d .answer)
+  pub remove-keeps : (catalog cache : List ℕ) (d : ℕ)
+      → Keeps NotRemoved (removeOutcome catalog cache d .answer) catalog cache (removeOutcome catalog cache d .catalog) (removeOutcome catalog cache d .cache)
+  pub query-refuses : (catalog cache : List ℕ) (p : Strand) (work : ℕ) (hits : List ℕ)
+      → Refuses (queryVerdict catalog cache p work (length hits)) NotQueried (queryOutcome embeds catalog cache p work hits .answer)
+  pub query-keeps : (catalog cache : List ℕ) (p : Strand) (work : ℕ) (hits : List ℕ)
+      → Keeps NotQueried (queryOutcome embeds catalog cache p work hits .answer) cache hits
+      (queryOutcome embeds catalog cache p work hits .cache) (queryOutcome embeds catalog cache p work hits .hits)
   -- hits are held numbers
   pub hit-held : (catalog entry : List ℕ) (p : Strand) (d : ℕ) → isHit embeds catalog entry p d ≡ true → held catalog d ≡ true
   -- an entry of another motif is not trusted, whatever its key: the hits are the held numbers that embed, and all held are searched

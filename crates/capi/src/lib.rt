@@ -3,12 +3,10 @@ mod answers;
 
 ghost use mathlib.Core.Path.{_≡_};
 ghost use lib.ListN.{length};
-ghost use Rattle.strand.specs.Strands.{strandOf};
-ghost use Rattle.strand.specs.StrandRules.{checkAnswer};
-ghost use Rattle.embedding.specs.Verify.{verifyAnswer};
-ghost use Rattle.refusals.specs.Work.{WorkKept};
+ghost use Rattle.strand.specs.Strands.{strandOf, checkAnswer};
+ghost use Rattle.embedding.specs.Longest.{verifyAnswer, embeds};
+ghost use Rattle.refusals.specs.Rules.{WorkKept};
 ghost use Rattle.matcher.specs.Answers.{lengthVerdict, lengthAnswer, showVerdict, showAnswer, PlacesShown};
-ghost use Rattle.calls.specs.Motifs.{embeds};
 ghost use Rattle.calls.specs.Calls.{effect, addOutcome, removeOutcome, queryVerdict, queryOutcome};
 ghost use Rattle.capi.specs.Interface.{checkInC, matchInC, verifyInC, addInC, removeInC, effectInC, queriedInC, queryEffectInC};
 

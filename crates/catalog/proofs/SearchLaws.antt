@@ -15,13 +15,13 @@ use Rattle.lists.specs.Vocabulary.{choose, select}
 use Rattle.strand.specs.Strands.{Strand, strandOf}
 use Rattle.lists.proofs.ListLaws.{select-short, choose-yes, choose-no}
 use Rattle.octets.specs.Bits.{setMap}
-use Rattle.octets.specs.Maps.{mapBytes}
+use Rattle.octets.specs.Octets.{mapBytes}
 use Rattle.block.specs.Block.{blockOf, blockCount}
-use Rattle.block.specs.Content.{moleculeIn, keepsMotif, searchedIn, hitIn, entryBlock, encodeEntry}
+use Rattle.block.specs.Content.{moleculeIn, keepsMotif, searchedIn, hitIn, encodeEntry, entryWith}
 use Rattle.buffer.proofs.BufferLaws.{put-is}
 use Rattle.octets.proofs.MapLaws.{map-set, map-ext, map-none}
 use Rattle.calls.specs.declared.Queried.the-variants.{Hits}
-use Rattle.calls.specs.Motifs.{embeds}
+use Rattle.embedding.specs.Longest.{embeds}
 use Rattle.calls.specs.Buffers.{held, moleculeAt}
 use Rattle.calls.specs.Calls.{isKnown, toSearch, isHit, queried, queryAccepted}
 use Rattle.catalog.specs.Search.{Judged, Recorded}
@@ -250,9 +250,9 @@ module _ (cat cache : List ℕ) (s : ℕ) (p pm hits : List ℕ) where
   -- sm and fm are the maps of the held numbers and of the hits, h the hit slice and e the block left
   pub answer-is : (c k : ℕ) (sm fm h e : List ℕ) → sm ≡ mapBytes (held cat)
       → Recorded (isHit embeds cat (blockOf s cache) (strandOf p pm)) (toSearch cat (blockOf s cache) (strandOf p pm)) (blockCount cat) hits h fm c k
-      → e ≡ entryBlock p pm sm fm
+      → e ≡ entryWith [] p pm sm fm
       → queried (Hits c k) (putMid (512 * s) (512 * s + 512 - 512 * s) cache e) h ≡ queryAccepted embeds cat cache (blockOf s cache) s (strandOf p pm) hits
   unfolding queryAccepted encodeEntry
   answer-is c k sm fm h e es rec ee =
-      queried-eq (ap₂ Hits (rec .counted) (rec .searched-is)) (put-is s cache e _ (ee ∙ ap₂ (entryBlock p pm) es (rec .mapped)))
+      queried-eq (ap₂ Hits (rec .counted) (rec .searched-is)) (put-is s cache e _ (ee ∙ ap₂ (entryWith [] p pm) es (rec .mapped)))
       (rec .written ∙ ap (λ (n : ℕ). select (blockCount cat) (isHit embeds cat entry motif) ++ drop n hits) (rec .counted))

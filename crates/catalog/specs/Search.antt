@@ -5,14 +5,12 @@ use mathlib.Core.Path.{_≡_}
 use mathlib.Core.Bool.{Bool, true}
 use mathlib.Core.List.{List, _++_}
 use lib.ListN.{length, drop}
-use Rattle.strand.specs.StrandRules.{leastMotif}
+use Rattle.strand.specs.Strands.{leastMotif, Proper}
 use Rattle.lists.specs.Vocabulary.{select}
-use Rattle.refusals.specs.Rules.{motifSide}
-use Rattle.strand.specs.Strands.{Proper}
-use Rattle.refusals.specs.Work.{workSize}
-use Rattle.octets.specs.Maps.{mapBytes}
+use Rattle.refusals.specs.Rules.{motifSide, workSize}
+use Rattle.octets.specs.Octets.{mapBytes}
 use Rattle.block.specs.Block.{blockOf, soundMolecule, blockCount}
-use Rattle.calls.specs.Limits.{mostCatalogBlocks, mostMoleculeBases, mostMotifBases}
+use Rattle.calls.specs.Buffers.{mostCatalogBlocks, mostMoleculeBases, mostMotifBases}
 
 -- Rule 11 lets the catalog pass: each block is sound.
 pub record SoundCatalog (catalog : List ℕ) : Type 0 where

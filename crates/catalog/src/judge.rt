@@ -11,7 +11,7 @@ ghost use Rattle.calls.specs.Buffers.{isWhole, unsoundAt, held, buffersVerdict}
 ghost use Rattle.calls.specs.Calls.{addVerdict, removeVerdict, queryVerdict};
 ghost use Rattle.catalog.specs.Search.{SoundCatalog};
 
-// The most blocks of a catalog and of a cache (specs/Limits of calls has the same numbers).
+// The most blocks of a catalog and of a cache (specs/Buffers of calls has the same numbers).
 const MOST_CATALOG_BLOCKS: usize = 512;
 
 const MOST_CACHE_BLOCKS: usize = 64;

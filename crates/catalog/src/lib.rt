@@ -2,8 +2,8 @@
 ghost use mathlib.Core.Path.{_≡_};
 ghost use lib.ListN.{length};
 ghost use Rattle.strand.specs.Strands.{strandOf};
-ghost use Rattle.calls.specs.Motifs.{embeds};
-ghost use Rattle.refusals.specs.Work.{WorkKept};
+ghost use Rattle.embedding.specs.Longest.{embeds};
+ghost use Rattle.refusals.specs.Rules.{WorkKept};
 ghost use Rattle.calls.specs.Calls.{effect, addOutcome, removeOutcome, queried, queryVerdict, queryOutcome};
 
 mod judge;

@@ -7,11 +7,11 @@ use native.Mathlib.Nat.{sub-zero, zero-sub, suc-sub-suc}
 use borrow.Rule.Slice.PartMut.{putMid}
 use lib.ListN.{length, set, take, drop, replicate, length-append, length-drop, drop-of-length-le}
 use lib.Seq.{take-all, take-at, drop-at, length-take-le, drop-drop}
-use Rattle.octets.specs.Numbers.{words, bytesOf}
-use Rattle.block.specs.Checksum.{rechecked}
-use Rattle.block.specs.Content.{moleculeKind, padded, headOf, contentOf, strandBlock, moleculeBlock}
+use Rattle.octets.specs.Octets.{words, bytesOf}
+use Rattle.block.specs.Content.{rechecked, moleculeKind, padded, headOf, contentOf, strandBlock, encodeMolecule}
 use Rattle.octets.proofs.ScanLaws.{length-bytes}
 use Rattle.block.proofs.PartLaws.{length-padded, length-head, length-content, check-put}
+use Rattle.strand.specs.Strands.{strandOf}
 
 -- ---- zeros and a head
 
@@ -144,7 +144,7 @@ read-is s d r from n h e =
     ∙ ap (words n) (take-all (length s - from) (drop from s) (simp length-drop (omega arith)))
 
 pub molecule-put : (bases mates t s r : List ℕ) → length bases ≤ 160 → length mates ≡ length bases → length s ≡ 512
-    → s ≡ contentOf moleculeKind [] bases mates ++ t → r ≡ rechecked s → r ≡ moleculeBlock bases mates
-unfolding moleculeBlock strandBlock
+    → s ≡ contentOf moleculeKind [] bases mates ++ t → r ≡ rechecked s → r ≡ encodeMolecule (strandOf bases mates)
+unfolding encodeMolecule strandBlock
 molecule-put bases mates t s r hb hm hs e er =
     check-put (contentOf moleculeKind [] bases mates) t s r (length-content moleculeKind [] bases mates (omega arith) hb hm) hs e er

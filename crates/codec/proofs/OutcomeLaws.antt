@@ -1,19 +1,20 @@
 -- The outcomes of the writers, the decoder and the motif test: each return of their code, and what a caller whose input fits may cite.
 use mathlib.Core.Path.{_≡_, refl, sym, ap, ap₂, _∙_}
 use mathlib.Core.Bool.{Bool, true, false, _&&_}
-use mathlib.Core.List.{List, _++_}
+use mathlib.Core.List.{List, [], _++_}
 use Prim.Native.Nat.{ℕ, _<_, _≤_}
 use native.Mathlib.Omega.{arith}
 use borrow.Author.Tests.{eq-eqb, ne-eqb, eqb-true, le-leb, lt-leb, leb-true}
 use lib.ListN.{length, drop}
 use lib.Dec.{eqb, leb}
 use Rattle.lists.specs.Vocabulary.{choose}
-use Rattle.strand.specs.Strands.{Strand}
+use Rattle.strand.specs.Strands.{Strand, strandOf}
 use Rattle.lists.proofs.ListLaws.{and-true, choose-yes, choose-no}
-use Rattle.block.specs.Content.{lengthIn, strandIn, moleculeIn, motifHandedIn, keepsMotif, moleculeBlock, entryBlock}
-use Rattle.block.specs.Block.{soundMolecule, soundMotif, soundEntry}
-use Rattle.codec.specs.Outcomes.{Wrote, wrote, wroteIf, strandFits, moleculeWrote, entryWrote, Decoded, decoded, laidOver, decodes}
-use Rattle.codec.specs.Outcomes.{moleculeDecoded, motifDecoded, entryKeeps}
+use Rattle.block.specs.Content.{lengthIn, strandIn, moleculeIn, keepsMotif, entryWith, encodeMolecule}
+use Rattle.block.specs.Motif.{motifHandedIn, soundMotif}
+use Rattle.block.specs.Block.{soundMolecule, soundEntry}
+use Rattle.codec.specs.Outcomes.{Wrote, wrote, wroteIf, strandFits, moleculeWrote, entryWrote, Decoded, decoded, laidOver, decodes, moleculeDecoded}
+use Rattle.codec.specs.Outcomes.{motifDecoded, entryKeeps}
 use Rattle.block.proofs.ContentLaws.{bases-count, molecule-size, molecule-fits, motif-size, motif-fits, entry-size, entry-fits}
 
 -- ---- any writer
@@ -62,39 +63,39 @@ module _ (most size bases mates : ℕ) where
 module _ (s bases mates : List ℕ) where
   pub molecule-not : strandFits (length s) 160 (length bases) (length mates) ≡ false → wrote false s ≡ moleculeWrote s bases mates
   unfolding moleculeWrote
-  molecule-not e = wrote-not (moleculeBlock bases mates) s _ e
+  molecule-not e = wrote-not (encodeMolecule (strandOf bases mates)) s _ e
 
-  pub molecule-done : (x : List ℕ) → strandFits (length s) 160 (length bases) (length mates) ≡ true → x ≡ moleculeBlock bases mates
+  pub molecule-done : (x : List ℕ) → strandFits (length s) 160 (length bases) (length mates) ≡ true → x ≡ encodeMolecule (strandOf bases mates)
       → wrote true x ≡ moleculeWrote s bases mates
   unfolding moleculeWrote
-  molecule-done x e q = wrote-new (moleculeBlock bases mates) s _ x e q
+  molecule-done x e q = wrote-new (encodeMolecule (strandOf bases mates)) s _ x e q
 
 -- ---- encode_entry
 
 module _ (s bases mates m₁ m₂ : List ℕ) where
   pub entry-too-long : strandFits (length s) 120 (length bases) (length mates) ≡ false → wrote false s ≡ entryWrote s bases mates m₁ m₂
   unfolding entryWrote
-  entry-too-long e = wrote-not (entryBlock bases mates m₁ m₂) s _ (rw e)
+  entry-too-long e = wrote-not (entryWith [] bases mates m₁ m₂) s _ (rw e)
 
   module _ (fits : strandFits (length s) 120 (length bases) (length mates) ≡ true) where
     pub entry-searched-size : (length m₁ ≡ 64 → ⊥) → wrote false s ≡ entryWrote s bases mates m₁ m₂
     unfolding entryWrote
-    entry-searched-size h = wrote-not (entryBlock bases mates m₁ m₂) s _ (rw (fits, ne-eqb (length m₁) 64 h))
+    entry-searched-size h = wrote-not (entryWith [] bases mates m₁ m₂) s _ (rw (fits, ne-eqb (length m₁) 64 h))
 
     pub entry-hits-size : length m₁ ≡ 64 → (length m₂ ≡ 64 → ⊥) → wrote false s ≡ entryWrote s bases mates m₁ m₂
     unfolding entryWrote
-    entry-hits-size h₁ h₂ = wrote-not (entryBlock bases mates m₁ m₂) s _ (rw (fits, eq-eqb (length m₁) 64 h₁, ne-eqb (length m₂) 64 h₂))
+    entry-hits-size h₁ h₂ = wrote-not (entryWith [] bases mates m₁ m₂) s _ (rw (fits, eq-eqb (length m₁) 64 h₁, ne-eqb (length m₂) 64 h₂))
 
-    pub entry-done : (x : List ℕ) → length m₁ ≡ 64 → length m₂ ≡ 64 → x ≡ entryBlock bases mates m₁ m₂ → wrote true x ≡ entryWrote s bases mates m₁ m₂
+    pub entry-done : (x : List ℕ) → length m₁ ≡ 64 → length m₂ ≡ 64 → x ≡ entryWith [] bases mates m₁ m₂ → wrote true x ≡ entryWrote s bases mates m₁ m₂
     unfolding entryWrote
-    entry-done x h₁ h₂ q = wrote-new (entryBlock bases mates m₁ m₂) s _ x (rw (fits, eq-eqb (length m₁) 64 h₁, eq-eqb (length m₂) 64 h₂)) q
+    entry-done x h₁ h₂ q = wrote-new (entryWith [] bases mates m₁ m₂) s _ x (rw (fits, eq-eqb (length m₁) 64 h₁, eq-eqb (length m₂) 64 h₂)) q
 
   -- Where motif and maps fit, the block is written.
   pub entry-written : (r : Bool) (x : List ℕ) → length s ≡ 512 → length bases ≤ 120 → length mates ≡ length bases → length m₁ ≡ 64 → length m₂ ≡ 64
-      → wrote r x ≡ entryWrote s bases mates m₁ m₂ → x ≡ entryBlock bases mates m₁ m₂
+      → wrote r x ≡ entryWrote s bases mates m₁ m₂ → x ≡ entryWith [] bases mates m₁ m₂
   unfolding entryWrote
   entry-written r x hs hb hm h₁ h₂ q =
-      bytes-new (entryBlock bases mates m₁ m₂) s _ r x
+      bytes-new (entryWith [] bases mates m₁ m₂) s _ r x
       (rw (strand-fits 120 (length s) (length bases) (length mates) hs hb hm, eq-eqb (length m₁) 64 h₁, eq-eqb (length m₂) 64 h₂)) q
 
 -- ---- decode_molecule

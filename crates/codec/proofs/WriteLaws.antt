@@ -9,9 +9,8 @@ use lib.Seq.{take-all}
 use borrow.Rule.Slice.PartMut.{putMid}
 use Rattle.lists.specs.Vocabulary.{between, all, sameList}
 use Rattle.strand.specs.Strands.{strandOf, sameStrand}
-use Rattle.octets.specs.Numbers.{isZero, words}
-use Rattle.block.specs.Checksum.{rechecked}
-use Rattle.block.specs.Content.{entryKind, isEmpty, lengthIn, strandIn, motifIn, keepsMotif, contentOf, entryWith, entryBlock}
+use Rattle.octets.specs.Octets.{isZero, words}
+use Rattle.block.specs.Content.{rechecked, entryKind, isEmpty, lengthIn, strandIn, motifIn, keepsMotif, contentOf, entryWith}
 use Rattle.block.proofs.PartLaws.{length-content, check-put}
 use Rattle.lists.proofs.ListLaws.{length-tab, same-length}
 use Rattle.codec.proofs.CodeLaws.{put-next}
@@ -45,8 +44,8 @@ module _ (s bases mates : List ℕ) where
 
 entry-parts : (bases mates m₁ m₂ t x y r : List ℕ) → length bases ≤ 120 → length mates ≡ length bases → length m₁ ≡ 64 → length m₂ ≡ 64 → length t ≡ 132
     → x ≡ putMid 380 64 (contentOf entryKind [] bases mates ++ t) m₁ → y ≡ putMid 444 64 x m₂
-    → r ≡ rechecked y → r ≡ entryBlock bases mates m₁ m₂
-unfolding entryBlock entryWith
+    → r ≡ rechecked y → r ≡ entryWith [] bases mates m₁ m₂
+unfolding entryWith
 entry-parts bases mates m₁ m₂ t x y r hb hm h₁ h₂ ht ex ey er =
     let lc : length (contentOf entryKind [] bases mates) ≡ 380 = length-content entryKind [] bases mates (omega arith) hb hm in
     let x′ : x ≡ contentOf entryKind [] bases mates ++ m₁ ++ drop 64 t = ex ∙ put-next 380 444 (contentOf entryKind [] bases mates) t lc m₁ in
@@ -61,7 +60,7 @@ entry-parts bases mates m₁ m₂ t x y r hb hm h₁ h₂ ht ex ey er =
 
 pub entry-put : (bases mates m₁ m₂ s c n₁ n₂ r : List ℕ) → length s ≡ 512 → length bases ≤ 120 → length mates ≡ length bases → length m₁ ≡ 64 → length m₂ ≡ 64
     → c ≡ contentOf entryKind [] bases mates ++ drop 380 s → n₁ ≡ m₁ → n₂ ≡ m₂
-    → r ≡ rechecked (putMid 444 64 (putMid 380 64 c n₁) n₂) → r ≡ entryBlock bases mates m₁ m₂
+    → r ≡ rechecked (putMid 444 64 (putMid 380 64 c n₁) n₂) → r ≡ entryWith [] bases mates m₁ m₂
 entry-put bases mates m₁ m₂ s c n₁ n₂ r hs hb hm h₁ h₂ ec e₁ e₂ er =
     entry-parts bases mates m₁ m₂ (drop 380 s) (putMid 380 64 c n₁) (putMid 444 64 (putMid 380 64 c n₁) n₂) r hb hm h₁ h₂
     (length-drop 380 s ∙ ap (λ (k : ℕ). k - 380) hs) (ap₂ (putMid 380 64) ec e₁) (ap (putMid 444 64 (putMid 380 64 c n₁)) e₂) er

@@ -1,15 +1,15 @@
 -- What the writers, the decoder and the motif test answer and leave, for any input: where something does not fit, the answer says so and
 -- no byte changes.
 use Prim.Native.Nat.{ℕ}
-use mathlib.Core.List.{List, _++_}
+use mathlib.Core.List.{List, [], _++_}
 use mathlib.Core.Bool.{Bool, _&&_}
 use lib.ListN.{length, drop}
 use lib.Dec.{eqb, leb}
 use Rattle.lists.specs.Vocabulary.{choose}
-use Rattle.strand.specs.Strands.{Strand}
-use Rattle.block.specs.Checksum.{blockSize}
-use Rattle.octets.specs.Maps.{mapSize}
-use Rattle.block.specs.Content.{blockBases, moleculeKind, entryKind, lengthIn, moleculeIn, motifHandedIn, keepsMotif, moleculeBlock, entryBlock}
+use Rattle.strand.specs.Strands.{Strand, strandOf}
+use Rattle.block.specs.Content.{blockSize, blockBases, moleculeKind, entryKind, lengthIn, moleculeIn, keepsMotif, entryWith, encodeMolecule}
+use Rattle.octets.specs.Octets.{mapSize}
+use Rattle.block.specs.Motif.{motifHandedIn}
 
 -- ---- writers
 
@@ -31,12 +31,12 @@ strandFits size most bases mates = eqb size blockSize && leb bases most && eqb m
 
 -- A molecule written into s; an entry written into s.
 unfoldable pub moleculeWrote : List ℕ → List ℕ → List ℕ → Wrote
-moleculeWrote s bases mates = wroteIf (strandFits (length s) (moleculeKind .most) (length bases) (length mates)) (moleculeBlock bases mates) s
+moleculeWrote s bases mates = wroteIf (strandFits (length s) (moleculeKind .most) (length bases) (length mates)) (encodeMolecule (strandOf bases mates)) s
 
 unfoldable pub entryWrote : List ℕ → List ℕ → List ℕ → List ℕ → List ℕ → Wrote
 entryWrote s bases mates searched hits =
     wroteIf (strandFits (length s) (entryKind .most) (length bases) (length mates) && eqb (length searched) mapSize && eqb (length hits) mapSize)
-    (entryBlock bases mates searched hits) s
+    (entryWith [] bases mates searched hits) s
 
 -- ---- the decoder
 

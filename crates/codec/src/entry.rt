@@ -4,8 +4,7 @@ ghost use mathlib.Core.Path.{_≡_};
 ghost use Prim.Native.Nat.{_≤_};
 ghost use lib.ListN.{length};
 ghost use Rattle.strand.specs.Strands.{strandOf, sameStrand};
-ghost use Rattle.block.specs.Checksum.{blockSize};
-ghost use Rattle.block.specs.Content.{entryBases, lengthIn, motifIn, searchedIn, hitIn};
+ghost use Rattle.block.specs.Content.{blockSize, entryBases, lengthIn, motifIn, searchedIn, hitIn};
 ghost use Rattle.block.specs.Block.{cleaned, forgot};
 ghost use Rattle.codec.specs.Outcomes.{entryKeeps, wrote, entryWrote};
 

@@ -5,9 +5,8 @@ ghost use Prim.Native.Nat.{_+_, _*_, _≤_};
 ghost use mathlib.Core.List.{_++_};
 ghost use lib.ListN.{length, drop};
 ghost use Rattle.lists.specs.Vocabulary.{between};
-ghost use Rattle.octets.specs.Numbers.{words};
-ghost use Rattle.block.specs.Checksum.{blockSize, checksumAt};
-ghost use Rattle.block.specs.Content.{lengthIn};
+ghost use Rattle.octets.specs.Octets.{words};
+ghost use Rattle.block.specs.Content.{blockSize, checksumAt, lengthIn};
 ghost use Rattle.codec.specs.Outcomes.{wrote, moleculeWrote, decoded, decodes, moleculeDecoded, motifDecoded};
 
 // Write the block of a molecule of at most 160 bases. False, and nothing written, where s is not one block or the molecule does not fit.

@@ -4,9 +4,8 @@ ghost use mathlib.Core.Path.{_≡_};
 ghost use Prim.Native.Nat.{_+_, _*_, _≤_};
 ghost use mathlib.Core.List.{_++_};
 ghost use lib.ListN.{length, drop};
-ghost use Rattle.octets.specs.Numbers.{bytesOf};
-ghost use Rattle.block.specs.Checksum.{checksumAt};
-ghost use Rattle.block.specs.Content.{blockBases, padded, headOf};
+ghost use Rattle.octets.specs.Octets.{bytesOf};
+ghost use Rattle.block.specs.Content.{checksumAt, blockBases, padded, headOf};
 ghost use Rattle.codec.specs.Outcomes.{strandFits};
 
 // Each part over the whole of its slice, zeros where nothing stands: the bases, or the bytes of the kind's own; byte 0, the length and the

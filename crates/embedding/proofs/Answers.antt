@@ -1,8 +1,8 @@
 -- The answers of tests: negated, made of others, and what a choice by one comes to.
 use mathlib.Core.Path.{_≡_, refl, sym, _∙_}
 use mathlib.Core.Bool.{Bool, true, false, not, _&&_, true≢false}
-use Rattle.lists.specs.Vocabulary.{choose, Tells}
-use Rattle.lists.proofs.ListLaws.{choose-yes, choose-no}
+use Rattle.lists.specs.Vocabulary.{choose}
+use Rattle.lists.proofs.ListLaws.{Tells, choose-yes, choose-no}
 
 pub tells-yes : {A : Type 0} → A → Tells true A
 tells-yes a = record { yes = λ e. a; no = λ e. absurd (true≢false e) }

@@ -9,12 +9,12 @@ use native.Mathlib.Omega.{arith}
 use lib.ListN.{length}
 use Rattle.lists.specs.Vocabulary.{nth}
 use Rattle.strand.specs.Strands.{Inside}
-use Rattle.embedding.specs.Embedding.{ClosedPrefix}
+use Rattle.embedding.specs.Embedding.{fits, Embeds, ClosedPrefix, IsLongest}
 use Rattle.embedding.specs.Longest.{closedTo, longest}
 use Rattle.embedding.specs.Row.{Closed}
-use Rattle.embedding.specs.Statements.{IsLongest, WholeEmbeds, VerifiedSays, Claims}
+use Rattle.embedding.specs.Statements.{VerifiedSays, Claims}
 use Rattle.embedding.proofs.Answers.{not-true-is}
-use Rattle.embedding.proofs.VerifyLaws.{verify-yes}
+use Rattle.embedding.proofs.VerifyLaws.{verify-says, verify-accepts, verify-refuses}
 use Rattle.embedding.proofs.Computed.{closed-iff, longest-best, verified-iff}
 
 -- A closed prefix in 01's words and by its mates.
@@ -50,7 +50,9 @@ module _ (rule : ℕ → ℕ → Bool) (pb pm qb qm : List ℕ) where
       let J = longest-says H in
       omega (arith, I .largest _ (J .upto) (J .closed) (J .embeds), J .largest L (I .upto) (I .closed) (I .embeds))
 
-  whole-iff : Inside (nth pm) (length pb) → WholeEmbeds rule pb pm qb qm
+  -- L = m exactly when P embeds.
+  pub whole-iff : Inside (nth pm) (length pb)
+      → (longest rule pb pm qb qm ≡ length pb) ↔ Embeds (fits rule pb qb) (nth pm) (nth qm) 0 (length pb) 0 (length qb)
   whole-iff H =
       let B = longest-best rule pb pm qb qm in (
         (λ e. rw e at (B .reach .embeds)),
@@ -77,7 +79,8 @@ claims =
       ends = λ mate m. record { none = λ x y p q r e. omega arith; whole = λ x y p q r e. omega arith };
       longest-is = longest-says;
       longest-only = longest-only;
-      whole = whole-iff;
       verified-says = verified-says;
-      verify-says = verify-yes;
+      verify-says = verify-says;
+      verify-accepts = verify-accepts;
+      verify-refuses = verify-refuses;
     }

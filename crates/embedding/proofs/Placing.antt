@@ -8,7 +8,8 @@ use native.Mathlib.Omega.{arith}
 use lib.Dec.{eqb}
 use lib.ListN.{length}
 use borrow.Author.Tests.{eqb-true, eq-eqb}
-use Rattle.lists.specs.Vocabulary.{nth, Tells}
+use Rattle.lists.specs.Vocabulary.{nth}
+use Rattle.lists.proofs.ListLaws.{Tells}
 use Rattle.embedding.specs.Embedding.{Emb, lettersFit}
 use Rattle.embedding.specs.Places.{Ordered, Lettered, Has, ArcKept, ArcsKept}
 use Rattle.embedding.proofs.Answers.{tells-not}

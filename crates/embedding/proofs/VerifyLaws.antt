@@ -3,24 +3,22 @@ use Prim.Native.Nat.{ℕ}
 use mathlib.Core.Path.{_≡_, refl, sym, ap, _∙_}
 use mathlib.Core.Bool.{Bool, true, false, not, true≢false}
 use mathlib.Core.List.{List}
-use mathlib.Core.Logic.{_↔_}
 use native.Mathlib.Omega.{arith}
 use lib.ListN.{length}
 use borrow.Author.Tests.{eq-eqb, ne-eqb, eqb-true}
 use Rattle.refusals.specs.declared.Refusal.{Refusal}
 use Rattle.refusals.specs.declared.Verdict.{Verdict}
 use Rattle.refusals.specs.declared.Verdict.the-variants as verdict
-use Rattle.lists.specs.Vocabulary.{nth}
-use Rattle.strand.specs.Strands.{lettersMatch, Inside}
-use Rattle.refusals.specs.Rules.{refusal}
-use Rattle.strand.specs.StrandRules.{pairVerdict}
+use Rattle.lists.specs.Vocabulary.{nth, choose}
+use Rattle.strand.specs.Strands.{lettersMatch, Inside, pairVerdict}
+use Rattle.refusals.specs.Rules.{noSide, refusal, Refuses}
 use Rattle.lists.proofs.ListLaws.{not-not, choose-yes, choose-no}
 use Rattle.refusals.proofs.RuleLaws.{first-one, first-pass, first-skip, first-stop, rule-yes, rule-no, rule-pass, by-refused, by-accepted}
-use Rattle.strand.proofs.VerdictLaws.{pair-proper}
+use Rattle.refusals.proofs.Refusing.{Numbering, call-number, if-numbered, none-numbered, first-numbered, refuses-by}
+use Rattle.strand.proofs.VerdictLaws.{pair-proper, proper-pair, pair-numbered}
 use Rattle.embedding.specs.declared.Verified.the-variants.{Yes, No, Refused}
 use Rattle.embedding.specs.Embedding.{lettersFit, Emb}
-use Rattle.embedding.specs.Longest.{verified}
-use Rattle.embedding.specs.Verify.{verifyVerdict, verifyAnswer}
+use Rattle.embedding.specs.Longest.{verified, verifyVerdict, verifyAnswer, VerifySays, VerifyAccepts}
 use Rattle.embedding.proofs.Answers.{not-true-is}
 use Rattle.embedding.proofs.Computed.{verified-iff}
 
@@ -66,15 +64,15 @@ module _ (p pm q qm v : List ℕ) where
     pub answer-no : (Emb (lettersFit p q) (nth pm) (nth qm) 0 (length p) 0 (length q) (nth v) → ⊥) → No ≡ verifyAnswer p pm q qm v
     answer-no n = sym (by-accepted _ _ _ e ∙ choose-no _ _ _ (not-true-is _ (λ t. n (verified-iff lettersMatch p pm q qm v .0 t .1))))
 
-  -- Yes exactly when both strands are accepted and the places are an embedding of the whole P.
+  -- Yes exactly when the call is accepted and the places are an embedding of the whole P.
   yes-facts : verifyAnswer p pm q qm v ≡ Yes
-      → (pairVerdict p pm q qm ≡ verdict.Accepted) × (length v ≡ length p) × Emb (lettersFit p q) (nth pm) (nth qm) 0 (length p) 0 (length q) (nth v)
+      → (verifyVerdict p pm q qm v ≡ verdict.Accepted) × Emb (lettersFit p q) (nth pm) (nth qm) 0 (length p) 0 (length q) (nth v)
   yes-facts a = go (verifyVerdict p pm q qm v) refl
     where
       go : (w : Verdict) → verifyVerdict p pm q qm v ≡ w
-          → (pairVerdict p pm q qm ≡ verdict.Accepted) × (length v ≡ length p) × Emb (lettersFit p q) (nth pm) (nth qm) 0 (length p) 0 (length q) (nth v)
+          → (verifyVerdict p pm q qm v ≡ verdict.Accepted) × Emb (lettersFit p q) (nth pm) (nth qm) 0 (length p) 0 (length q) (nth v)
       go (verdict.Refused x) e = absurd (let z = answer-refused x e ∙ a in let y : _≡_ {A = ℕ} 0 1 = cc in omega arith)
-      go verdict.Accepted e = (accepted-pair e, accepted-count e, test (verified lettersMatch p pm q qm v) refl)
+      go verdict.Accepted e = (e, test (verified lettersMatch p pm q qm v) refl)
         where
           test : (b : Bool) → verified lettersMatch p pm q qm v ≡ b → Emb (lettersFit p q) (nth pm) (nth qm) 0 (length p) 0 (length q) (nth v)
           test true t = verified-iff lettersMatch p pm q qm v .0 t .1
@@ -82,6 +80,26 @@ module _ (p pm q qm v : List ℕ) where
               absurd (let z = answer-no e (λ E. true≢false (sym (verified-iff lettersMatch p pm q qm v .1 (accepted-count e, E)) ∙ t)) ∙ a in
               let y : _≡_ {A = ℕ} 0 1 = cc in omega arith)
 
-  pub verify-yes : (verifyAnswer p pm q qm v ≡ Yes)
-      ↔ ((pairVerdict p pm q qm ≡ verdict.Accepted) × (length v ≡ length p) × Emb (lettersFit p q) (nth pm) (nth qm) 0 (length p) 0 (length q) (nth v))
-  verify-yes = (yes-facts, λ h. sym (answer-yes (sym (judged-pass (h .0) (h .1))) (h .2)))
+  pub verify-says : VerifySays p pm q qm v (verifyAnswer p pm q qm v)
+  verify-says = (yes-facts, λ h. sym (answer-yes (h .0) (h .1)))
+
+  pub verify-accepts : VerifyAccepts p pm q qm v
+  verify-accepts = (
+    (λ e. (pair-proper p pm q qm (accepted-pair e), accepted-count e)),
+    (λ h. sym (judged-pass (proper-pair p pm q qm (h .0)) (h .1))),
+  )
+
+  verify-numbered : Numbering (verifyVerdict p pm q qm v)
+  unfolding verifyVerdict
+  verify-numbered =
+      first-numbered _ _ (pair-numbered p pm q qm)
+      (first-numbered _ _ (if-numbered 9 noSide (call-number 9 0 (omega arith) (omega arith) (λ n. refl)) _) none-numbered)
+
+  -- It tells a refusal exactly where the rules refuse.
+  pub verify-refuses : Refuses (verifyVerdict p pm q qm v) Refused (verifyAnswer p pm q qm v)
+  verify-refuses =
+      refuses-by (verifyVerdict p pm q qm v) Refused _ (λ r. r) Refused (λ r. refl) (apart (verified lettersMatch p pm q qm v)) verify-numbered (λ r s e. cc)
+    where
+      apart : (b : Bool) (r : Refusal) → choose b Yes No ≡ Refused r → ⊥
+      apart true r e = let z = sym (choose-yes true Yes No refl) ∙ e in let y : _≡_ {A = ℕ} 0 1 = cc in omega arith
+      apart false r e = let z = sym (choose-no false Yes No refl) ∙ e in let y : _≡_ {A = ℕ} 0 1 = cc in omega arith

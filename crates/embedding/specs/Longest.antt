@@ -1,11 +1,19 @@
--- The length L as brute force, every list of places being tried; and the test of given places.
+-- The length L as brute force, every list of places being tried; the test of given places, and the call verify.
 use Prim.Native.Nat.{ℕ}
-use mathlib.Core.Bool.{Bool, _&&_, Bool·beq}
-use mathlib.Core.List.{List}
+use mathlib.Core.Bool.{Bool, _&&_, Bool·beq, not}
+use mathlib.Core.Path.{_≡_}
+use mathlib.Core.Logic.{_↔_}
+use mathlib.Core.List.{List, [], _∷_}
 use lib.Dec.{ltb, eqb}
 use lib.ListN.{length}
-use Rattle.lists.specs.Vocabulary.{nth, every, someList, largest}
-use Rattle.embedding.specs.Embedding.{fits}
+use Rattle.lists.specs.Vocabulary.{nth, every, someList, largest, choose}
+use Rattle.embedding.specs.Embedding.{fits, lettersFit, Emb}
+use Rattle.refusals.specs.declared.Verdict.{Verdict}
+use Rattle.refusals.specs.declared.Verdict.the-variants.{Accepted}
+use Rattle.refusals.specs.Rules.{noSide, wrongSlice, refuseIf, first, byVerdict}
+use Rattle.strand.specs.Strands.{Strand, lettersMatch, pairVerdict, Pair}
+use Rattle.embedding.specs.declared.Verified.{Verified}
+use Rattle.embedding.specs.declared.Verified.the-variants.{Yes, No, Refused}
 
 -- 01, Embedding: the places v embed the first k bases of P in a Q of n bases. Each y below k: its place is in Q, its letter fits, and for
 -- each x below y the places rise, and x and y are an arc exactly when their places are.
@@ -32,3 +40,24 @@ longest rule pb pm qb qm = largest (length pb) (prefixOk (fits rule pb qb) (nth 
 -- 01, Verify: the places v, as many as P has bases, are an embedding of the whole P.
 unfoldable pub verified : (ℕ → ℕ → Bool) → List ℕ → List ℕ → List ℕ → List ℕ → List ℕ → Bool
 verified rule pb pm qb qm v = eqb (length v) (length pb) && placesOk (fits rule pb qb) (nth pm) (nth qm) (length qb) (length pb) v
+
+-- 01, Refused inputs: the motif, the molecule, then 9 where the places are not as many as the motif's bases.
+unfoldable pub verifyVerdict : List ℕ → List ℕ → List ℕ → List ℕ → List ℕ → Verdict
+verifyVerdict p pm q qm v = first (pairVerdict p pm q qm ∷ refuseIf wrongSlice noSide (not (eqb (length v) (length p))) ∷ [])
+
+-- 01, Verify: unless it is refused, yes exactly when the places are an embedding of the whole P.
+abbrev pub verifyAnswer : List ℕ → List ℕ → List ℕ → List ℕ → List ℕ → Verified
+verifyAnswer p pm q qm v = byVerdict (verifyVerdict p pm q qm v) Refused (choose (verified lettersMatch p pm q qm v) Yes No)
+
+-- 01, Verify: the answer r is "yes exactly when the lent places are an embedding of the whole P", and the call is accepted.
+abbrev pub VerifySays : List ℕ → List ℕ → List ℕ → List ℕ → List ℕ → Verified → Type 0
+VerifySays p pm q qm v r =
+    (r ≡ Yes) ↔ ((verifyVerdict p pm q qm v ≡ Accepted) × Emb (lettersFit p q) (nth pm) (nth qm) 0 (length p) 0 (length q) (nth v))
+
+-- It is accepted exactly where no rule applies.
+abbrev pub VerifyAccepts : List ℕ → List ℕ → List ℕ → List ℕ → List ℕ → Type 0
+VerifyAccepts p pm q qm v = (verifyVerdict p pm q qm v ≡ Accepted) ↔ (Pair p pm q qm × (length v ≡ length p))
+
+-- 01: L = m exactly when P embeds. This is the test of a query; `EmbedsIn` is the relation that it decides (`Decides`, in history).
+unfoldable pub embeds : Strand → Strand → Bool
+embeds p q = eqb (longest lettersMatch (p .bases) (p .mates) (q .bases) (q .mates)) (length (p .bases))

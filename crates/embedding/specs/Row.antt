@@ -21,12 +21,12 @@ pub record Reach (fit : ℕ → ℕ → Bool) (pm qm : ℕ → ℕ) (m j k s e :
   pub closed : Closed pm j k
   pub embeds : Embeds fit pm qm j k s e
 
--- k is the largest end reached from j.
+-- k is the largest end reached from j (003: γ).
 pub record Best (fit : ℕ → ℕ → Bool) (pm qm : ℕ → ℕ) (m j k s e : ℕ) : Type 0 where
   pub reach : Reach fit pm qm m j k s e
   pub most : (k′ : ℕ) → Reach fit pm qm m j k′ s e → k′ ≤ k
 
--- The row of Q[s..e) for the starts from lo to z in the window P[lo..z).
+-- The row (003: the Γ sequence) of Q[s..e) for the starts from lo to z in the window P[lo..z).
 pub record IsRow (fit : ℕ → ℕ → Bool) (pm qm : ℕ → ℕ) (lo z s e : ℕ) (row : ℕ → ℕ) : Type 0 where
   pub best : (j : ℕ) → lo ≤ j → j ≤ z → Best fit pm qm z j (row j) s e
 

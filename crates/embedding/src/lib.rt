@@ -5,7 +5,7 @@ use refusals::Refusal;
 use refusals::Verdict;
 use refusals::numbers;
 ghost use mathlib.Core.Path.{_≡_};
-ghost use Rattle.embedding.specs.Verify.{verifyVerdict, verifyAnswer};
+ghost use Rattle.embedding.specs.Longest.{verifyVerdict, verifyAnswer};
 
 // The answer of verify.
 pub enum Verified {

@@ -9,32 +9,35 @@ use lib.ListN.{length, replicate, set, length-replicate, length-set}
 use lib.Seq.{length-sets, getD-set-same}
 use Rattle.lists.specs.Vocabulary.{nth, choose, some, lowestFrom, lowest}
 use Rattle.refusals.specs.Rules.{noSide, refusal, first, refuseIf, refuseAtLowest}
-use Rattle.strand.specs.Strands.{isLetter, notLetter, mateOutside, notMutual, crosses, crossedAt}
-use Rattle.strand.specs.StrandRules.{strandVerdict}
+use Rattle.strand.specs.Strands.{isLetter, notLetter, mateOutside, notMutual, crosses, crossedAt, strandVerdict}
 use Rattle.refusals.specs.declared.Verdict.the-variants.{Accepted}
 use Rattle.lists.proofs.ListLaws.{lowest-all, lowest-found}
-use Rattle.octets.specs.Numbers.{bytes32}
-use Rattle.block.specs.Checksum.{blockSize, checksumAt, checksumOf, rechecked}
-use Rattle.block.specs.Block.{blockOf, soundMolecule, blockCount}
-use Rattle.buffer.specs.Buffer.{putBlock}
-use Rattle.block.specs.Content.{emptyBlock, encodeMolecule}
+use Rattle.octets.specs.Octets.{bytes32}
+use Rattle.block.specs.Content.{blockSize, checksumAt, checksumOf, rechecked, emptyBlock, encodeMolecule}
+use Rattle.block.specs.Block.{blockOf, soundMolecule, blockCount, putBlock}
 use Rattle.block.proofs.ContentLaws.{other-first}
-use Rattle.calls.specs.Limits.{moleculeVerdict}
-use Rattle.calls.specs.Motifs.{embeds}
-use Rattle.calls.specs.Buffers.{unsoundAt, buffersVerdict}
-use Rattle.calls.specs.Results.{refused, refusedBy}
+use Rattle.calls.specs.Buffers.{moleculeVerdict, unsoundAt, buffersVerdict}
+use Rattle.embedding.specs.Longest.{embeds}
+use Rattle.calls.specs.Calls.{Result, refused, refusedBy}
 use Rattle.calls.proofs.BlockUse.{empty-molecule, molecule-length}
 use Rattle.calls.proofs.ReadingLaws.{count-is, whole-is, put-length, put-block, block-zero}
 use Rattle.calls.proofs.JudgeLaws.{block-unsound, add-buffers-refused, remove-buffers-refused, query-buffers-refused}
-use Rattle.history.specs.Events.{Call, add, remove, query, call}
-use Rattle.history.specs.History.{zeroed, bytesResult, bytesLog, AllRefused}
-use Rattle.history.proofs.Follows.{bytesVerdict, bytes-refused}
+use Rattle.history.specs.Model.{Call, add, remove, query, call, Line, gave}
+use Rattle.history.specs.History.{Buffers, zeroed, Ran}
+use Rattle.history.specs.Statements.{AllRefused}
+use Rattle.history.proofs.Bytes.{bytesVerdict, bytesResult, bytesLog, bytes-refused}
+use Rattle.history.proofs.Runs.{ran-log, bytes-run}
 use Rattle.history.proofs.Theorem.{not-whole}
 use Rattle.examples.specs.Table.{a, uneven, nine, unsound}
 
-pub uneven-refused : (c : Call) → bytesResult embeds uneven c ≡ refused 10 noSide 0
+-- What a call comes to on the bytes, it comes to in every run of it.
+by-run : (β : Buffers) (c : Call) (r : Result) → bytesResult embeds β c ≡ r → (log : List Line) → Ran embeds β (call c ∷ []) log → log ≡ gave c r ∷ []
+unfolding bytesLog
+by-run β c r e log ran = ran-log embeds ran ∙ ap (λ (x : Result). gave c x ∷ []) e
+
+pub uneven-refused : (c : Call) (log : List Line) → Ran embeds uneven (call c ∷ []) log → log ≡ gave c (refused 10 noSide 0) ∷ []
 unfolding bytesLog AllRefused
-uneven-refused c = not-whole (call c ∷ []) uneven (inr odd) .0
+uneven-refused c = by-run uneven c _ (not-whole (call c ∷ []) uneven _ (inr odd) (bytes-run embeds uneven (call c ∷ [])) .0)
   where
     odd : length (replicate {A = ℕ} 513 0) % blockSize ≡ 0 → ⊥
     odd e = omega (arith, length-replicate {A = ℕ} 513 0)
@@ -114,9 +117,9 @@ buffers =
     (whole-is 64 1 (replicate blockSize 0) (length-replicate {A = ℕ} blockSize 0)) 1 place
     (omega (arith, count-is two 3 two-length)))
 
-pub unsound-refused : (c : Call) → bytesResult embeds unsound c ≡ refused 11 noSide 1
+pub unsound-refused : (c : Call) (log : List Line) → Ran embeds unsound (call c ∷ []) log → log ≡ gave c (refused 11 noSide 1) ∷ []
 unfolding refusedBy
-unsound-refused c = bytes-refused embeds unsound c _ (verdict c) .0
+unsound-refused c = by-run unsound c _ (bytes-refused embeds unsound c _ (verdict c) .0)
   where
     verdict : (c : Call) → bytesVerdict unsound c ≡ refusal 11 noSide 1
     verdict (add d q) = unfold bytesVerdict zeroed two one zeros in (sym (add-buffers-refused two (replicate blockSize 0) d q _ buffers))

@@ -1,28 +1,26 @@
 -- The theorem of 01's examples: every row of the table holds.
-use mathlib.Core.Path.{_≡_, refl}
-use mathlib.Core.Bool.{true}
+use mathlib.Core.Path.{refl}
 use mathlib.Core.List.{List, [], _∷_, _++_}
-use Rattle.lists.specs.Vocabulary.{choose, every, some, lowestFrom, lowest, largest, tab, someList, sameList}
-use Rattle.strand.specs.Strands.{lettersMatch, isLetter, notLetter, mateOutside, notMutual, crosses, crossedAt}
+use Rattle.lists.specs.Vocabulary.{choose, every, some, lowestFrom, lowest, largest, tab, someList, putAt}
+use Rattle.strand.specs.Strands.{lettersMatch, isLetter, notLetter, mateOutside, notMutual, crosses, crossedAt, strandVerdict, checkVerdict, checkAnswer}
+use Rattle.strand.specs.Strands.{pairVerdict}
 use Rattle.refusals.specs.Rules.{first, refuseIf, refuseAtLowest, byVerdict}
-use Rattle.strand.specs.StrandRules.{strandVerdict, checkVerdict, checkAnswer, pairVerdict}
-use Rattle.lists.proofs.ListLaws.{and-true}
 use Rattle.embedding.specs.Longest.{longest, prefixOk, closedTo, placesOk, verified}
-use Rattle.embedding.specs.Verify as verify
+use Rattle.embedding.specs.Longest as verify
 use Rattle.embedding.specs.Examples.{exampleOk, examples}
 use Rattle.matcher.specs.Answers as matcher
 use Rattle.block.proofs.Examples.{checksum-of-A}
-use Rattle.calls.specs.Limits.{inRange, moleculeVerdict, motifVerdict, workVerdict}
-use Rattle.calls.specs.Holdings.{isHeld, putAt}
-use Rattle.calls.specs.Results.{refusedBy, numbersOf}
-use Rattle.history.specs.Events.{add, remove, endsPeriod}
-use Rattle.history.specs.Model.{start, heldIn, modelVerdict, modelAnswer, modelNext, modelResult, modelAfter, modelLog}
+use Rattle.calls.specs.Buffers.{inRange, moleculeVerdict, motifVerdict, workVerdict, isHeld}
+use Rattle.calls.specs.Calls.{refusedBy}
+use Rattle.history.specs.Model.{add, remove, endsPeriod, start, heldIn, modelVerdict, modelAnswer, modelNext, modelResult, modelAfter, modelLog}
 use Rattle.history.specs.History.{atMostOnce, admittedFrom, admitted}
-use Rattle.history.specs.Examples.{Story, resultsOf, sameResult, sameResults, storyOk, storiesOk, stories, bonded, ask, settledStory, reusedStory}
+use Rattle.history.specs.Examples.{Story, resultsOf, ByModel, AllByModel, stories, bonded, ask, settledStory, reusedStory}
+use Rattle.history.specs.Examples.{sharedSlotStory}
 use Rattle.history.proofs.Computed as computed
-use Rattle.history.proofs.Stories.{on-bytes}
+use Rattle.history.proofs.Stories.{by-runs}
 use Rattle.examples.specs.Table.{Row, story, screenText, VerifiedAt, Holds, AllHold, a, screenInput, screenPrints, longMotif, fewHits, numberTwo}
-use Rattle.examples.specs.Table.{addedTwice, removedEmpty, refusals, settledRows, also, table}
+use Rattle.examples.specs.Table.{addedTwice, removedEmpty, refusals, settledRows, also, table, TableHolds}
+use Rattle.examples.proofs.BlockRows.{a-bytes, gc-bytes, entry-bytes}
 use Rattle.examples.proofs.BufferRows.{uneven-refused, unsound-refused}
 use Rattle.examples.proofs.ScreenRow.{screen-prints}
 
@@ -31,17 +29,17 @@ infixr 20 _&_
 _&_ : {A B : Type 0} → A → B → A × B
 x & y = (x, y)
 
--- A story that holds on the model holds on the bytes.
-by-model : (t : Story) → storyOk t ≡ true → Holds (story t)
+-- A story that holds on the model holds of every run.
+by-model : (t : Story) → ByModel t → Holds (story t)
 unfolding Holds
-by-model t ok = (ok, on-bytes t ok)
+by-model t m = (m, by-runs t m)
 
-stories-ok : (storyOk longMotif ≡ true) × (storyOk fewHits ≡ true) × (storyOk numberTwo ≡ true) × (storyOk addedTwice ≡ true) × (storyOk removedEmpty ≡ true)
-unfolding longMotif fewHits numberTwo addedTwice removedEmpty storyOk admitted admittedFrom atMostOnce modelLog resultsOf sameResults sameResult choose every
+stories-ok : ByModel longMotif × ByModel fewHits × ByModel numberTwo × ByModel addedTwice × ByModel removedEmpty
+unfolding longMotif fewHits numberTwo addedTwice removedEmpty admitted admittedFrom atMostOnce modelLog resultsOf choose every
     some lowestFrom lowest tab first refuseIf refuseAtLowest strandVerdict isLetter notLetter mateOutside notMutual crosses crossedAt moleculeVerdict
-    motifVerdict workVerdict refusedBy byVerdict endsPeriod numbersOf sameList modelResult modelAfter start putAt isHeld heldIn inRange modelVerdict modelAnswer
+    motifVerdict workVerdict refusedBy byVerdict endsPeriod modelResult modelAfter start putAt isHeld heldIn inRange modelVerdict modelAnswer
     modelNext
-stories-ok = (refl, refl, refl, refl, refl)
+stories-ok = ((refl, refl), (refl, refl), (refl, refl), (refl, refl), (refl, refl))
 
 refusals-hold : AllHold refusals
 unfolding refusals AllHold Holds checkVerdict checkAnswer motifVerdict matcher.lengthVerdict matcher.lengthAnswer matcher.showVerdict matcher.showAnswer
@@ -89,16 +87,24 @@ settled-hold =
     & (refl, refl, refl, tt)
     & tt
 
--- 01's own stories among those of crate history.
-own-stories : (storyOk settledStory ≡ true) × (storyOk reusedStory ≡ true)
-unfolding storiesOk stories
-own-stories =
-    let s = and-true (storyOk settledStory) _ computed.settled in
-    (s .0, and-true (storyOk reusedStory) _ (s .1) .0)
+-- The table's stories among those of crate history.
+own-stories : ByModel settledStory × ByModel reusedStory × ByModel sharedSlotStory
+unfolding AllByModel stories
+own-stories = (computed.settled .0, computed.settled .1 .0, computed.settled .1 .1 .0)
 
 also-hold : AllHold also
 unfolding also AllHold Holds
-also-hold = checksum-of-A & computed.keys .0 & computed.keys .1 & by-model settledStory (own-stories .0) & by-model reusedStory (own-stories .1) & tt
+also-hold =
+    checksum-of-A
+    & a-bytes
+    & gc-bytes
+    & entry-bytes
+    & computed.keys .0
+    & computed.keys .1
+    & by-model settledStory (own-stories .0)
+    & by-model reusedStory (own-stories .1)
+    & by-model sharedSlotStory (own-stories .2)
+    & tt
 
 both : (rs ss : List Row) → AllHold rs → AllHold ss → AllHold (rs ++ ss)
 unfolding AllHold
@@ -109,6 +115,6 @@ screen-hold : AllHold (screenText screenInput screenPrints ∷ settledRows examp
 unfolding AllHold Holds
 screen-hold = (screen-prints, settled-hold)
 
-pub holds : AllHold table
+pub holds : TableHolds
 unfolding table
 holds = both _ also (both refusals _ refusals-hold screen-hold) also-hold

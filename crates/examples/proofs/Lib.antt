@@ -1,3 +1,4 @@
+pub mod BlockRows
 pub mod BufferRows
 pub mod ScreenRow
 pub mod Holds

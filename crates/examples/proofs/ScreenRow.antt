@@ -4,27 +4,23 @@ use native.Mathlib.Omega.{arith}
 use mathlib.Core.Path.{_≡_, refl, sym, ap, ap₂, _∙_}
 use mathlib.Core.Bool.{true, not}
 use mathlib.Core.List.{List, [], _∷_, _++_}
+use mathlib.Core.Option.{none as vacant}
 use lib.Dec.{leb}
 use borrow.Author.Tests.{le-leb}
 use lib.ListN.{length, take, drop, replicate, length-append, length-replicate}
 use lib.Seq.{take-at, drop-at, take-all}
-use Rattle.lists.specs.Vocabulary.{choose, every, some, lowestFrom, lowest, largest, select, someList, total, sameList}
+use Rattle.lists.specs.Vocabulary.{choose, every, some, lowestFrom, lowest, largest, select, someList, total, sameList, putAt}
 use Rattle.strand.specs.Strands.{Strand, Proper, sameStrand, key, lettersMatch, isLetter, notLetter, mateOutside, notMutual, crosses, crossedAt}
+use Rattle.strand.specs.Strands.{strandVerdict, leastMotif}
 use Rattle.refusals.specs.Rules.{motifSide, noSide, notWholeBlocks, numberTooLarge, alreadyHeld, first, refuseIf, refuseAtLowest, byVerdict}
-use Rattle.strand.specs.StrandRules.{strandVerdict, leastMotif}
 use Rattle.refusals.specs.declared.Verdict.the-variants.{Accepted}
-use Rattle.embedding.specs.Longest.{longest, prefixOk, closedTo, placesOk}
-use Rattle.block.specs.Checksum.{blockSize}
-use Rattle.block.specs.Block.{holdsMotif, cleaned, blockCount}
-use Rattle.buffer.specs.Buffer.{putBlock}
-use Rattle.block.specs.Content.{blockBases, emptyBlock, motifHandedIn, encodeMolecule, encodeMotif}
-use Rattle.calls.specs.Limits.{inRange, moleculeVerdict, motifVerdict, workVerdict}
-use Rattle.calls.specs.Holdings.{vacant, isHeld, putAt}
-use Rattle.calls.specs.Motifs.{embeds}
-use Rattle.calls.specs.Buffers.{slotOf, cleanCache}
-use Rattle.calls.specs.Calls.{Effect, QueryEffect, addVerdict, queryOutcome}
+use Rattle.embedding.specs.Longest.{longest, prefixOk, closedTo, placesOk, embeds}
+use Rattle.block.specs.Content.{blockSize, blockBases, emptyBlock, encodeMolecule}
+use Rattle.block.specs.Motif.{holdsMotif, motifHandedIn, encodeMotif}
+use Rattle.block.specs.Block.{cleaned, blockCount, putBlock}
+use Rattle.calls.specs.Buffers.{inRange, moleculeVerdict, motifVerdict, workVerdict, isHeld, slotOf, cleanCache}
+use Rattle.calls.specs.Calls.{Effect, QueryEffect, addVerdict, queryOutcome, Result, done, found, refusedBy, queryResult}
 use Rattle.calls.specs.declared.Added.{Added}
-use Rattle.calls.specs.Results.{Result, done, found, refusedBy, numbersOf, queryResult}
 use Rattle.calls.specs.declared.Queried.{Queried}
 use Rattle.calls.specs.declared.Queried.the-variants.{Hits, Refused}
 use Rattle.calls.proofs.BlockUse.{empty-length, empty-entry, molecule-length, sound-clean}
@@ -33,12 +29,13 @@ use Rattle.strand.proofs.VerdictLaws.{accepted-proper}
 use Rattle.calls.proofs.ReadingLaws.{clean-length, clean-block, block-zero}
 use Rattle.calls.proofs.CallLaws.{add-does}
 use Rattle.calls.proofs.Stores.{stores-zeroed, add-judged}
-use Rattle.history.specs.Events.{Event, add, query, call, endsPeriod}
-use Rattle.history.specs.Model.{start, heldIn, knownIn, modelVerdict, embedsAt, hitList, searchList, asked as afterQuery, modelAnswer, modelNext, modelResult}
-use Rattle.history.specs.Model.{modelAfter, modelLog}
-use Rattle.history.specs.History.{zeroed, bytesResult, bytesNext, bytesLog, atMostOnce, admittedFrom, admitted}
-use Rattle.history.specs.Examples.{Story, resultsOf, sameResult, sameResults, storyOk}
-use Rattle.history.proofs.Stories.{on-bytes}
+use Rattle.history.specs.Model.{Event, add, query, call, endsPeriod, start, heldIn, knownIn, modelVerdict, embedsAt, hitList, searchList}
+use Rattle.history.specs.Model.{asked as afterQuery, modelAnswer, modelNext, modelResult, modelAfter, modelLog}
+use Rattle.history.specs.History.{zeroed, atMostOnce, admittedFrom, admitted}
+use Rattle.history.proofs.Bytes.{bytesResult, bytesNext, bytesLog}
+use Rattle.history.proofs.Runs.{bytes-run}
+use Rattle.history.specs.Examples.{Story, resultsOf, ByModel}
+use Rattle.history.proofs.Stories.{by-runs}
 use Rattle.screening.specs.Text.{digitsIn, digits, spaced, line, lines, hitsText}
 use Rattle.screening.specs.Screen.{mostScreened, isInput, firstBlock, catalogIn, screenWork, answerText, effectText, screenQuery, screenOutput}
 use Rattle.screening.proofs.ScreenLaws.{input-by-most, output-answer}
@@ -104,12 +101,12 @@ asking = call (query a screenWork hits)
 screenStory : Story
 screenStory = record { blocks = 2; slots = 1; events = adding ∷ asking ∷ []; results = done ∷ found 1 (0 ∷ []) 1 ∷ [] }
 
-screen-story-ok : storyOk screenStory ≡ true
-unfolding screenStory adding asking hits storyOk admitted admittedFrom atMostOnce modelLog resultsOf sameResults sameResult embeds longest largest prefixOk
+screen-story-ok : ByModel screenStory
+unfolding screenStory adding asking hits admitted admittedFrom atMostOnce modelLog resultsOf embeds longest largest prefixOk
     closedTo placesOk lettersMatch choose every some lowestFrom lowest select someList total sameList sameStrand key first refuseIf refuseAtLowest strandVerdict
-    isLetter notLetter mateOutside notMutual crosses crossedAt moleculeVerdict motifVerdict workVerdict slotOf refusedBy byVerdict endsPeriod numbersOf
+    isLetter notLetter mateOutside notMutual crosses crossedAt moleculeVerdict motifVerdict workVerdict slotOf refusedBy byVerdict endsPeriod
     modelResult modelAfter afterQuery start putAt isHeld heldIn knownIn inRange modelVerdict embedsAt hitList searchList modelAnswer modelNext
-screen-story-ok = refl
+screen-story-ok = (refl, refl)
 
 -- ---- what add leaves
 
@@ -160,7 +157,8 @@ unfolding asked
 asked-found =
     ap₂ (λ (u v : List ℕ). queryResult (queryOutcome embeds u v a screenWork hits .answer) (queryOutcome embeds u v a screenWork hits .hits))
     (sym left-catalog) (sym left-cache)
-    ∙ (unfold second resultsOf bytesLog bytesResult adding asking screenStory in (ap second (on-bytes screenStory screen-story-ok)))
+    ∙ (unfold second resultsOf bytesLog bytesResult adding asking screenStory in
+    (ap second (by-runs screenStory screen-story-ok _ (bytes-run embeds (zeroed 2 1) (adding ∷ asking ∷ [])))))
 
 same-query : screenQuery embeds input screenWork (replicate mostScreened 0) ≡ asked
 unfolding screenQuery asked hits

@@ -1,36 +1,34 @@
 -- All of 01's examples, in its order: the small examples of the table of refusals, row 8's with 136 entries, the printed example of the
--- screen program, the nine rows of the table of settled examples, the check 1888, the keys 139, the story with B = 2 and S = 1, and the
--- last of the plausible and false ways, a number used again (the others are in rows 6, 3, 7 and in the story). Each is a row of `table`,
--- and `holds`, in proofs/Holds, proves them all by the definitions that the contracts of the calls cite.
+-- screen program, the nine rows of the table of settled examples, the check 1888, three blocks byte by byte, the keys 139, the story with
+-- B = 2 and S = 1, the last of the plausible and false ways, a number used again (the others are in rows 6, 3, 7 and in the story), and a
+-- story with S = 2. Each is a row of `table`; that they all hold is `TableHolds`, and `holds`, in proofs/Holds, proves it by the definitions that the
+-- contracts of the calls cite.
 use Prim.Native.Nat.{ℕ}
 use mathlib.Core.Path.{_≡_}
-use mathlib.Core.Bool.{true}
+use mathlib.Core.Bool.{Bool, true, _||_}
 use mathlib.Core.List.{List, [], _∷_, _++_}
+use lib.Dec.{eqb}
 use lib.ListN.{length, replicate, set}
 use Rattle.refusals.specs.declared.Refusal.{Refusal}
 use Rattle.lists.specs.Vocabulary.{tab}
-use Rattle.strand.specs.Strands.{Strand, strandOf, key}
-use Rattle.refusals.specs.Rules.{motifSide, moleculeSide, noSide, refusal}
+use Rattle.strand.specs.Strands.{Strand, strandOf, key, checkAnswer}
+use Rattle.refusals.specs.Rules.{motifSide, moleculeSide, noSide, refusal, workSize}
 use Rattle.strand.specs.declared.Checked.the-variants as checked
-use Rattle.strand.specs.StrandRules.{checkAnswer}
 use Rattle.embedding.specs.declared.Verified.{Verified}
 use Rattle.embedding.specs.declared.Verified.the-variants as verified
-use Rattle.embedding.specs.Verify.{verifyAnswer}
+use Rattle.embedding.specs.Longest.{verifyAnswer, embeds}
 use Rattle.embedding.specs.Examples.{Example, exampleOk, examples}
 use Rattle.matcher.specs.declared.Matched.{Matched}
 use Rattle.matcher.specs.declared.Matched.the-variants as matched
-use Rattle.refusals.specs.Work.{workSize}
 use Rattle.matcher.specs.Answers.{lengthAnswer, showAnswer}
-use Rattle.octets.specs.Numbers.{word32}
-use Rattle.block.specs.Checksum.{blockSize, checksumAt, rechecked}
-use Rattle.block.specs.Content.{emptyBlock, encodeMolecule}
-use Rattle.buffer.specs.Buffer.{putBlock}
-use Rattle.calls.specs.Limits.{motifVerdict}
-use Rattle.calls.specs.Motifs.{embeds}
-use Rattle.calls.specs.Results.{Result, refused, done}
-use Rattle.history.specs.Events.{Call, add, remove, query, Event, call}
-use Rattle.history.specs.History.{Buffers, zeroed, bytesResult}
-use Rattle.history.specs.Examples.{Story, storyOk, OnBytes, gac, bonded, unbonded, ask, settledStory, reusedStory}
+use Rattle.octets.specs.Octets.{word32}
+use Rattle.block.specs.Content.{blockSize, checksumAt, rechecked, emptyBlock, encodeMolecule, encodeEntry}
+use Rattle.block.specs.Block.{putBlock}
+use Rattle.calls.specs.Buffers.{motifVerdict}
+use Rattle.calls.specs.Calls.{Result, refused, done}
+use Rattle.history.specs.Model.{Call, add, remove, query, Event, call, Line, gave}
+use Rattle.history.specs.History.{Buffers, zeroed, Ran}
+use Rattle.history.specs.Examples.{Story, ByModel, ByRuns, gac, bonded, unbonded, ask, settledStory, reusedStory, sharedSlotStory}
 use Rattle.screening.specs.Screen.{screenOutput}
 
 -- The kinds of example, each with what it should come to.
@@ -51,6 +49,8 @@ pub data Row : Type 0 where
   settledRow : Example → Row
   -- the checksum (01: check) in the block of a molecule
   checksumRow : Strand → ℕ → Row
+  -- a block, and all its bytes
+  blockBytes : (block bytes : List ℕ) → Row
   -- the key of a motif
   keyRow : Strand → ℕ → Row
 
@@ -68,9 +68,10 @@ Holds (refusedStrand q number place) =
 Holds (lengthCall p q work answer) = lengthAnswer (p .bases) (p .mates) (q .bases) (q .mates) work ≡ answer
 Holds (showCall p q places work answer) = showAnswer (p .bases) (p .mates) (q .bases) (q .mates) places work ≡ answer
 Holds (verifyCall p q places answer) = verifyAnswer (p .bases) (p .mates) (q .bases) (q .mates) places ≡ answer
-Holds (bufferCall buffers c result) = bytesResult embeds buffers c ≡ result
--- on the model, and on the bytes
-Holds (story t) = (storyOk t ≡ true) × OnBytes t
+-- of every run of the call on these buffers
+Holds (bufferCall buffers c result) = (log : List Line) → Ran embeds buffers (call c ∷ []) log → log ≡ gave c result ∷ []
+-- by the model, and by every run
+Holds (story t) = ByModel t × ByRuns t
 Holds (screenText input text) = screenOutput embeds input ≡ text
 -- by longest and verified, and by the calls length and show, with the least slices, and verify
 Holds (settledRow e) =
@@ -79,6 +80,7 @@ Holds (settledRow e) =
     × (showAnswer (e .pb) (e .pm) (e .qb) (e .qm) (length (e .pb)) (workSize (length (e .pb)) (length (e .qb))) ≡ matched.Prefix (e .best))
     × VerifiedAt e (e .places)
 Holds (checksumRow q n) = word32 (encodeMolecule q) checksumAt ≡ n
+Holds (blockBytes block bytes) = block ≡ bytes
 Holds (keyRow p n) = key p ≡ n
 
 -- Every row of a list.
@@ -139,6 +141,54 @@ screenInput = encodeMolecule a ++ (encodeMolecule a ++ emptyBlock)
 abbrev pub screenPrints : List ℕ
 screenPrints = 104 ∷ 105 ∷ 116 ∷ 115 ∷ 32 ∷ 49 ∷ 32 ∷ 115 ∷ 101 ∷ 97 ∷ 114 ∷ 99 ∷ 104 ∷ 101 ∷ 100 ∷ 32 ∷ 49 ∷ 10 ∷ 48 ∷ 10 ∷ []
 
+-- Three blocks byte by byte, written from 01's sentences, which the comments quote, and by no definition of the library.
+abbrev zeros : ℕ → List ℕ
+zeros n = replicate n 0
+
+-- The block of A, 0. Its checksum is 1888 = 96 + 256 × 7.
+unfoldable pub bytesOfA : List ℕ
+bytesOfA =
+    -- "byte 0 is 1; byte 1 the length; 2 to 27 zero"
+    (1 ∷ 1 ∷ zeros 26)
+    -- "bases from 28"
+    ++ (65 ∷ zeros 159)
+    -- "mates from 188, two bytes each"
+    ++ (0 ∷ 0 ∷ zeros 318)
+    -- "bytes 508 to 511, little-endian"
+    ++ (96 ∷ 7 ∷ 0 ∷ 0 ∷ [])
+
+-- The block of GC, 1 0. Its checksum is 4263 = 167 + 256 × 16.
+unfoldable pub bytesOfGC : List ℕ
+bytesOfGC =
+    (1 ∷ 2 ∷ zeros 26)
+    ++ (71 ∷ 67 ∷ zeros 158)
+    -- "Two-byte numbers are little-endian."
+    ++ (1 ∷ 0 ∷ 0 ∷ 0 ∷ zeros 316)
+    ++ (167 ∷ 16 ∷ 0 ∷ 0 ∷ [])
+
+-- The cache entry of GC, 1 0, with 0, 9 and 511 searched, and 9 and 511 hits. Its checksum is 127005 = 29 + 256 × 240 + 65536 × 1.
+abbrev pub wasSearched : ℕ → Bool
+wasSearched d = eqb d 0 || eqb d 9 || eqb d 511
+
+abbrev pub wasHit : ℕ → Bool
+wasHit d = eqb d 9 || eqb d 511
+
+unfoldable pub bytesOfEntry : List ℕ
+bytesOfEntry =
+    -- "byte 0 is 2; byte 1 the motif's length; 2 to 19 zero"
+    (2 ∷ 2 ∷ zeros 18)
+    -- "bases from 20"
+    ++ (71 ∷ 67 ∷ zeros 118)
+    -- "mates from 140"
+    ++ (1 ∷ 0 ∷ 0 ∷ 0 ∷ zeros 236)
+    -- "searched map 380 to 443"; "Molecule d is bit d mod 8, lowest first, of map byte d div 8."
+    ++ (1 ∷ 2 ∷ zeros 61)
+    ++ (128 ∷ [])
+    -- "hit map 444 to 507"
+    ++ (0 ∷ 2 ∷ zeros 61)
+    ++ (128 ∷ [])
+    ++ (29 ∷ 240 ∷ 1 ∷ 0 ∷ [])
+
 -- 01, Refused inputs: the small examples.
 unfoldable pub refusals : List Row
 refusals =
@@ -192,6 +242,10 @@ unfoldable pub also : List Row
 also =
     -- the block of A, 0 has check 1888
     checksumRow a 1888
+    ∷ blockBytes (encodeMolecule a) bytesOfA
+    -- a molecule block and a cache entry
+    ∷ blockBytes (encodeMolecule bonded) bytesOfGC
+    ∷ blockBytes (encodeEntry bonded wasSearched wasHit) bytesOfEntry
     -- GC with mates 1 0 and GC with mates 0 1 both have key 139
     ∷ keyRow bonded 139
     ∷ keyRow unbonded 139
@@ -199,8 +253,14 @@ also =
     ∷ story settledStory
     -- no bit is left behind when a number is removed and used again
     ∷ story reusedStory
+    -- with S = 2 two motifs share a slot, and a third has the other
+    ∷ story sharedSlotStory
     ∷ []
 
 -- All rows.
 unfoldable pub table : List Row
 table = refusals ++ (screenText screenInput screenPrints ∷ settledRows examples) ++ also
+
+-- The claim: every row of the table holds.
+abbrev pub TableHolds : Type 0
+TableHolds = AllHold table

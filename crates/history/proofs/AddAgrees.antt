@@ -5,23 +5,19 @@ use mathlib.Core.Path.{_≡_, refl, ap, _∙_}
 use mathlib.Core.Bool.{Bool, true}
 use Rattle.strand.specs.Strands.{Strand}
 use Rattle.refusals.specs.declared.Verdict.the-variants.{Accepted}
-use Rattle.calls.specs.Results.{addResult}
+use Rattle.calls.specs.Calls.{addResult}
 use Rattle.calls.proofs.ReadingLaws.{count-is}
 use Rattle.calls.proofs.Claims.{add-accepted}
-use Rattle.calls.proofs.Stores.{stores-add, add-judged}
-use Rattle.history.specs.Events.{add, endsPeriod}
-use Rattle.history.specs.Model.{State, heldIn, modelVerdict, modelAnswer, modelNext}
-use Rattle.history.specs.History.{Buffers, bytesResult, bytesNext}
+use Rattle.calls.proofs.Stores.{stores-add}
+use Rattle.history.specs.Model.{add, endsPeriod, State, modelVerdict, modelAnswer, modelNext}
+use Rattle.history.specs.History.{Buffers}
+use Rattle.history.proofs.Bytes.{bytesVerdict, bytesResult, bytesNext}
 use Rattle.history.proofs.StateLaws.{add-passed, next-ok}
 use Rattle.history.proofs.Slots.{slot-add}
-use Rattle.history.proofs.Follows.{Few, bytesVerdict, Follows, fresh, CallAgrees, by-verdict}
+use Rattle.history.proofs.Follows.{Few, Follows, fresh, CallAgrees, by-verdict}
 
 module _ (embeds : Strand → Strand → Bool) (B S : ℕ) (d : ℕ) (q : Strand) where
   module _ (β : Buffers) (σ : State) (times : ℕ → ℕ) (f : Follows embeds B S β σ times) where
-    verdict : bytesVerdict β (add d q) ≡ modelVerdict embeds B S σ (add d q)
-    unfolding bytesVerdict modelVerdict heldIn
-    verdict = add-judged (f .stored) S (β .cache) (f .sized) d q
-
     accepted : modelVerdict embeds B S σ (add d q) ≡ Accepted → bytesVerdict β (add d q) ≡ Accepted → Few S times
         → (bytesResult embeds β (add d q) ≡ modelAnswer embeds B S σ (add d q))
         × Follows embeds B S (bytesNext embeds β (add d q)) (modelNext embeds B S σ (add d q)) (λ s. 0)
@@ -43,4 +39,4 @@ module _ (embeds : Strand → Strand → Bool) (B S : ℕ) (d : ℕ) (q : Strand
   ends σ = refl
 
   pub add-agrees : CallAgrees embeds B S (add d q)
-  add-agrees β σ times f few = by-verdict embeds B S β σ times (add d q) (verdict β σ times f) (ends σ) (accepted β σ times f) f few
+  add-agrees β σ times f few = by-verdict embeds B S β σ times (add d q) (ends σ) (accepted β σ times f) f few

@@ -1,5 +1,5 @@
 -- Alterations: the bytes go on following the model.
-use Prim.Native.Nat.{ℕ, _+_, _*_, _<_, _≤_}
+use Prim.Native.Nat.{ℕ, _+_, _<_, _≤_}
 use native.Mathlib.Omega.{arith}
 use mathlib.Core.Path.{_≡_, sym, ap, _∙_}
 use mathlib.Core.Logic.{⊎-elim}
@@ -9,17 +9,17 @@ use lib.Dec.{eqb}
 use lib.ListN.{length, set, length-set}
 use lib.Seq.{set-getD}
 use borrow.Author.Tests.{eqb-true, eqb-false}
-use Rattle.lists.specs.Vocabulary.{nth}
+use Rattle.lists.specs.Vocabulary.{nth, putAt}
 use Rattle.lists.proofs.ListLaws.{by-bool}
 use Rattle.strand.specs.Strands.{Strand}
-use Rattle.block.specs.Checksum.{blockSize}
+use Rattle.block.specs.Content.{blockSize}
 use Rattle.block.specs.Block.{blockOf, soundEntry, cleaned}
-use Rattle.calls.specs.Holdings.{putAt}
 use Rattle.calls.proofs.BlockUse as entry
 use Rattle.calls.proofs.HoldingLaws.{by-number, put-same, put-other}
 use Rattle.calls.proofs.ReadingLaws.{alter-same, alter-other}
 use Rattle.history.specs.Model.{nothing, State, slotBlock, modelAlter}
 use Rattle.history.specs.History.{Buffers, altered}
+use Rattle.history.proofs.Verdicts.{tracks-alter}
 use Rattle.history.proofs.StateLaws.{alter-keeps, alter-takes, molecules-same, alter-ok}
 use Rattle.history.proofs.Slots.{slot-length, slot-sound, slot-clean, slot-lost}
 use Rattle.history.proofs.Follows.{Follows}
@@ -98,10 +98,11 @@ module _ (embeds : Strand → Strand → Bool) (B S : ℕ) (β : Buffers) (σ : 
 
   pub alter-follows : Follows embeds B S (altered β s i v) (modelAlter embeds B S σ s i v) (putAt times s (times s + 1))
   alter-follows =
+      let tracks = tracks-alter embeds B S β σ (record { stored = f .stored; sized = f .sized }) s i v in
       record {
         ok = alter-ok embeds B S σ (f .ok) s i v;
-        stored = rw (molecules-same embeds B S σ s i v) (unfold altered in (f .stored));
-        sized = unfold altered in (length-set (β .cache) (blockSize * s + i) v ∙ f .sized);
+        stored = tracks .stored;
+        sized = tracks .sized;
         once = λ r l m. rw (molecules-same embeds B S σ s i v) (once-all r l m);
         never = λ r l m. rw (molecules-same embeds B S σ s i v) (never-all r l m);
       }

@@ -2,7 +2,6 @@
 use Rattle.history.specs.Statements.{Claims}
 use Rattle.history.proofs.Theorem as theorem
 use Rattle.history.proofs.Right.{query-right}
-use Rattle.history.proofs.Runs.{runs}
 use Rattle.history.proofs.Computed as computed
 use Rattle.history.proofs.Stories as stories
 
@@ -10,11 +9,12 @@ pub claims : Claims
 claims =
     record {
       decides = theorem.decides;
-      history = theorem.demand-3;
-      runs = runs;
+      runs = theorem.demand-3;
+      some-run = theorem.some-run;
+      refusals = theorem.refusals;
       queries = λ B S es log r. query-right r;
       not-whole = theorem.not-whole;
       by-model = computed.settled;
-      on-bytes = stories.settled-bytes;
+      by-runs = stories.settled-runs;
       limited = stories.limited;
     }

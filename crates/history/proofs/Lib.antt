@@ -1,6 +1,8 @@
 pub mod Computed
 mod StateLaws
 mod Slots
+pub mod Bytes
+mod Verdicts
 pub mod Follows
 mod AddAgrees
 mod RemoveAgrees
@@ -9,7 +11,7 @@ mod AlterFollows
 mod SameLog
 mod NotWhole
 mod Right
+pub mod Runs
 pub mod Theorem
-mod Runs
 pub mod Stories
 pub mod Claims

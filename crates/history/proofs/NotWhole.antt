@@ -7,15 +7,15 @@ use mathlib.Core.List.{List, [], _∷_}
 use lib.ListN.{length, length-set}
 use Rattle.strand.specs.Strands.{Strand}
 use Rattle.refusals.specs.Rules.{noSide, notWholeBlocks, refusal}
-use Rattle.block.specs.Checksum.{blockSize}
-use Rattle.calls.specs.Limits.{mostCatalogBlocks, mostCacheBlocks}
-use Rattle.calls.specs.Buffers.{areWhole, buffersVerdict}
-use Rattle.calls.specs.Results.{refusedBy}
+use Rattle.block.specs.Content.{blockSize}
+use Rattle.calls.specs.Buffers.{mostCatalogBlocks, mostCacheBlocks, areWhole, buffersVerdict}
+use Rattle.calls.specs.Calls.{refusedBy}
 use Rattle.calls.proofs.ReadingLaws.{not-whole}
 use Rattle.calls.proofs.JudgeLaws.{buffers-not-whole, add-buffers-refused, remove-buffers-refused, query-buffers-refused}
-use Rattle.history.specs.Events.{Call, add, remove, query, Event, call, alter}
-use Rattle.history.specs.History.{Buffers, altered, bytesLog, NotWhole, AllRefused}
-use Rattle.history.proofs.Follows.{bytesVerdict, bytes-refused}
+use Rattle.history.specs.Model.{Call, add, remove, query, Event, call, alter}
+use Rattle.history.specs.History.{Buffers, altered}
+use Rattle.history.specs.Statements.{NotWhole, AllRefused}
+use Rattle.history.proofs.Bytes.{bytesVerdict, bytesLog, bytes-refused}
 
 whole-no : (β : Buffers) → NotWhole β → areWhole (β .catalog) (β .cache) ≡ false
 unfolding areWhole

@@ -7,30 +7,29 @@ use mathlib.Core.Path.{_≡_, refl, sym, ap, ap₂, fun-ext, _∙_}
 use mathlib.Core.Logic.{⊎-elim}
 use mathlib.Core.Bool.{Bool, true, false, not, _&&_}
 use mathlib.Core.List.{List}
+use mathlib.Core.Option.{none as vacant, some as holds}
 use lib.ListN.{length}
-use Rattle.lists.specs.Vocabulary.{select}
+use Rattle.lists.specs.Vocabulary.{select, putAt}
 use Rattle.lists.proofs.ListLaws.{by-bool}
 use Rattle.lists.proofs.Ranges.{select-ext}
 use Rattle.strand.specs.Strands.{Strand, key}
 use Rattle.refusals.specs.declared.Verdict.the-variants.{Accepted}
 use Rattle.block.specs.Block.{blockOf, blockCount}
 use Rattle.block.specs.Content.{encodeEntry}
-use Rattle.calls.specs.Limits.{mostCatalogBlocks, inRange, motifVerdict}
-use Rattle.calls.specs.Holdings.{Holding, vacant, holds, isHeld, putAt}
-use Rattle.calls.specs.Buffers.{held, moleculeAt, slotOf, cleanCache}
-use Rattle.calls.specs.Calls.{isKnown, toSearch, isHit, queryVerdict, queryOutcome}
-use Rattle.calls.specs.Results.{found, queryResult}
+use Rattle.calls.specs.Buffers.{mostCatalogBlocks, inRange, motifVerdict, Holding, isHeld, held, moleculeAt, slotOf, cleanCache}
+use Rattle.calls.specs.Calls.{isKnown, toSearch, isHit, queryVerdict, queryOutcome, found, queryResult}
 use Rattle.calls.specs.Statements.{QueryLeaves}
 use Rattle.calls.proofs.HoldingLaws.{put-all}
 use Rattle.calls.proofs.ReadingLaws.{count-is, clean-length, clean-block}
 use Rattle.calls.proofs.Claims.{hit-known, hit-unknown, query-accepted, query-found}
-use Rattle.calls.proofs.Stores.{count, query-judged}
-use Rattle.history.specs.Events.{query, endsPeriod}
-use Rattle.history.specs.Model.{keeps, State, heldIn, knownIn, modelVerdict, embedsAt, hitList, searchList, asked, modelAnswer, modelNext, slotBlock}
-use Rattle.history.specs.History.{Buffers, bytesResult, bytesNext}
+use Rattle.calls.proofs.Stores.{count}
+use Rattle.history.specs.Model.{query, endsPeriod, keeps, State, heldIn, knownIn, modelVerdict, embedsAt, hitList, searchList, asked, modelAnswer}
+use Rattle.history.specs.Model.{modelNext, slotBlock}
+use Rattle.history.specs.History.{Buffers, buffersOf}
+use Rattle.history.proofs.Bytes.{bytesVerdict, bytesResult, bytesNext}
 use Rattle.history.proofs.StateLaws.{query-passed, range-passed, most-blocks, some-slot, asked-ok}
 use Rattle.history.proofs.Slots.{slot-known, slot-hit}
-use Rattle.history.proofs.Follows.{Few, bytesVerdict, Follows, fresh, CallAgrees, by-verdict}
+use Rattle.history.proofs.Follows.{Few, Follows, fresh, CallAgrees, by-verdict}
 
 module _ (embeds : Strand → Strand → Bool) (B S : ℕ) (β : Buffers) (σ : State) (times : ℕ → ℕ) (f : Follows embeds B S β σ times)
     (few : Few S times) (range : inRange B S ≡ true) (p : Strand) where
@@ -147,7 +146,7 @@ module _ (embeds : Strand → Strand → Bool) (B S : ℕ) (β : Buffers) (σ : 
         ∙ clean-is s l)
 
     pub query-follows : motifVerdict p ≡ Accepted
-        → Follows embeds B S (record { catalog = β .catalog; cache = queryOutcome embeds (β .catalog) (β .cache) p work hits .cache })
+        → Follows embeds B S (buffersOf (β .catalog) (queryOutcome embeds (β .catalog) (β .cache) p work hits .cache))
         (asked embeds B S σ p) (λ s. 0)
     unfolding asked
     query-follows fit =
@@ -156,10 +155,6 @@ module _ (embeds : Strand → Strand → Bool) (B S : ℕ) (β : Buffers) (σ : 
 
 module _ (embeds : Strand → Strand → Bool) (B S : ℕ) (p : Strand) (work : ℕ) (hits : List ℕ) where
   module _ (β : Buffers) (σ : State) (times : ℕ → ℕ) (f : Follows embeds B S β σ times) where
-    verdict : bytesVerdict β (query p work hits) ≡ modelVerdict embeds B S σ (query p work hits)
-    unfolding bytesVerdict modelVerdict
-    verdict = query-judged (f .stored) S (β .cache) (f .sized) p work (length hits)
-
     accepted : modelVerdict embeds B S σ (query p work hits) ≡ Accepted → bytesVerdict β (query p work hits) ≡ Accepted → Few S times
         → (bytesResult embeds β (query p work hits) ≡ modelAnswer embeds B S σ (query p work hits))
         × Follows embeds B S (bytesNext embeds β (query p work hits)) (modelNext embeds B S σ (query p work hits)) (λ s. 0)
@@ -175,4 +170,4 @@ module _ (embeds : Strand → Strand → Bool) (B S : ℕ) (p : Strand) (work : 
   ends σ = refl
 
   pub query-agrees : CallAgrees embeds B S (query p work hits)
-  query-agrees β σ times f few = by-verdict embeds B S β σ times (query p work hits) (verdict β σ times f) (ends σ) (accepted β σ times f) f few
+  query-agrees β σ times f few = by-verdict embeds B S β σ times (query p work hits) (ends σ) (accepted β σ times f) f few

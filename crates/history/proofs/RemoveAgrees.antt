@@ -6,24 +6,20 @@ use mathlib.Core.Bool.{Bool, true}
 use Rattle.strand.specs.Strands.{Strand}
 use Rattle.refusals.specs.declared.Verdict.the-variants.{Accepted}
 use Rattle.block.specs.Block.{forgot}
-use Rattle.calls.specs.Limits.{mostCatalogBlocks}
-use Rattle.calls.specs.Results.{removeResult}
+use Rattle.calls.specs.Buffers.{mostCatalogBlocks}
+use Rattle.calls.specs.Calls.{removeResult}
 use Rattle.calls.proofs.ReadingLaws.{count-is}
 use Rattle.calls.proofs.Claims.{remove-accepted}
-use Rattle.calls.proofs.Stores.{stores-remove, remove-judged}
-use Rattle.history.specs.Events.{remove, endsPeriod}
-use Rattle.history.specs.Model.{State, heldIn, modelVerdict, modelAnswer, modelNext}
-use Rattle.history.specs.History.{Buffers, bytesResult, bytesNext}
+use Rattle.calls.proofs.Stores.{stores-remove}
+use Rattle.history.specs.Model.{remove, endsPeriod, State, modelVerdict, modelAnswer, modelNext}
+use Rattle.history.specs.History.{Buffers}
+use Rattle.history.proofs.Bytes.{bytesVerdict, bytesResult, bytesNext}
 use Rattle.history.proofs.StateLaws.{remove-passed, range-passed, most-blocks, next-ok}
 use Rattle.history.proofs.Slots.{slot-remove}
-use Rattle.history.proofs.Follows.{Few, bytesVerdict, Follows, fresh, CallAgrees, by-verdict}
+use Rattle.history.proofs.Follows.{Few, Follows, fresh, CallAgrees, by-verdict}
 
 module _ (embeds : Strand → Strand → Bool) (B S : ℕ) (d : ℕ) where
   module _ (β : Buffers) (σ : State) (times : ℕ → ℕ) (f : Follows embeds B S β σ times) where
-    verdict : bytesVerdict β (remove d) ≡ modelVerdict embeds B S σ (remove d)
-    unfolding bytesVerdict modelVerdict heldIn
-    verdict = remove-judged (f .stored) S (β .cache) (f .sized) d
-
     accepted : modelVerdict embeds B S σ (remove d) ≡ Accepted → bytesVerdict β (remove d) ≡ Accepted → Few S times
         → (bytesResult embeds β (remove d) ≡ modelAnswer embeds B S σ (remove d))
         × Follows embeds B S (bytesNext embeds β (remove d)) (modelNext embeds B S σ (remove d)) (λ s. 0)
@@ -46,4 +42,4 @@ module _ (embeds : Strand → Strand → Bool) (B S : ℕ) (d : ℕ) where
   ends σ = refl
 
   pub remove-agrees : CallAgrees embeds B S (remove d)
-  remove-agrees β σ times f few = by-verdict embeds B S β σ times (remove d) (verdict β σ times f) (ends σ) (accepted β σ times f) f few
+  remove-agrees β σ times f few = by-verdict embeds B S β σ times (remove d) (ends σ) (accepted β σ times f) f few

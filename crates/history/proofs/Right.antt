@@ -6,8 +6,9 @@ use mathlib.Core.Path.{_≡_, refl, sym, _∙_}
 use mathlib.Core.Logic.{_↔_}
 use mathlib.Core.Bool.{Bool, true}
 use mathlib.Core.List.{List, [], _∷_, _++_}
+use mathlib.Core.Option.{none as vacant, some as holds}
 use lib.ListN.{length}
-use Rattle.lists.specs.Vocabulary.{nth, select}
+use Rattle.lists.specs.Vocabulary.{nth, select, putAt}
 use Rattle.lists.proofs.ListLaws.{never}
 use Rattle.lists.proofs.Ranges.{Selected, selected}
 use Rattle.strand.specs.Strands.{Strand}
@@ -16,20 +17,19 @@ use Rattle.refusals.specs.declared.Verdict.{Verdict}
 use Rattle.refusals.specs.declared.Verdict.the-variants.{Accepted, Refused}
 use Rattle.refusals.specs.Rules.{byVerdict}
 use Rattle.refusals.proofs.RuleLaws.{by-accepted, by-refused}
-use Rattle.calls.specs.Limits.{motifVerdict}
-use Rattle.calls.specs.Holdings.{Holding, vacant, holds, putAt}
-use Rattle.calls.specs.Results.{found, refusedBy}
-use Rattle.history.specs.Events.{Call, add, remove, query, Event, call, alter, Line, gave}
-use Rattle.history.specs.Model.{State, start, modelVerdict, embedsAt, hitList, searchList, asked, modelAnswer, modelNext, modelResult}
-use Rattle.history.specs.Model.{modelAfter, modelAlter, modelLog}
-use Rattle.history.specs.History.{holdingBy, holdingAfter, holdingSince, Ask, motifsOf, asksBy, asksOf, Stands, Among, RightHits, RightLog, QueriesRight}
+use Rattle.calls.specs.Buffers.{motifVerdict, Holding}
+use Rattle.calls.specs.Calls.{found, refusedBy}
+use Rattle.history.specs.Model.{Call, add, remove, query, Event, call, alter, Line, gave, State, start, modelVerdict, embedsAt, hitList}
+use Rattle.history.specs.Model.{asked, modelAnswer, modelNext, modelResult, modelAfter, modelAlter, modelLog}
+use Rattle.history.specs.History.{holdingBy, holdingAfter, holdingSince, Ask, asksOf, Stands, Among, RightHits, RightLog}
 use Rattle.history.specs.History.{Decides}
+use Rattle.history.specs.Statements.{QueriesRight}
 use Rattle.history.proofs.StateLaws.{StateOk, start-ok, query-passed, molecules-same, after-ok, alter-ok}
 
 -- A line of an accepted query stands in the log as a query.
 pub query-stands : (log before after : List Line) (p : Strand) (work : ℕ) (slice : List ℕ) (count : ℕ) (hits : List ℕ) (searched : ℕ)
     → log ≡ before ++ (gave (query p work slice) (found count hits searched) ∷ after)
-    → Stands log before (record { motif = p; count = count; hits = hits; searched = searched })
+    → Stands log before (record { motif = p; count = count; hits = hits })
 query-stands log before after p work slice count hits searched e =
     record {
       line = gave (query p work slice) (found count hits searched);
@@ -37,7 +37,7 @@ query-stands log before after p work slice count hits searched e =
       here = e;
       front = [];
       back = [];
-      among = unfold asksOf motifsOf asksBy in refl;
+      among = unfold asksOf in refl;
     }
 
 -- So each accepted query of a right log is right.
@@ -57,9 +57,11 @@ one-among x a [] back e = cc
 one-among x a (b ∷ front) back e = let r : [] ≡ front ++ (a ∷ back) = cc in absurd (none-among a front back r)
 
 -- a refused call makes no query
-asks-refused : (c : Call) (r : Refusal) (all : List Line) (a : Ask) (front back : List Ask) → asksOf all c (refusedBy r) ≡ front ++ (a ∷ back) → ⊥
+asks-refused : (c : Call) (r : Refusal) (a : Ask) (front back : List Ask) → asksOf c (refusedBy r) ≡ front ++ (a ∷ back) → ⊥
 unfolding asksOf refusedBy
-asks-refused c r all a front back h = none-among a front back h
+asks-refused (add d q) r a front back h = none-among a front back h
+asks-refused (remove d) r a front back h = none-among a front back h
+asks-refused (query p work slice) r a front back h = none-among a front back h
 
 below-of : (B : ℕ) (x : Holding) (d : ℕ) (q : Strand) → x ≡ holds q → (B ≤ d → x ≡ vacant) → d < B
 below-of B x d q e h =
@@ -111,7 +113,7 @@ module _ (embeds : Strand → Strand → Bool) (Relation : Strand → Strand →
     -- an accepted query of a motif, now
     right-query : (σ : State) → StateOk B σ → (p : Strand) → motifVerdict p ≡ Accepted
         → RightFrom (σ .molecules) []
-        (record { motif = p; count = length (hitList embeds B S σ p); hits = hitList embeds B S σ p; searched = length (searchList embeds B S σ p) })
+        (record { motif = p; count = length (hitList embeds B S σ p); hits = hitList embeds B S σ p })
     unfolding hitList holdingSince Decides
     right-query σ ok p fit =
         let t : ℕ → Bool = λ d. embedsAt embeds B S p (σ .molecules d) in
@@ -132,47 +134,47 @@ module _ (embeds : Strand → Strand → Bool) (Relation : Strand → Strand →
         }
 
     -- the queries of a call that is accepted now
-    asks-accepted : (σ : State) → StateOk B σ → (c : Call) → modelVerdict embeds B S σ c ≡ Accepted → (all : List Line) (a : Ask) (front back : List Ask)
-        → asksOf all c (modelAnswer embeds B S σ c) ≡ front ++ (a ∷ back) → RightFrom (σ .molecules) [] a
-    unfolding asksOf modelAnswer motifsOf asksBy
-    asks-accepted σ ok (add d q) e all a front back h = absurd (none-among a front back h)
-    asks-accepted σ ok (remove d) e all a front back h = absurd (none-among a front back h)
-    asks-accepted σ ok (query p work slice) e all a front back h =
+    asks-accepted : (σ : State) → StateOk B σ → (c : Call) → modelVerdict embeds B S σ c ≡ Accepted → (a : Ask) (front back : List Ask)
+        → asksOf c (modelAnswer embeds B S σ c) ≡ front ++ (a ∷ back) → RightFrom (σ .molecules) [] a
+    unfolding asksOf modelAnswer
+    asks-accepted σ ok (add d q) e a front back h = absurd (none-among a front back h)
+    asks-accepted σ ok (remove d) e a front back h = absurd (none-among a front back h)
+    asks-accepted σ ok (query p work slice) e a front back h =
         rw (one-among _ a front back h) at (right-query σ ok p (query-passed embeds B S σ p work slice e))
 
-    asks-right : (σ : State) → StateOk B σ → (c : Call) (all : List Line) (a : Ask) (front back : List Ask)
-        → asksOf all c (modelResult embeds B S σ c) ≡ front ++ (a ∷ back) → RightFrom (σ .molecules) [] a
+    asks-right : (σ : State) → StateOk B σ → (c : Call) (a : Ask) (front back : List Ask)
+        → asksOf c (modelResult embeds B S σ c) ≡ front ++ (a ∷ back) → RightFrom (σ .molecules) [] a
     unfolding modelResult
-    asks-right σ ok c all a front back h = go (modelVerdict embeds B S σ c) refl
+    asks-right σ ok c a front back h = go (modelVerdict embeds B S σ c) refl
       where
         go : (v : Verdict) → modelVerdict embeds B S σ c ≡ v → RightFrom (σ .molecules) [] a
         go Accepted e =
-            asks-accepted σ ok c e all a front back (rw (by-accepted (modelVerdict embeds B S σ c) refusedBy (modelAnswer embeds B S σ c) e) at h)
+            asks-accepted σ ok c e a front back (rw (by-accepted (modelVerdict embeds B S σ c) refusedBy (modelAnswer embeds B S σ c) e) at h)
         go (Refused r) e =
-            absurd (asks-refused c r all a front back (rw (by-refused (modelVerdict embeds B S σ c) refusedBy (modelAnswer embeds B S σ c) r e) at h))
+            absurd (asks-refused c r a front back (rw (by-refused (modelVerdict embeds B S σ c) refusedBy (modelAnswer embeds B S σ c) r e) at h))
 
-    -- `all` is the log in front of the query's line from the start of the history, `before` from here
-    right-log : (es : List Event) (σ : State) → StateOk B σ → (all before after : List Line) (line : Line) (a : Ask) (front back : List Ask)
-        → modelLog embeds B S σ es ≡ before ++ (line ∷ after) → asksOf all (line .of) (line .result) ≡ front ++ (a ∷ back)
+    -- `before` is the log in front of the query's line from here
+    right-log : (es : List Event) (σ : State) → StateOk B σ → (before after : List Line) (line : Line) (a : Ask) (front back : List Ask)
+        → modelLog embeds B S σ es ≡ before ++ (line ∷ after) → asksOf (line .of) (line .result) ≡ front ++ (a ∷ back)
         → RightFrom (σ .molecules) before a
     unfolding modelLog
-    right-log [] σ ok all [] after line a front back e h = let z : _≡_ {A = ℕ} 0 1 = cc in absurd (omega arith)
-    right-log [] σ ok all (y ∷ before) after line a front back e h = let z : _≡_ {A = ℕ} 0 1 = cc in absurd (omega arith)
-    right-log (alter s i v ∷ es) σ ok all before after line a front back e h =
+    right-log [] σ ok [] after line a front back e h = let z : _≡_ {A = ℕ} 0 1 = cc in absurd (omega arith)
+    right-log [] σ ok (y ∷ before) after line a front back e h = let z : _≡_ {A = ℕ} 0 1 = cc in absurd (omega arith)
+    right-log (alter s i v ∷ es) σ ok before after line a front back e h =
         rw (molecules-same embeds B S σ s i v)
-        at (right-log es (modelAlter embeds B S σ s i v) (alter-ok embeds B S σ ok s i v) all before after line a front back e h)
-    right-log (call c ∷ es) σ ok all [] after line a front back e h =
+        at (right-log es (modelAlter embeds B S σ s i v) (alter-ok embeds B S σ ok s i v) before after line a front back e h)
+    right-log (call c ∷ es) σ ok [] after line a front back e h =
         let l : line ≡ gave c (modelResult embeds B S σ c) = cc in
-        asks-right σ ok c all a front back (rw l at h)
-    right-log (call c ∷ es) σ ok all (y ∷ before) after line a front back e h =
+        asks-right σ ok c a front back (rw l at h)
+    right-log (call c ∷ es) σ ok (y ∷ before) after line a front back e h =
         let l : y ≡ gave c (modelResult embeds B S σ c) = cc in
         let t : modelLog embeds B S (modelAfter embeds B S σ c) es ≡ before ++ (line ∷ after) = cc in
         right-after (σ .molecules) (modelAfter embeds B S σ c .molecules) y before a (λ d. rw l (holding-step σ d c))
-        (right-log es (modelAfter embeds B S σ c) (after-ok embeds B S σ ok c) all before after line a front back t h)
+        (right-log es (modelAfter embeds B S σ c) (after-ok embeds B S σ ok c) before after line a front back t h)
 
     pub right-start : (es : List Event) (log before : List Line) (a : Ask) → log ≡ modelLog embeds B S start es
         → Stands log before a → RightHits Relation before a
     unfolding start
     right-start es log before a same s =
-        let r = right-log es start (start-ok B) before before (s .after) (s .line) a (s .front) (s .back) (sym same ∙ s .here) (s .among) in
+        let r = right-log es start (start-ok B) before (s .after) (s .line) a (s .front) (s .back) (sym same ∙ s .here) (s .among) in
         record { exact = r .exact; rising = r .rising; counted = r .counted }

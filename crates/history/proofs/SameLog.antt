@@ -7,17 +7,17 @@ use mathlib.Core.Bool.{Bool, true, false, _&&_}
 use lib.Dec.{ltb, leb}
 use lib.ListN.{length-replicate}
 use borrow.Author.Tests.{ltb-true, leb-true}
-use Rattle.lists.specs.Vocabulary.{choose}
+use Rattle.lists.specs.Vocabulary.{choose, putAt}
 use Rattle.lists.proofs.ListLaws.{and-true, every-at, never, choose-yes, choose-no}
 use Rattle.strand.specs.Strands.{Strand}
-use Rattle.block.specs.Checksum.{blockSize}
-use Rattle.calls.specs.Holdings.{putAt}
-use Rattle.calls.specs.Results.{Result}
+use Rattle.block.specs.Content.{blockSize}
+use Rattle.calls.specs.Calls.{Result}
 use Rattle.calls.proofs.ReadingLaws.{block-zero}
 use Rattle.calls.proofs.Stores.{stores-zeroed}
-use Rattle.history.specs.Events.{Call, add, remove, query, Event, call, alter, endsPeriod, Line, gave}
-use Rattle.history.specs.Model.{State, start, slotBlock, modelAlter, modelResult, modelAfter, modelLog}
-use Rattle.history.specs.History.{Buffers, zeroed, altered, bytesNext, bytesLog, atMostOnce, admittedFrom}
+use Rattle.history.specs.Model.{Call, add, remove, query, Event, call, alter, endsPeriod, Line, gave, State, start, slotBlock, modelAlter}
+use Rattle.history.specs.Model.{modelResult, modelAfter, modelLog}
+use Rattle.history.specs.History.{Buffers, zeroed, altered, atMostOnce, admittedFrom}
+use Rattle.history.proofs.Bytes.{bytesNext, bytesLog}
 use Rattle.history.proofs.StateLaws.{start-ok}
 use Rattle.history.proofs.Follows.{Few, timesAfter, Follows, fresh, CallAgrees}
 use Rattle.history.proofs.AddAgrees.{add-agrees}

@@ -4,18 +4,18 @@ use mathlib.Core.Path.{_≡_, refl, sym, ap, fun-ext, _∙_}
 use mathlib.Core.Bool.{Bool, true, false, not, _&&_, and-false, and-true as and-true-right}
 use mathlib.Core.List.{List}
 use mathlib.Core.Logic.{⊎-elim}
+use mathlib.Core.Option.{none as vacant, some as holds}
 use lib.Dec.{eqb}
 use lib.ListN.{length}
 use borrow.Author.Tests.{eq-eqb, ne-eqb}
 use Rattle.strand.specs.Strands.{Strand, sameStrand}
 use Rattle.strand.proofs.VerdictLaws.{same-strand-eq}
 use Rattle.lists.proofs.ListLaws.{by-bool, and-true, never}
-use Rattle.block.specs.Checksum.{blockSize}
-use Rattle.octets.specs.Maps.{without}
+use Rattle.block.specs.Content.{blockSize, encodeEntry, hitIn}
+use Rattle.octets.specs.Octets.{without}
 use Rattle.block.specs.Block.{soundEntry, cleaned, forgot}
-use Rattle.block.specs.Content.{encodeEntry, hitIn}
-use Rattle.calls.specs.Limits.{mostCatalogBlocks}
-use Rattle.calls.specs.Holdings.{Holding, vacant, holds, isHeld, putAt}
+use Rattle.calls.specs.Buffers.{mostCatalogBlocks, Holding, isHeld}
+use Rattle.lists.specs.Vocabulary.{putAt}
 use Rattle.calls.specs.Calls.{isKnown}
 use Rattle.calls.proofs.BlockUse as entry
 use Rattle.calls.proofs.CallLaws.{entry-known, empty-known}

@@ -5,22 +5,21 @@ use mathlib.Core.Path.{_≡_, refl, ap, _∙_}
 use mathlib.Core.Logic.{⊎-elim}
 use mathlib.Core.Bool.{Bool, true, false, not, _&&_}
 use mathlib.Core.List.{List, []}
+use mathlib.Core.Option.{none as vacant, some as holds}
 use lib.Dec.{leb, eqb}
 use borrow.Author.Tests.{leb-false, leb-true, eq-eqb}
-use Rattle.lists.specs.Vocabulary.{nth}
+use Rattle.lists.specs.Vocabulary.{nth, putAt}
 use Rattle.strand.specs.Strands.{Strand}
 use Rattle.refusals.specs.Rules.{noSide, notWholeBlocks, numberTooLarge, alreadyHeld, refuseIf}
 use Rattle.refusals.specs.declared.Verdict.{Verdict}
 use Rattle.refusals.specs.declared.Verdict.the-variants.{Accepted, Refused}
 use Rattle.lists.proofs.ListLaws.{by-bool, and-true, not-not, never, choose-yes, choose-no}
 use Rattle.refusals.proofs.RuleLaws.{first-pass, rule-pass, by-accepted, by-refused}
-use Rattle.octets.specs.Maps.{without}
-use Rattle.calls.specs.Limits.{mostCatalogBlocks, mostCacheBlocks, inRange, moleculeVerdict, motifVerdict}
-use Rattle.calls.specs.Holdings.{Holding, vacant, holds, isHeld, putAt}
-use Rattle.calls.specs.Buffers.{slotOf}
+use Rattle.octets.specs.Octets.{without}
+use Rattle.calls.specs.Buffers.{mostCatalogBlocks, mostCacheBlocks, inRange, moleculeVerdict, motifVerdict, Holding, isHeld, slotOf}
 use Rattle.calls.proofs.HoldingLaws.{put-other, put-all}
-use Rattle.history.specs.Events.{Call, add, remove, query}
-use Rattle.history.specs.Model.{Slot, nothing, keeps, State, start, heldIn, dropped, modelVerdict, asked, modelNext, modelAfter, modelAlter, slotBlock}
+use Rattle.history.specs.Model.{Call, add, remove, query, Slot, nothing, keeps, State, start, heldIn, dropped, modelVerdict, asked, modelNext}
+use Rattle.history.specs.Model.{modelAfter, modelAlter, slotBlock}
 
 abbrev pub HoldingOk : Holding → Type 0
 HoldingOk vacant = Unit

@@ -1,16 +1,15 @@
--- Example histories: 01's story, a number used again, one with alterations and refused calls between, and two that are not admitted.
+-- Example histories: 01's story, a number used again, one with two slots, one with alterations and refused calls between, and two that are
+-- not admitted.
 use Prim.Native.Nat.{ℕ}
 use mathlib.Core.Path.{_≡_}
 use mathlib.Core.List.{List, [], _∷_}
-use mathlib.Core.Bool.{Bool, true, false, _&&_}
-use Rattle.lists.specs.Vocabulary.{sameList}
+use mathlib.Core.Bool.{true, false}
 use Rattle.strand.specs.Strands.{Strand, strandOf}
 use Rattle.refusals.specs.Rules.{motifSide, noSide, noBases, numberTooLarge, alreadyHeld, notHeld}
-use Rattle.calls.specs.Motifs.{embeds}
-use Rattle.calls.specs.Results.{Result, refused, done, found, numbersOf}
-use Rattle.history.specs.Events.{Call, add, remove, query, Event, call, alter, Line}
-use Rattle.history.specs.Model.{start, modelLog}
-use Rattle.history.specs.History.{admitted, zeroed, bytesLog}
+use Rattle.embedding.specs.Longest.{embeds}
+use Rattle.calls.specs.Calls.{Result, refused, done, found}
+use Rattle.history.specs.Model.{Call, add, remove, query, Event, call, alter, Line, start, modelLog}
+use Rattle.history.specs.History.{zeroed, Ran, admitted}
 
 -- B, S, a list of events, and what its calls come to.
 pub record Story : Type 0 where
@@ -19,25 +18,20 @@ pub record Story : Type 0 where
   pub events : List Event
   pub results : List Result
 
--- The results of a log, and whether results are the same.
+-- The results of a log.
 unfoldable pub resultsOf : List Line → List Result
 resultsOf [] = []
 resultsOf (line ∷ log) = line .result ∷ resultsOf log
 
-unfoldable pub sameResult : Result → Result → Bool
-sameResult q r = sameList (numbersOf q) (numbersOf r)
-
-unfoldable pub sameResults : List Result → List Result → Bool
-sameResults [] [] = true
-sameResults [] (r ∷ rs) = false
-sameResults (q ∷ qs) [] = false
-sameResults (q ∷ qs) (r ∷ rs) = sameResult q r && sameResults qs rs
-
 -- The list is admitted, and the reference model comes to these results.
-unfoldable pub storyOk : Story → Bool
-storyOk t =
-    admitted embeds (t .blocks) (t .slots) (t .events)
-    && sameResults (resultsOf (modelLog embeds (t .blocks) (t .slots) start (t .events))) (t .results)
+abbrev pub ByModel : Story → Type 0
+ByModel t =
+    (admitted embeds (t .blocks) (t .slots) (t .events) ≡ true)
+    × (resultsOf (modelLog embeds (t .blocks) (t .slots) start (t .events)) ≡ t .results)
+
+-- Every run of the calls from zeroed buffers comes to these results.
+abbrev pub ByRuns : Story → Type 0
+ByRuns t = (log : List Line) → Ran embeds (zeroed (t .blocks) (t .slots)) (t .events) log → resultsOf log ≡ t .results
 
 -- G 71, A 65, C 67
 abbrev pub gac : Strand
@@ -95,6 +89,41 @@ reusedStory =
       results = done ∷ found 0 [] 1 ∷ done ∷ done ∷ found 1 (0 ∷ []) 1 ∷ [];
     }
 
+-- With B = 2, S = 2: GC with an arc and GC without share slot 1 (key 139), GAC with an arc has slot 0 to itself (key 206; three bases ask
+-- for 1536 entries of work). GC without takes the slot of GC with, and leaves that of GAC. A removed number is forgotten in both slots.
+unfoldable pub sharedSlotStory : Story
+sharedSlotStory =
+    record {
+      blocks = 2;
+      slots = 2;
+      events =
+          call (add 0 gac)
+          ∷ call (add 1 ggc)
+          ∷ call (ask bonded)
+          ∷ call (query gac 1536 (9 ∷ 9 ∷ []))
+          ∷ call (ask unbonded)
+          ∷ call (query gac 1536 (9 ∷ 9 ∷ []))
+          ∷ call (ask bonded)
+          ∷ call (remove 0)
+          ∷ call (add 0 ggc)
+          ∷ call (query gac 1536 (9 ∷ 9 ∷ []))
+          ∷ call (ask bonded)
+          ∷ [];
+      results =
+          done
+          ∷ done
+          ∷ found 2 (0 ∷ 1 ∷ []) 2
+          ∷ found 1 (0 ∷ []) 2
+          ∷ found 1 (1 ∷ []) 2
+          ∷ found 1 (0 ∷ []) 0
+          ∷ found 2 (0 ∷ 1 ∷ []) 2
+          ∷ done
+          ∷ done
+          ∷ found 0 [] 1
+          ∷ found 2 (0 ∷ 1 ∷ []) 1
+          ∷ [];
+    }
+
 -- Alterations of an empty block, of one byte that keeps its value (byte 380 has searched bit 0), of the hit bit in byte 444; refused calls
 -- between, which end no period; after the last accepted call a block is altered twice.
 unfoldable pub alteredStory : Story
@@ -131,20 +160,16 @@ alteredStory =
 
 -- All of them.
 unfoldable pub stories : List Story
-stories = settledStory ∷ reusedStory ∷ alteredStory ∷ []
+stories = settledStory ∷ reusedStory ∷ sharedSlotStory ∷ alteredStory ∷ []
 
--- On the bytes, by the definitions of the calls, the story's calls come to its results.
-abbrev pub OnBytes : Story → Type 0
-OnBytes t = resultsOf (bytesLog embeds (zeroed (t .blocks) (t .slots)) (t .events)) ≡ t .results
+-- Every story of a list: by the model, and by every run.
+unfoldable pub AllByModel : List Story → Type 0
+AllByModel [] = Unit
+AllByModel (t ∷ ts) = ByModel t × AllByModel ts
 
--- Every story: on the bytes, and by the model.
-unfoldable pub AllOnBytes : List Story → Type 0
-AllOnBytes [] = Unit
-AllOnBytes (t ∷ ts) = OnBytes t × AllOnBytes ts
-
-unfoldable pub storiesOk : List Story → Bool
-storiesOk [] = true
-storiesOk (t ∷ ts) = storyOk t && storiesOk ts
+unfoldable pub AllByRuns : List Story → Type 0
+AllByRuns [] = Unit
+AllByRuns (t ∷ ts) = ByRuns t × AllByRuns ts
 
 -- With B = 1, S = 1: hit bit 0, in byte 444, is set, as it is.
 unfoldable pub alteredOnce : Story
@@ -166,10 +191,10 @@ refusedBetween = call (add 0 gac) ∷ call (ask bonded) ∷ alter 0 444 0 ∷ ca
 
 -- 01: "at most one alteration in each block .. between one accepted call and the next".
 pub record AlterationsLimited : Type 0 where
-  pub one : storyOk alteredOnce ≡ true
+  pub one : ByModel alteredOnce
   pub two : admitted embeds 1 1 alteredTwice ≡ false
   -- a refused call ends no period
   pub refusal-between : admitted embeds 1 1 refusedBetween ≡ false
-  -- the limit is needed: the block is sound again, and nothing is searched, while the model's slot became nothing
-  pub bytes-know : resultsOf (bytesLog embeds (zeroed 1 1) alteredTwice) ≡ alteredOnce .results
+  -- the limit is needed: the block is sound again, and a run searches nothing, while the model's slot became nothing
+  pub run-knows : (log : List Line) → Ran embeds (zeroed 1 1) alteredTwice log → resultsOf log ≡ alteredOnce .results
   pub model-searches : resultsOf (modelLog embeds 1 1 start alteredTwice) ≡ done ∷ found 1 (0 ∷ []) 1 ∷ found 1 (0 ∷ []) 1 ∷ []

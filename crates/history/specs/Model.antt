@@ -1,20 +1,47 @@
--- The reference model (01: the plain machine of demand 3). The quotations are 01's.
+-- What happens in a history, and the reference model (01: the list and the plain machine of demand 3). The quotations are 01's.
 use Prim.Native.Nat.{ℕ}
 use mathlib.Core.List.{List, [], _∷_}
-use mathlib.Core.Bool.{Bool, false, not, _&&_}
-use lib.Dec.{ltb, leb, eqb}
-use lib.ListN.{length}
-use Rattle.lists.specs.Vocabulary.{nth, choose, select}
+use mathlib.Core.Bool.{Bool, true, false, not, _&&_}
+use mathlib.Core.Option.{none as vacant, some as holds}
 use Rattle.strand.specs.Strands.{Strand, sameStrand}
-use Rattle.refusals.specs.Rules.{noSide, wrongSlice, notWholeBlocks, numberTooLarge, alreadyHeld, notHeld, first, refuseIf, byVerdict}
+use Rattle.calls.specs.Calls.{Result, refused, done, found, refusedBy, addRules, queryRules, removeRules}
+use lib.Dec.{eqb}
+use lib.ListN.{length}
+use Rattle.lists.specs.Vocabulary.{nth, choose, select, putAt}
+use Rattle.refusals.specs.Rules.{noSide, notWholeBlocks, refuseIf, byVerdict}
 use Rattle.refusals.specs.declared.Verdict.{Verdict}
-use Rattle.octets.specs.Maps.{without}
+use Rattle.octets.specs.Octets.{without}
 use Rattle.block.specs.Content.{emptyBlock, encodeEntry}
-use Rattle.calls.specs.Limits.{inRange, moleculeVerdict, motifVerdict, workVerdict}
-use Rattle.calls.specs.Holdings.{Holding, vacant, holds, isHeld, putAt}
-use Rattle.calls.specs.Buffers.{slotOf}
-use Rattle.calls.specs.Results.{Result, done, found, refusedBy}
-use Rattle.history.specs.Events.{Call, add, remove, query, Event, call, alter, Line, gave}
+use Rattle.calls.specs.Buffers.{inRange, Holding, isHeld, slotOf}
+
+-- A call with its arguments.
+pub data Call : Type 0 where
+  -- number and molecule
+  add : ℕ → Strand → Call
+  -- number
+  remove : ℕ → Call
+  -- motif, length of the work slice (a query's answer reads nothing else of it), the slice for the hits
+  query : Strand → ℕ → List ℕ → Call
+
+-- An entry of the list.
+pub data Event : Type 0 where
+  call : Call → Event
+  -- byte i of cache block s becomes v
+  alter : (s i v : ℕ) → Event
+
+-- An accepted call ends a period of alterations; a refused one does not.
+unfoldable pub endsPeriod : Result → Bool
+endsPeriod (refused number side place) = false
+endsPeriod done = true
+endsPeriod (found count hits searched) = true
+
+-- A line of a history's log: a call, and what it came to.
+pub record Line : Type 0 where
+  pub of : Call
+  pub result : Result
+
+abbrev pub gave : Call → Result → Line
+gave c result = record { of = c; result = result }
 
 -- "State: the molecules by number, and for each slot nothing or a motif with a set of numbers."
 -- (`Holding`, in calls, is what stands under a number.)
@@ -51,12 +78,9 @@ module _ (embeds : Strand → Strand → Bool) (B S : ℕ) where
   rangeRule = refuseIf notWholeBlocks noSide (not (inRange B S))
 
   unfoldable pub modelVerdict : State → Call → Verdict
-  modelVerdict σ (add d q) =
-      first (rangeRule ∷ refuseIf numberTooLarge noSide (leb B d) ∷ refuseIf alreadyHeld noSide (heldIn σ d) ∷ moleculeVerdict q ∷ [])
-  modelVerdict σ (remove d) =
-      first (rangeRule ∷ refuseIf numberTooLarge noSide (leb B d) ∷ refuseIf notHeld noSide (not (heldIn σ d)) ∷ [])
-  modelVerdict σ (query p work hits) =
-      first (rangeRule ∷ motifVerdict p ∷ refuseIf wrongSlice noSide (ltb (length hits) B) ∷ workVerdict p work ∷ [])
+  modelVerdict σ (add d q) = addRules rangeRule B (heldIn σ) d q
+  modelVerdict σ (remove d) = removeRules rangeRule B (heldIn σ) d
+  modelVerdict σ (query p work hits) = queryRules rangeRule B p work (length hits)
 
   -- The motif embeds in what stands under a number.
   unfoldable pub embedsAt : Strand → Holding → Bool

@@ -1,28 +1,50 @@
 -- What is claimed of histories (01, demand 3), closed with the calls' own test: `embeds` is the test of a query, `EmbedsIn` says that an
 -- embedding exists. `claims`, in proofs/Claims, proves it.
-use Prim.Native.Nat.{ℕ}
+use Prim.Native.Nat.{ℕ, _%_}
 use mathlib.Core.Path.{_≡_}
-use mathlib.Core.Bool.{true}
-use mathlib.Core.List.{List}
-use Rattle.calls.specs.Motifs.{embeds, EmbedsIn}
-use Rattle.history.specs.Events.{Event, Line}
-use Rattle.history.specs.History.{Buffers, bytesLog, RightLog, QueriesRight, Decides, HistoryTheorem, NotWhole, AllRefused}
-use Rattle.history.specs.Runs.{RunTheorem}
-use Rattle.history.specs.Examples.{stories, storiesOk, AllOnBytes, AlterationsLimited}
+use mathlib.Core.Logic.{_⊎_}
+use mathlib.Core.List.{List, [], _∷_, _++_}
+use lib.ListN.{length}
+use Rattle.strand.specs.Strands.{Strand}
+use Rattle.refusals.specs.Rules.{noSide, notWholeBlocks}
+use Rattle.embedding.specs.Embedding.{EmbedsIn}
+use Rattle.embedding.specs.Longest.{embeds}
+use Rattle.block.specs.Content.{blockSize}
+use Rattle.calls.specs.Calls.{refused, found}
+use Rattle.history.specs.Model.{query, Event, Line, gave}
+use Rattle.history.specs.History.{Buffers, Ran, SomeRun, SameRefusals, RightHits, RightLog, Decides, RunTheorem}
+use Rattle.history.specs.Examples.{stories, AllByModel, AllByRuns, AlterationsLimited}
+
+-- Every accepted query of a log is right: what `right` of `RightLog` comes to for a line that is one.
+abbrev pub QueriesRight : (Strand → Strand → Type 0) → List Line → Type 0
+QueriesRight Relation log =
+    (before after : List Line) (p : Strand) (work : ℕ) (slice : List ℕ) (count : ℕ) (hits : List ℕ) (searched : ℕ)
+    → log ≡ before ++ (gave (query p work slice) (found count hits searched) ∷ after)
+    → RightHits Relation before (record { motif = p; count = count; hits = hits })
+
+-- Buffers of which one is not whole blocks; a log whose every call is refused by rule 10.
+abbrev pub NotWhole : Buffers → Type 0
+NotWhole β = (length (β .catalog) % blockSize ≡ 0 → ⊥) ⊎ (length (β .cache) % blockSize ≡ 0 → ⊥)
+
+unfoldable pub AllRefused : List Line → Type 0
+AllRefused [] = Unit
+AllRefused (line ∷ log) = (line .result ≡ refused notWholeBlocks noSide 0) × AllRefused log
 
 -- All the claims.
 pub record Claims : Type 0 where
   -- a query's test says yes exactly where an embedding exists
   pub decides : Decides EmbedsIn embeds
-  -- every admitted list from zeroed buffers: by the definitions of the calls, and of each run that is known by the calls' contracts alone
-  pub history : HistoryTheorem EmbedsIn embeds
+  -- every run through an admitted list, from zeroed buffers; and every list has a run
   pub runs : RunTheorem EmbedsIn embeds
+  pub some-run : SomeRun embeds
+  -- every list, admitted or not: a run refuses what the model refuses
+  pub refusals : SameRefusals embeds
   -- so every accepted query of a right log, as a line of it, is right
   pub queries : (B S : ℕ) (es : List Event) (log : List Line) → RightLog EmbedsIn embeds B S es log → QueriesRight EmbedsIn log
   -- buffers that are not whole blocks: every call of every list is refused by rule 10
-  pub not-whole : (es : List Event) (β : Buffers) → NotWhole β → AllRefused (bytesLog embeds β es)
-  -- the hypotheses can be met: the stories are admitted, alterations among them, and come to their results by the model and on the bytes
-  pub by-model : storiesOk stories ≡ true
-  pub on-bytes : AllOnBytes stories
+  pub not-whole : (es : List Event) (β : Buffers) (log : List Line) → NotWhole β → Ran embeds β es log → AllRefused log
+  -- the hypotheses can be met: the stories are admitted, alterations among them, and come to their results by the model and by every run
+  pub by-model : AllByModel stories
+  pub by-runs : AllByRuns stories
   -- which lists are not admitted, and that the limit on alterations is needed
   pub limited : AlterationsLimited

@@ -14,6 +14,11 @@ use lib.ListN.{length, set, drop, length-append, List·getD-append, drop-of-leng
 use lib.Seq.{drop-cons, set-at, append-snoc, getD-at, ext-getD}
 use Rattle.lists.specs.Vocabulary.{nth, choose, every, all, some, lowestFrom, lowest, tab, select, total, sameList}
 
+-- The answer b says whether A holds.
+pub record Tells (b : Bool) (A : Type 0) : Type 0 where
+  pub yes : b ≡ true → A
+  pub no : b ≡ false → A → ⊥
+
 -- ---- Booleans
 
 pub and-true : (a b : Bool) → (a && b) ≡ true → (a ≡ true) × (b ≡ true)

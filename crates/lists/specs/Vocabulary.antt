@@ -1,6 +1,5 @@
 -- Words that all specifications share: entries and parts of lists, choices, and tests over the numbers below n.
 use Prim.Native.Nat.{ℕ, zero, suc, _+_, _-_}
-use mathlib.Core.Path.{_≡_}
 use mathlib.Core.Bool.{Bool, true, false, _&&_, _||_}
 use mathlib.Core.List.{List, [], _∷_, _++_}
 use lib.Dec.{eqb}
@@ -19,7 +18,7 @@ unfoldable pub choose : {A : Type 0} → Bool → A → A → A
 choose true x y = x
 choose false x y = y
 
--- Every number below n passes; some number below n passes. By the `let` the rest is computed only where p n does not decide.
+-- Every number below n passes; some number below n passes. (A `let` here and below only saves work in computing.)
 unfoldable pub every : ℕ → (ℕ → Bool) → Bool
 every zero p = true
 every (suc n) p = let r = every n p in p n && r
@@ -73,7 +72,6 @@ sameList [] (y ∷ ys) = false
 sameList (x ∷ xs) [] = false
 sameList (x ∷ xs) (y ∷ ys) = eqb x y && sameList xs ys
 
--- The answer b says whether A holds.
-pub record Tells (b : Bool) (A : Type 0) : Type 0 where
-  pub yes : b ≡ true → A
-  pub no : b ≡ false → A → ⊥
+-- f with the value v at d.
+unfoldable pub putAt : {A : Type 0} → (ℕ → A) → ℕ → A → ℕ → A
+putAt f d v e = choose (eqb e d) v (f e)

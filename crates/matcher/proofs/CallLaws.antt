@@ -8,16 +8,15 @@ use borrow.Author.Tests.{lt-ltb, le-ltb, ltb-false}
 use Rattle.refusals.specs.declared.Refusal.{Refusal}
 use Rattle.refusals.specs.declared.Verdict.{Verdict}
 use Rattle.refusals.specs.declared.Verdict.the-variants as verdict
-use Rattle.strand.specs.Strands.{Proper}
-use Rattle.refusals.specs.Rules.{moleculeSide, refusal, first, byVerdict}
-use Rattle.strand.specs.StrandRules.{pairVerdict}
+use Rattle.strand.specs.Strands.{Proper, leastMotif, leastMolecule, greatestLength, pairVerdict}
+use Rattle.refusals.specs.Rules.{motifSide, moleculeSide, refusal, first, byVerdict, workSize, workRule}
 use Rattle.refusals.proofs.RuleLaws.{rule-yes, rule-no, rule-pass, first-one, first-pass, first-skip, first-stop, by-refused, by-accepted}
 use Rattle.strand.proofs.VerdictLaws.{pair-proper}
+use Rattle.strand.specs.Strands.{Pair}
 use Rattle.matcher.specs.declared.Matched.the-variants.{Prefix, Refused}
-use Rattle.refusals.specs.Work.{workSize, workRule}
 use Rattle.arcs.specs.Arcs.{Setting}
 use Rattle.placing.specs.Placing.{Laid}
-use Rattle.matcher.specs.Answers.{Shown, Searchable, placesRule, lengthVerdict, showVerdict}
+use Rattle.matcher.specs.Answers.{Shown, placesRule, lengthVerdict, showVerdict}
 
 -- The answer by a verdict v.
 module _ (v : Verdict) (L : ℕ) where
@@ -27,9 +26,10 @@ module _ (v : Verdict) (L : ℕ) where
   pub answer-prefix : (k : ℕ) → v ≡ verdict.Accepted → k ≡ L → Prefix k ≡ byVerdict v Refused (Prefix L)
   answer-prefix k e h = ap Prefix h ∙ sym (by-accepted v Refused (Prefix L) e)
 
--- Accepted strands can be searched.
-pub searchable-of : {p pm q qm : List ℕ} {a b c d s : ℕ} → b ≤ 4096 → d ≤ 4096 → Proper s a b p pm → Proper moleculeSide c d q qm → Searchable p pm q qm
-searchable-of hb hd P Q =
+-- A proper motif and a proper molecule are what the walk over the whole motif asks for.
+pub whole-setting : {p pm q qm : List ℕ} → Proper motifSide leastMotif greatestLength p pm → Proper moleculeSide leastMolecule greatestLength q qm
+    → Setting p pm q qm 0 (length p)
+whole-setting P Q =
     record {
       window = record { same = P .same; small = (let z = P .small in omega arith); order = omega arith; ends = omega arith };
       motif = P .nested;
@@ -40,8 +40,8 @@ searchable-of hb hd P Q =
     }
 
 module _ (p pm q qm : List ℕ) where
-  pub pair-searchable : pairVerdict p pm q qm ≡ verdict.Accepted → Searchable p pm q qm
-  pair-searchable e = let P = pair-proper p pm q qm e in searchable-of {a = 1} {c = 1} (omega arith) (omega arith) (P .motif) (P .molecule)
+  pub pair-setting : pairVerdict p pm q qm ≡ verdict.Accepted → Setting p pm q qm 0 (length p)
+  pair-setting e = let P = pair-proper p pm q qm e in whole-setting (P .motif) (P .molecule)
 
   module _ (work : ℕ) where
     work-no : workSize (length p) (length q) ≤ work → workRule (length p) (length q) work ≡ verdict.Accepted
@@ -72,8 +72,8 @@ module _ (p pm q qm : List ℕ) where
         let a = first-pass (pairVerdict p pm q qm) (workRule (length p) (length q) work ∷ []) e in
         (a .0, work-of (a .1))
 
-    pub length-facts : lengthVerdict p pm q qm work ≡ verdict.Accepted → Searchable p pm q qm × (workSize (length p) (length q) ≤ work)
-    length-facts e = let a = length-rules e in (pair-searchable (a .0), a .1)
+    pub length-facts : lengthVerdict p pm q qm work ≡ verdict.Accepted → Pair p pm q qm × (workSize (length p) (length q) ≤ work)
+    length-facts e = let a = length-rules e in (pair-proper p pm q qm (a .0), a .1)
 
     module _ (places : ℕ) where
       pub show-pair : (x : Refusal) → pairVerdict p pm q qm ≡ verdict.Refused x → verdict.Refused x ≡ showVerdict p pm q qm places work
@@ -107,7 +107,7 @@ module _ (p pm q qm : List ℕ) where
 
       pub show-facts : showVerdict p pm q qm places work ≡ verdict.Accepted
           → Setting p pm q qm 0 (length p) × (length p ≤ places) × (workSize (length p) (length q) ≤ work)
-      show-facts e = let a = show-rules e in (pair-searchable (a .0), a .1, a .2)
+      show-facts e = let a = show-rules e in (pair-setting (a .0), a .1, a .2)
 
 -- Places laid from 0 are places shown.
 pub shown-of : {p pm q qm : List ℕ} {k : ℕ} {old new : List ℕ} → Laid p pm q qm 0 k 0 (length q) old new → Shown p pm q qm k old new

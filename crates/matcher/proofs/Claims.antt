@@ -1,20 +1,24 @@
--- The claims of specs/Answers hold.
+-- The claims of specs/Statements hold.
 use Prim.Native.Nat.{ℕ}
 use mathlib.Core.Path.{_≡_, refl, sym, _∙_}
 use mathlib.Core.List.{List}
 use native.Mathlib.Omega.{arith}
 use Rattle.refusals.specs.declared.Verdict.{Verdict}
 use Rattle.refusals.specs.declared.Verdict.the-variants as verdict
-use Rattle.refusals.specs.Rules.{byVerdict}
+use lib.ListN.{length}
+use Rattle.refusals.specs.Rules.{noSide, byVerdict, Refuses}
 use Rattle.refusals.proofs.RuleLaws.{by-refused, by-accepted}
-use Rattle.strand.specs.Strands.{lettersMatch}
-use Rattle.strand.specs.StrandRules.{pairVerdict}
+use Rattle.refusals.proofs.Refusing.{Numbering, call-number, if-numbered, none-numbered, first-numbered, work-numbered, refuses-by}
+use Rattle.strand.proofs.VerdictLaws.{pair-proper, proper-pair, pair-numbered}
+use Rattle.lists.specs.Vocabulary.{nth}
+use Rattle.strand.specs.Strands.{strandOf, lettersMatch, pairVerdict}
 use Rattle.embedding.specs.Longest.{longest}
-use Rattle.embedding.specs.Statements.{IsLongest}
+use Rattle.embedding.specs.Embedding.{IsLongest, EmbedsIn}
 use Rattle.embedding.proofs.Claims as embedding
 use Rattle.matcher.specs.declared.Matched.the-variants.{Prefix, Refused}
-use Rattle.matcher.specs.Answers.{lengthVerdict, lengthAnswer, LengthSays, showVerdict, showAnswer, ShowSays, Claims}
-use Rattle.matcher.proofs.CallLaws.{answer-prefix, pair-searchable, length-rules, length-accepts, show-rules, show-accepts}
+use Rattle.matcher.specs.Answers.{lengthVerdict, lengthAnswer, showVerdict, showAnswer, PrefixSays, WholeSays}
+use Rattle.matcher.specs.Statements.{Claims}
+use Rattle.matcher.proofs.CallLaws.{answer-prefix, pair-setting, length-rules, show-rules, length-facts, length-accepts, show-accepts}
 
 -- An answer that is a prefix was accepted, and is the length.
 prefix-of : (v : Verdict) (K L : ℕ) → byVerdict v Refused (Prefix K) ≡ Prefix L → (v ≡ verdict.Accepted) × (K ≡ L)
@@ -25,34 +29,69 @@ prefix-of verdict.Accepted K L e = (refl, let z = sym (by-accepted verdict.Accep
 -- Of accepted strands the length is the longest, and an accepting verdict v answers it.
 module _ (p pm q qm : List ℕ) (L : ℕ) (e : pairVerdict p pm q qm ≡ verdict.Accepted) where
   is-longest : longest lettersMatch p pm q qm ≡ L → IsLongest lettersMatch p pm q qm L
-  is-longest h = rw h at (embedding.claims .longest-is lettersMatch p pm q qm (pair-searchable p pm q qm e .motif .inside))
+  is-longest h = rw h at (embedding.claims .longest-is lettersMatch p pm q qm (pair-setting p pm q qm e .motif .inside))
 
   answers-longest : IsLongest lettersMatch p pm q qm L → (v : Verdict) → verdict.Accepted ≡ v
       → byVerdict v Refused (Prefix (longest lettersMatch p pm q qm)) ≡ Prefix L
   answers-longest I v h =
       sym
       (answer-prefix v (longest lettersMatch p pm q qm) L (sym h)
-      (embedding.claims .longest-only lettersMatch p pm q qm (pair-searchable p pm q qm e .motif .inside) L I))
+      (embedding.claims .longest-only lettersMatch p pm q qm (pair-setting p pm q qm e .motif .inside) L I))
 
-length-says : (p pm q qm : List ℕ) (work L : ℕ) → LengthSays p pm q qm work L
-unfolding lengthAnswer
-length-says p pm q qm work L = (
-  (λ e.
-      let a = prefix-of (lengthVerdict p pm q qm work) (longest lettersMatch p pm q qm) L e in
-      let b = length-rules p pm q qm work (a .0) in
-      (b .0, b .1, is-longest p pm q qm L (b .0) (a .1))),
-  (λ h. answers-longest p pm q qm L (h .0) (h .2) (lengthVerdict p pm q qm work) (length-accepts p pm q qm work (h .0) (h .1))),
-)
+-- Where the rules accept only accepted strands.
+module _ (p pm q qm : List ℕ) (v : Verdict) (strands : v ≡ verdict.Accepted → pairVerdict p pm q qm ≡ verdict.Accepted) where
+  prefix-says : PrefixSays v p pm q qm (byVerdict v Refused (Prefix (longest lettersMatch p pm q qm)))
+  prefix-says L = (
+    (λ e.
+        let a = prefix-of v (longest lettersMatch p pm q qm) L e in
+        (a .0, is-longest p pm q qm L (strands (a .0)) (a .1))),
+    (λ h. answers-longest p pm q qm L (strands (h .0)) (h .1) v (sym (h .0))),
+  )
 
-show-says : (p pm q qm : List ℕ) (places work L : ℕ) → ShowSays p pm q qm places work L
-unfolding showAnswer
-show-says p pm q qm places work L = (
-  (λ e.
-      let a = prefix-of (showVerdict p pm q qm places work) (longest lettersMatch p pm q qm) L e in
-      let b = show-rules p pm q qm work places (a .0) in
-      (b .0, b .1, b .2, is-longest p pm q qm L (b .0) (a .1))),
-  (λ h. answers-longest p pm q qm L (h .0) (h .3) (showVerdict p pm q qm places work) (show-accepts p pm q qm work places (h .0) (h .1) (h .2))),
-)
+  -- The whole motif is closed, so it is the longest where it embeds.
+  whole-longest : EmbedsIn (strandOf p pm) (strandOf q qm) → IsLongest lettersMatch p pm q qm (length p)
+  whole-longest E =
+      record { upto = omega arith; closed = embedding.claims .ends (nth pm) (length p) .whole; embeds = E; largest = λ k h C F. h }
+
+  whole-says : WholeSays v p pm q qm (byVerdict v Refused (Prefix (longest lettersMatch p pm q qm)))
+  whole-says = (
+    (λ e. let a = prefix-says (length p) .0 e in (a .0, a .1 .embeds)),
+    (λ h. prefix-says (length p) .1 (h .0, whole-longest (h .1))),
+  )
+
+  prefix-refuses : Numbering v → Refuses v Refused (byVerdict v Refused (Prefix (longest lettersMatch p pm q qm)))
+  prefix-refuses ok =
+      refuses-by v Refused _ (λ r. r) Refused (λ r. refl) (λ r e. let z : _≡_ {A = ℕ} 0 1 = cc in omega arith) ok (λ r s e. cc)
+
+length-numbered : (p pm q qm : List ℕ) (work : ℕ) → Numbering (lengthVerdict p pm q qm work)
+unfolding lengthVerdict
+length-numbered p pm q qm work = first-numbered _ _ (pair-numbered p pm q qm) (first-numbered _ _ (work-numbered (length p) (length q) work) none-numbered)
+
+show-numbered : (p pm q qm : List ℕ) (places work : ℕ) → Numbering (showVerdict p pm q qm places work)
+unfolding showVerdict
+show-numbered p pm q qm places work =
+    first-numbered _ _ (pair-numbered p pm q qm)
+    (first-numbered _ _ (if-numbered 9 noSide (call-number 9 0 (omega arith) (omega arith) (λ n. refl)) _)
+    (first-numbered _ _ (work-numbered (length p) (length q) work) none-numbered))
 
 pub claims : Claims
-claims = record { length-says = length-says; show-says = show-says }
+unfolding lengthAnswer showAnswer
+claims =
+    record {
+      length-says = λ p pm q qm work. prefix-says p pm q qm (lengthVerdict p pm q qm work) (λ e. length-rules p pm q qm work e .0);
+      length-whole = λ p pm q qm work. whole-says p pm q qm (lengthVerdict p pm q qm work) (λ e. length-rules p pm q qm work e .0);
+      length-accepts = λ p pm q qm work. (
+        (λ e. length-facts p pm q qm work e),
+        (λ h. sym (length-accepts p pm q qm work (proper-pair p pm q qm (h .0)) (h .1))),
+      );
+      length-refuses = λ p pm q qm work.
+          prefix-refuses p pm q qm (lengthVerdict p pm q qm work) (λ e. length-rules p pm q qm work e .0) (length-numbered p pm q qm work);
+      show-says = λ p pm q qm places work. prefix-says p pm q qm (showVerdict p pm q qm places work) (λ e. show-rules p pm q qm work places e .0);
+      show-whole = λ p pm q qm places work. whole-says p pm q qm (showVerdict p pm q qm places work) (λ e. show-rules p pm q qm work places e .0);
+      show-accepts = λ p pm q qm places work. (
+        (λ e. let a = show-rules p pm q qm work places e in (pair-proper p pm q qm (a .0), a .1, a .2)),
+        (λ h. sym (show-accepts p pm q qm work places (proper-pair p pm q qm (h .0)) (h .1) (h .2))),
+      );
+      show-refuses = λ p pm q qm places work.
+          prefix-refuses p pm q qm (showVerdict p pm q qm places work) (λ e. show-rules p pm q qm work places e .0) (show-numbered p pm q qm places work);
+    }

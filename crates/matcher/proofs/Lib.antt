@@ -1,3 +1,3 @@
 mod Whole
-pub mod CallLaws
+mod CallLaws
 pub mod Claims

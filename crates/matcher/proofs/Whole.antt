@@ -11,7 +11,7 @@ use Rattle.embedding.specs.Row.{Best}
 use Rattle.embedding.specs.Longest.{longest}
 use Rattle.embedding.proofs.Recurrence.{unique}
 use Rattle.embedding.proofs.Computed.{longest-best}
-use Rattle.refusals.specs.Work.{workSize}
+use Rattle.refusals.specs.Rules.{workSize}
 use Rattle.arcs.specs.Arcs.{Room}
 use Rattle.arcs.proofs.Arcs.{room-any}
 

@@ -6,7 +6,7 @@ use refusals::Verdict;
 use refusals::numbers;
 ghost use mathlib.Core.Path.{_≡_};
 ghost use lib.ListN.{length as len};
-ghost use Rattle.refusals.specs.Work.{WorkKept};
+ghost use Rattle.refusals.specs.Rules.{WorkKept};
 ghost use Rattle.matcher.specs.Answers.{lengthVerdict, lengthAnswer, showVerdict, showAnswer, PlacesShown};
 
 // The answer of length and show: the length of the longest closed prefix that embeds.

@@ -5,14 +5,13 @@ ghost use mathlib.Core.Path.{_≡_};
 ghost use Prim.Native.Nat.{_+_, _*_, _≤_, _<_};
 ghost use lib.ListN.{length};
 ghost use Rattle.lists.specs.Vocabulary.{nth};
-ghost use Rattle.strand.specs.Strands.{lettersMatch};
+ghost use Rattle.strand.specs.Strands.{lettersMatch, Proper, leastMotif, leastMolecule, greatestLength};
+ghost use Rattle.refusals.specs.Rules.{motifSide, moleculeSide, workSize};
 ghost use Rattle.embedding.specs.Row.{Best};
 ghost use Rattle.embedding.specs.Embedding.{lettersFit};
 ghost use Rattle.embedding.specs.Longest.{longest};
 ghost use Rattle.rows.specs.Rows.{Tables};
-ghost use Rattle.refusals.specs.Work.{workSize};
 ghost use Rattle.arcs.specs.Arcs.{Setting};
-ghost use Rattle.matcher.specs.Answers.{Searchable};
 
 // How far the arc l, r takes the motif from `from` on. An arc takes no more positions than it has bases: its row is made for that window alone.
 fn arc_end(
@@ -83,7 +82,7 @@ fn prefix_length_lent(
 
 // As `prefix_length`, for a motif of a query: its tables take little room.
 fn prefix_length_short(p: &[u8], pm: &[u16], q: &[u8], qm: &[u16], work: &mut [u16]) -> usize
-    requires { ⌜ Searchable (now p) (now pm) (now q) (now qm) ⌝ }
+    requires { ⌜ Setting (now p) (now pm) (now q) (now qm) 0 (length (now p)) ⌝ }
     requires { ⌜ workSize (length (now p)) (length (now q)) ≤ length (now work) ⌝ }
     requires { ⌜ length (now p) ≤ 120 ⌝ }
     ensures { λ k. ⌜ k ≡ longest lettersMatch (now (p .entry)) (now (pm .entry)) (now (q .entry)) (now (qm .entry)) ⌝ }
@@ -93,10 +92,11 @@ fn prefix_length_short(p: &[u8], pm: &[u16], q: &[u8], qm: &[u16], work: &mut [u
     prefix_length_lent(p, pm, q, qm, work, &mut tables)
 }
 
-// The length of the longest closed prefix of the motif that embeds in the molecule. What it asks of its inputs holds where both strands are accepted:
-// the call length checks them before, and a query finds every catalog block sound before it searches one.
+// The length of the longest closed prefix of the motif that embeds in the molecule. It asks for what the rules of the direct calls accept: the call
+// length checks both strands before, and a query finds every catalog block sound before it searches one.
 pub fn prefix_length(p: &[u8], pm: &[u16], q: &[u8], qm: &[u16], work: &mut [u16]) -> usize
-    requires { ⌜ Searchable (now p) (now pm) (now q) (now qm) ⌝ }
+    requires { ⌜ Proper motifSide leastMotif greatestLength (now p) (now pm) ⌝ }
+    requires { ⌜ Proper moleculeSide leastMolecule greatestLength (now q) (now qm) ⌝ }
     requires { ⌜ workSize (length (now p)) (length (now q)) ≤ length (now work) ⌝ }
     ensures { λ k. ⌜ k ≡ longest lettersMatch (now (p .entry)) (now (pm .entry)) (now (q .entry)) (now (qm .entry)) ⌝ }
 {

@@ -12,7 +12,8 @@ use lib.ListN.{length, set, List·getD-eq-default}
 use lib.Seq.{getD-set-same, getD-set-other, set-out}
 use borrow.Author.Tests.{eq-eqb, ne-eqb, eqb-true}
 use Rattle.lists.specs.Vocabulary.{nth, choose, every}
-use Rattle.octets.specs.Bits.{bitOf, withBit, withoutBit, mapBit, setMap, clearMap, bitsWithin}
+use Rattle.octets.specs.Octets.{bitOf, withoutBit, mapBit, clearMap}
+use Rattle.octets.specs.Bits.{withBit, setMap, bitsWithin}
 use Rattle.lists.proofs.ListLaws.{every-at, every-true, both-ways}
 use Rattle.octets.proofs.Table.{same, same→eq, below, below-at, below₂-at, below₃-at}
 

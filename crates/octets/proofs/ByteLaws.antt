@@ -6,7 +6,7 @@ use lib.ListN.{replicate, set, take, drop}
 use lib.Seq.{getD-drop}
 use lib.Dec.{lit<}
 use Rattle.lists.specs.Vocabulary.{between}
-use Rattle.octets.specs.Numbers.{Bytes, bytesOf}
+use Rattle.octets.specs.Octets.{Bytes, bytesOf}
 
 pub small-append : (a b : List ℕ) → Bytes a → Bytes b → Bytes (a ++ b)
 small-append [] b ha hb i = hb i

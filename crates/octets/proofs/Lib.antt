@@ -3,3 +3,4 @@ pub mod ByteLaws
 pub mod BitLaws
 pub mod MapLaws
 pub mod ScanLaws
+pub mod Examples

@@ -1,6 +1,6 @@
 -- The bytes of a set of numbers and the set of the bits of bytes are each other's inverse.
 use mathlib.Core.Path.{_≡_, refl, sym, ap, ap₂, _∙_}
-use mathlib.Core.Bool.{Bool, true, false, not}
+use mathlib.Core.Bool.{Bool, true, false, not, _&&_, _||_, and-true, and-false, or-true, or-false}
 use mathlib.Core.List.{List, [], _∷_, _++_}
 use Prim.Native.Nat.{ℕ, zero, suc, _+_, _*_, _/_, _%_, _^_, _<_}
 use native.Mathlib.Omega.{arith}
@@ -9,14 +9,12 @@ use lib.ListN.{replicate, length, getD, set, length-set, List·getD-append, List
 use lib.Seq.{ext-getD, getD-append-add, set-append-left}
 use native.Mathlib.Nat.{suc-add, zero-add}
 use native.Mathlib.Decide.{ℕ-discrete, decLt}
-use mathlib.Core.Bool.{_&&_, _||_, and-true, and-false, or-true, or-false}
 use borrow.Author.Tests.{eq-eqb, ne-eqb}
-use Rattle.octets.specs.Numbers.{Bytes}
-use Rattle.octets.specs.Bits.{bitOf, mapBit, setMap, clearMap, withoutBit}
+use Rattle.octets.specs.Octets.{Bytes, bitOf, mapBit, clearMap, withoutBit, bitSum, mapBytes, without}
+use Rattle.octets.specs.Bits.{setMap}
 use Rattle.octets.proofs.ByteLaws.{small-set}
 use Rattle.octets.proofs.BitLaws.{set-same, set-other, clear-same, clear-other, apart-in-map, with-small, without-small}
 use Rattle.lists.specs.Vocabulary.{nth, choose, tab}
-use Rattle.octets.specs.Maps.{bitSum, mapBytes, without}
 use Rattle.octets.proofs.Table.{same, same→eq, both, both-left, both-right, below, below-at}
 use Rattle.lists.proofs.ListLaws.{length-tab, nth-tab, tab-ext}
 

@@ -9,7 +9,7 @@ use native.Mathlib.Decide.{ℕ-discrete}
 use lib.ListN.{length, set, take, drop, replicate, length-append, length-drop, drop-of-length-le}
 use lib.Seq.{drop-cons, set-at, append-snoc, take-suc, take-all, take-at, drop-at, length-take-le, sets-eq, drop-drop}
 use Rattle.lists.specs.Vocabulary.{nth, sameList}
-use Rattle.octets.specs.Numbers.{word16, words, bytesOf}
+use Rattle.octets.specs.Octets.{word16, words, bytesOf}
 use Rattle.lists.proofs.ListLaws.{length-tab, nth-tab, same-place, same-all}
 
 -- ---- a copy, one entry a turn

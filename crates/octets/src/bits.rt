@@ -1,7 +1,8 @@
 // Bits, tested, set and cleared by shifts and masks. Number d of a map is bit d mod 8, lowest first, of the map's byte d div 8.
 ghost use mathlib.Core.Path.{_≡_};
 ghost use Prim.Native.Nat.{_+_, _<_};
-ghost use Rattle.octets.specs.Bits.{bitOf, withBit, withoutBit, mapBit, setMap, clearMap, bitsWithin};
+ghost use Rattle.octets.specs.Octets.{bitOf, withoutBit, mapBit, clearMap};
+ghost use Rattle.octets.specs.Bits.{withBit, setMap, bitsWithin};
 
 // Bit k of a byte; the byte with it set; the byte without it.
 fn bit_of(b: u8, k: u8) -> bool

@@ -4,7 +4,7 @@ ghost use Prim.Native.Nat.{_+_, _*_, _<_, _≤_};
 ghost use mathlib.Core.List.{_++_};
 ghost use lib.ListN.{length, drop, replicate};
 ghost use Rattle.lists.specs.Vocabulary.{all, sameList};
-ghost use Rattle.octets.specs.Numbers.{isZero, word16, words, bytesOf};
+ghost use Rattle.octets.specs.Octets.{isZero, word16, words, bytesOf};
 
 // Whether every byte is 0.
 pub fn all_zero(s: &[u8]) -> bool

@@ -12,8 +12,7 @@ use Rattle.lists.proofs.ListLaws.{lowest-before}
 use Rattle.refusals.specs.declared.Refusal.{Refusal}
 use Rattle.refusals.specs.declared.Verdict.{Verdict}
 use Rattle.refusals.specs.declared.Verdict.the-variants.{Accepted, Refused}
-use Rattle.refusals.specs.Work.{WorkKept}
-use Rattle.refusals.specs.Rules.{refusal, refuseIf, refuseAtLowest, first, byVerdict}
+use Rattle.refusals.specs.Rules.{WorkKept, refusal, refuseIf, refuseAtLowest, first, byVerdict}
 
 pub unrefused : (x : Refusal) → Refused x ≡ Accepted → ⊥
 unrefused x e = let z : _≡_ {A = ℕ} 0 1 = cc in omega arith

@@ -1,5 +1,5 @@
--- The table of refusals: the numbers of its rules, the sides, a refusal with number, side and place, and the first rule that applies.
-use Prim.Native.Nat.{ℕ}
+-- The table of refusals: the numbers of its rules, the sides, a refusal with number, side and place, the first rule that applies; and the work slice.
+use Prim.Native.Nat.{ℕ, _+_, _*_, _≤_, _<_}
 use mathlib.Core.List.{List, [], _∷_}
 use mathlib.Core.Bool.{Bool}
 use lib.Dec.{ltb}
@@ -7,6 +7,9 @@ use Rattle.lists.specs.Vocabulary.{choose, lowest}
 use Rattle.refusals.specs.declared.Refusal.{Refusal}
 use Rattle.refusals.specs.declared.Verdict.{Verdict}
 use Rattle.refusals.specs.declared.Verdict.the-variants.{Accepted, Refused}
+use mathlib.Core.Path.{_≡_}
+use mathlib.Core.Logic.{_↔_}
+use lib.ListN.{length}
 
 -- The numbers of the table.
 abbrev pub unequalLengths : ℕ
@@ -83,3 +86,35 @@ first (Refused r ∷ vs) = Refused r
 unfoldable pub byVerdict : {A : Type 0} → Verdict → (Refusal → A) → A → A
 byVerdict Accepted refused accepted = accepted
 byVerdict (Refused r) refused accepted = refused r
+
+-- A refusal of the table: "Numbers 1 to 7 have side 0 for a motif and 1 for a molecule; the others have side 2"; the place is 0 where the table names none,
+-- which is with all but 4 to 7 and 11.
+pub record Numbered (number side place : ℕ) : Type 0 where
+  pub from : unequalLengths ≤ number
+  pub upto : number ≤ notHeld
+  pub of-strand : number ≤ arcsCross → side ≤ moleculeSide
+  pub of-call : arcsCross < number → side ≡ noSide
+  pub early : number < badLetter → place ≡ 0
+  pub late : arcsCross < number → (number ≡ unsoundBlock → ⊥) → place ≡ 0
+
+-- A call whose rules give verdict v and which answers this tells a refusal exactly where the rules refuse, and just that refusal; it is one of the table's.
+pub record Refuses {A : Type 0} (v : Verdict) (refused : Refusal → A) (answer : A) : Type 0 where
+  pub numbered : (r : Refusal) → v ≡ Refused r → Numbered (r .number) (r .side) (r .place)
+  pub exactly : (r : Refusal) → (v ≡ Refused r) ↔ (answer ≡ refused r)
+
+-- Where it answers a refusal, its two buffers are afterwards (a prime marks them) as they were before.
+abbrev pub Keeps : {A : Type 0} → (Refusal → A) → A → List ℕ → List ℕ → List ℕ → List ℕ → Type 0
+Keeps refused answer a b a′ b′ = (r : Refusal) → answer ≡ refused r → (a′ ≡ a) × (b′ ≡ b)
+
+-- 01: a work slice of at least 64 × (m + 1) + 8 × n entries, for a motif of m and a molecule of n bases.
+abbrev pub workSize : ℕ → ℕ → ℕ
+workSize m n = 64 * (m + 1) + 8 * n
+
+-- Rule 8: work too short.
+abbrev pub workRule : ℕ → ℕ → ℕ → Verdict
+workRule m n work = refuseIf workTooShort noSide (ltb work (workSize m n))
+
+-- A refused call leaves the work slice as it was; after an accepted one it has its length, and its entries are free.
+unfoldable pub WorkKept : Verdict → List ℕ → List ℕ → Type 0
+WorkKept Accepted before after = length after ≡ length before
+WorkKept (Refused r) before after = after ≡ before

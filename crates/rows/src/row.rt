@@ -61,7 +61,7 @@ fn extend_by(steps: &[u16], from: usize, to: usize, row: &mut [u16])
     }
 }
 
-// The row with the unbonded base b put in front of its stretch.
+// The row with the unbonded base b put in front of its stretch (003: extend).
 pub fn extend(p: &[u8], pm: &[u16], tables: &[u16], from: usize, to: usize, b: u8, row: &mut [u16])
     requires { ⌜ Window (now p) (now pm) from to ⌝ }
     requires { ⌜ Tables (now p) (now pm) (now tables) ⌝ }
@@ -86,7 +86,7 @@ fn copy_steps(steps: &[u16], from: usize, to: usize, row: &mut [u16])
     }
 }
 
-// The row of the unbonded base b.
+// The row of the unbonded base b (003: initialize).
 pub fn single(p: &[u8], pm: &[u16], tables: &[u16], from: usize, to: usize, b: u8, row: &mut [u16])
     requires { ⌜ Window (now p) (now pm) from to ⌝ }
     requires { ⌜ Tables (now p) (now pm) (now tables) ⌝ }
@@ -99,7 +99,8 @@ pub fn single(p: &[u8], pm: &[u16], tables: &[u16], from: usize, to: usize, b: u
     row[to] = to as u16;
 }
 
-// The row of two stretches, in the place of the first row: `first` is where the row of the one in front starts, `then` where that of the one behind does.
+// The row of two stretches (003: combine), in the place of the first row: `first` is where the row of the one in front starts, `then` where that of the one
+// behind does.
 pub fn combine(from: usize, to: usize, first: usize, then: usize, row: &mut [u16])
     requires { ⌜ (from ≤ to) × ((to ≤ 4096) × ((first + to < length (now row)) × (then + to < length (now row)))) ⌝ }
     requires { ⌜ ((j : ℕ) → from ≤ j → j ≤ to → (j ≤ nth (now row) (first + j)) × (nth (now row) (first + j) ≤ to)) ⌝ }
@@ -315,8 +316,8 @@ fn close_short(
     }
 }
 
-// The row of an arc with the bases x and y, in the place of its inner row. A short window is done in one pass; for a long one short loops over whole
-// rows are faster, and the next row is written too.
+// The row of an arc with the bases x and y (003: meld), in the place of its inner row. A short window is done in one pass; for a long one short loops over
+// whole rows are faster, and the next row is written too.
 pub fn close_arc(
     p: &[u8],
     pm: &[u16],

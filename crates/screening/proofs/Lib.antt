@@ -1,3 +1,4 @@
 pub mod TextLaws
 pub mod ScreenLaws
 pub mod OutputLaws
+pub mod Claims

@@ -7,21 +7,19 @@ use native.Mathlib.Omega.{arith}
 use lib.Dec.{ltb}
 use lib.ListN.{length, replicate}
 use Rattle.lists.specs.Vocabulary.{choose, lowest, select}
-use Rattle.strand.specs.Strands.{Strand}
+use Rattle.strand.specs.Strands.{Strand, strandVerdict}
 use Rattle.refusals.specs.Rules.{refusal, refuseIf, refuseAtLowest, first, byVerdict}
-use Rattle.strand.specs.StrandRules.{strandVerdict}
 use Rattle.refusals.specs.declared.Verdict.{Verdict}
 use Rattle.refusals.specs.declared.Verdict.the-variants.{Accepted, Refused}
 use Rattle.lists.proofs.ListLaws.{lowest-upto, select-short}
-use Rattle.block.specs.Block.{holdsMotif, blockOf, blockCount}
-use Rattle.block.specs.Content.{emptyBlock, motifHandedIn}
-use Rattle.calls.specs.Limits.{motifVerdict, workVerdict}
-use Rattle.calls.specs.Buffers.{unsoundAt, buffersVerdict, slotOf, cleanCache}
+use Rattle.block.specs.Motif.{holdsMotif, motifHandedIn}
+use Rattle.block.specs.Block.{blockOf, blockCount}
+use Rattle.block.specs.Content.{emptyBlock}
+use Rattle.calls.specs.Buffers.{motifVerdict, workVerdict, unsoundAt, buffersVerdict, slotOf, cleanCache}
 use Rattle.calls.specs.declared.Queried.the-variants.{Refused as NotQueried}
 use Rattle.calls.specs.Calls.{QueryEffect, queried, queryVerdict, queryAccepted, queryOutcome, isHit, toSearch}
 use Rattle.screening.specs.Text.{line, spaced, badLengthText, badMotifText, mostOutput}
 use Rattle.screening.specs.Screen.{mostScreened, isInput, firstBlock, catalogIn, screenWork, answerText, effectText, screenQuery, screenOutput}
-use Rattle.screening.specs.Screen.{OutputSays}
 use Rattle.screening.proofs.TextLaws.{most-hits, most-refused}
 use Rattle.screening.proofs.ScreenLaws.{entry-text, input-few, motif-proper, output-bad-length, output-bad-motif, output-answer}
 
@@ -130,8 +128,8 @@ module _ (embeds : Strand → Strand → Bool) (input : List ℕ) where
       effect-short embeds (catalogIn input) (motifHandedIn (firstBlock input)) (input-few input e .1) emptyBlock screenWork (replicate mostScreened 0)
       (P .small) (omega (arith, P .same, P .small))
 
-  pub output-says : OutputSays embeds input
-  output-says = by-input (isInput input) refl
+  pub output-short : length (screenOutput embeds input) ≤ mostOutput
+  output-short = by-input (isInput input) refl
     where
       by-motif : isInput input ≡ true → (b : Bool) → holdsMotif (firstBlock input) ≡ b → length (screenOutput embeds input) ≤ mostOutput
       by-motif e false m = omega (arith, ap length (output-bad-motif embeds input e m), bad-motif-long)

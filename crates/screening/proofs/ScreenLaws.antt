@@ -9,19 +9,16 @@ use lib.Dec.{ltb, leb, eqb}
 use lib.ListN.{length, take, drop, replicate, length-append, length-drop, length-replicate}
 use lib.Seq.{take-at, take-all}
 use Rattle.lists.specs.Vocabulary.{choose, select}
-use Rattle.strand.specs.Strands.{Strand, strandOf, Proper}
-use Rattle.refusals.specs.Rules.{motifSide, noSide, wrongSlice, first, refuseIf, byVerdict}
-use Rattle.refusals.specs.Work.{WorkKept}
-use Rattle.strand.specs.StrandRules.{leastMotif}
+use Rattle.strand.specs.Strands.{Strand, strandOf, Proper, leastMotif}
+use Rattle.refusals.specs.Rules.{motifSide, noSide, wrongSlice, first, refuseIf, byVerdict, WorkKept}
 use Rattle.lists.proofs.ListLaws.{and-true, and-left, never, select-short}
 use Rattle.strand.proofs.VerdictLaws.{accepted-proper}
-use Rattle.block.specs.Checksum.{blockSize}
+use Rattle.block.specs.Content.{blockSize, emptyBlock}
 use Rattle.block.proofs.ContentLaws.{motif-proper as handed-proper, held-sound}
 use Rattle.refusals.specs.declared.Refusal.{Refusal}
-use Rattle.block.specs.Block.{holdsMotif, blockOf, soundMotif, blockCount}
-use Rattle.block.specs.Content.{emptyBlock, motifHandedIn}
-use Rattle.calls.specs.Limits.{motifVerdict, workVerdict, mostMotifBases}
-use Rattle.calls.specs.Buffers.{buffersVerdict, slotOf, cleanCache}
+use Rattle.block.specs.Motif.{holdsMotif, soundMotif, motifHandedIn}
+use Rattle.block.specs.Block.{blockOf, blockCount}
+use Rattle.calls.specs.Buffers.{motifVerdict, workVerdict, mostMotifBases, buffersVerdict, slotOf, cleanCache}
 use Rattle.calls.specs.Calls.{QueryEffect, queried, queryVerdict, queryAccepted, queryOutcome, isHit, toSearch}
 use Rattle.refusals.specs.declared.Verdict.{Verdict}
 use Rattle.refusals.specs.declared.Verdict.the-variants.{Accepted, Refused}

@@ -11,7 +11,8 @@ use borrow.Author.Tests.{lt-ltb, le-ltb}
 use lib.ListN.{length, take, drop, set, length-append, take-append-drop}
 use lib.Seq.{set-split, take-at, drop-at, drop-drop, take-suc, take-add, length-take-le, take-length, paste, paste-suc}
 use Rattle.lists.specs.Vocabulary.{nth, choose, select}
-use Rattle.screening.specs.Text.{newline, digit, digitsIn, digits, valueFrom, DigitsSay, spaced, line, lines, hitsText, refusedText, mostOutput, TextPut}
+use Rattle.screening.specs.Text.{newline, digit, digitsIn, digits, spaced, line, lines, hitsText, refusedText, mostOutput, TextPut}
+use Rattle.screening.specs.Statements.{valueFrom, DigitsSay}
 
 -- ---- one text after another
 
@@ -140,7 +141,6 @@ value-within (suc k) n h =
     last : valueFrom 0 (digits (n / 10)) ≡ n / 10 → valueFrom (valueFrom 0 (digits (n / 10))) (digit (n % 10) ∷ []) ≡ n
     last e = ap (λ (v : ℕ). valueFrom v (digit (n % 10) ∷ [])) e ∙ value-one (n / 10) (n % 10) ∙ omega arith
 
--- The claim for readers.
 pub digits-value : DigitsSay
 digits-value n = value-within (suc n) n (omega arith)
 

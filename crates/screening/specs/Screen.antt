@@ -6,11 +6,11 @@ use lib.Dec.{eqb, leb}
 use lib.ListN.{length, take, drop, replicate}
 use Rattle.lists.specs.Vocabulary.{choose}
 use Rattle.strand.specs.Strands.{Strand}
-use Rattle.block.specs.Checksum.{blockSize}
-use Rattle.block.specs.Content.{emptyBlock, motifHandedIn}
-use Rattle.block.specs.Block.{holdsMotif, blockCount}
-use Rattle.refusals.specs.Work.{workSize}
-use Rattle.calls.specs.Limits.{mostMoleculeBases, mostMotifBases}
+use Rattle.block.specs.Content.{blockSize, emptyBlock}
+use Rattle.block.specs.Motif.{motifHandedIn, holdsMotif}
+use Rattle.block.specs.Block.{blockCount}
+use Rattle.refusals.specs.Rules.{workSize}
+use Rattle.calls.specs.Buffers.{mostMoleculeBases, mostMotifBases}
 use Rattle.calls.specs.Calls.{QueryEffect, queryVerdict, queryOutcome}
 use Rattle.refusals.specs.declared.Verdict.{Verdict}
 use Rattle.calls.specs.declared.Queried.{Queried}
@@ -101,7 +101,3 @@ module _ (embeds : Strand → Strand → Bool) where
       (screened (Written (length (screenOutput input))) (screenOutput input ++ drop (length (screenOutput input)) out)
       (cacheLeft input cache work hits) (hitsLeft input work hits))
       (screened NoRoom out cache hits)
-
--- No output is longer than mostOutput; `output-says`, in proofs/OutputLaws, proves it.
-abbrev pub OutputSays : (Strand → Strand → Bool) → List ℕ → Type 0
-OutputSays embeds input = length (screenOutput embeds input) ≤ mostOutput

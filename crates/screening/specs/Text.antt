@@ -1,5 +1,5 @@
 -- The text that the screen program prints, as bytes: numbers, lines, and each kind of output.
-use Prim.Native.Nat.{ℕ, zero, suc, _+_, _-_, _*_, _/_, _%_}
+use Prim.Native.Nat.{ℕ, zero, suc, _+_, _/_, _%_}
 use mathlib.Core.Path.{_≡_}
 use mathlib.Core.List.{List, [], _∷_, _++_}
 use lib.Dec.{ltb}
@@ -24,15 +24,6 @@ digitsIn (suc k) n = let front = digitsIn k (n / 10) in choose (ltb n 10) (digit
 -- A number as 01 prints it: its decimal digits, and no leading 0 but that of 0 itself.
 unfoldable pub digits : ℕ → List ℕ
 digits n = digitsIn (suc n) n
-
--- The number that digits stand for, read from the left; `read` is that of the digits before them.
-unfoldable pub valueFrom : ℕ → List ℕ → ℕ
-valueFrom read [] = read
-valueFrom read (d ∷ ds) = valueFrom (10 * read + (d - 48)) ds
-
--- The claim that the digits of a number stand for it; `digits-value`, in proofs/TextLaws, proves it.
-abbrev pub DigitsSay : Type 0
-DigitsSay = (n : ℕ) → valueFrom 0 (digits n) ≡ n
 
 -- Words with single blanks between them.
 unfoldable pub spaced : List (List ℕ) → List ℕ

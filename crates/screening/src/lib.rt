@@ -7,14 +7,14 @@ ghost use mathlib.Core.Path.{_≡_};
 ghost use mathlib.Core.Bool.{true, false, _&&_};
 ghost use Prim.Native.Nat.{_≤_};
 ghost use lib.ListN.{length};
-ghost use Rattle.block.specs.Block.{holdsMotif};
-ghost use Rattle.block.specs.Content.{blockBases, emptyBlock, motifHandedIn};
-ghost use Rattle.block.specs.Checksum.{blockSize};
-ghost use Rattle.refusals.specs.Work.{WorkKept};
+ghost use Rattle.block.specs.Motif.{holdsMotif, motifHandedIn};
+ghost use Rattle.block.specs.Content.{blockBases, emptyBlock, blockSize};
+ghost use Rattle.refusals.specs.Rules.{WorkKept};
 ghost use Rattle.calls.specs.Calls.{queried, queryVerdict, queryOutcome};
 ghost use Rattle.screening.specs.Text.{refusedText, mostOutput, TextPut};
-ghost use Rattle.screening.specs.Screen.{isInput, firstBlock, catalogIn, answerText, AnswerFits, isAsked, screenOutput, hasRoom, screened, cacheLeft, hitsLeft, screenOutcome, screenVerdict};
-ghost use Rattle.calls.specs.Motifs.{embeds};
+ghost use Rattle.screening.specs.Screen.{isInput, firstBlock, catalogIn, answerText, AnswerFits, isAsked, screenOutput, hasRoom, screened, cacheLeft};
+ghost use Rattle.screening.specs.Screen.{hitsLeft, screenOutcome, screenVerdict};
+ghost use Rattle.embedding.specs.Longest.{embeds};
 
 // What screen answers: how many bytes of output it wrote, or that a borrowed buffer is too short or the cache not one block.
 pub enum Screened {

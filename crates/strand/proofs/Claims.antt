@@ -6,13 +6,14 @@ use mathlib.Core.List.{List}
 use native.Mathlib.Omega.{arith}
 use Rattle.refusals.specs.declared.Verdict.{Verdict}
 use Rattle.refusals.specs.declared.Verdict.the-variants.{Accepted, Refused}
-use Rattle.refusals.specs.Rules.{motifSide, moleculeSide, first, byVerdict}
+use Rattle.refusals.specs.Rules.{moleculeSide, byVerdict, Refuses}
 use Rattle.refusals.proofs.RuleLaws.{by-accepted}
+use Rattle.refusals.proofs.Refusing.{refuses-by}
 use Rattle.strand.specs.declared.Checked.the-variants as checked
-use Rattle.strand.specs.StrandRules.{leastMotif, leastMolecule, greatestLength, checkVerdict, checkAnswer, pairVerdict}
-use Rattle.strand.specs.Statements.{NestedSays, StrandSays, CheckSays, PairSays, LowestSays, Claims}
+use Rattle.strand.specs.Strands.{leastMolecule, greatestLength, checkVerdict, checkAnswer, CheckSays}
+use Rattle.strand.specs.Statements.{NestedSays, StrandSays, LowestSays, Claims}
 use Rattle.lists.proofs.ListLaws.{lowest-before, lowest-upto, lowest-passes}
-use Rattle.strand.proofs.VerdictLaws.{nested-yes, nested-test, accepted-proper, proper-accepted, pair-proper}
+use Rattle.strand.proofs.VerdictLaws.{nested-yes, nested-test, accepted-proper, proper-accepted, check-numbered}
 
 nested-says : (mates : List ℕ) → NestedSays mates
 nested-says mates = (nested-yes mates, nested-test mates)
@@ -25,19 +26,17 @@ unfolding byVerdict
 nested-accepted Accepted e = refl
 nested-accepted (Refused x) e = let z : _≡_ {A = ℕ} 0 1 = cc in absurd (omega arith)
 
-check-says : (bases mates : List ℕ) → CheckSays bases mates
+check-says : (bases mates : List ℕ) → CheckSays bases mates (checkAnswer bases mates)
 unfolding checkAnswer checkVerdict
 check-says bases mates =
     let r = strand-says moleculeSide leastMolecule greatestLength bases mates in
     ((λ e. r .0 (nested-accepted _ e)), (λ p. by-accepted _ _ _ (r .1 p)))
 
-pair-says : (p pm q qm : List ℕ) → PairSays p pm q qm
-unfolding pairVerdict first
-pair-says p pm q qm = (
-  (λ e. let r = pair-proper p pm q qm e in (r .motif, r .molecule)),
-  (λ r.
-      rw (proper-accepted motifSide leastMotif greatestLength p pm (r .0), proper-accepted moleculeSide leastMolecule greatestLength q qm (r .1))),
-)
+check-refuses : (bases mates : List ℕ) → Refuses (checkVerdict bases mates) checked.Refused (checkAnswer bases mates)
+unfolding checkAnswer
+check-refuses bases mates =
+    refuses-by (checkVerdict bases mates) checked.Refused checked.Nested (λ r. r) checked.Refused (λ r. refl)
+    (λ r e. let z : _≡_ {A = ℕ} 0 1 = cc in omega arith) (check-numbered bases mates) (λ r s e. cc)
 
 lowest-says : (n : ℕ) (test : ℕ → Bool) → LowestSays n test
 lowest-says n test =
@@ -48,4 +47,5 @@ lowest-says n test =
     }
 
 pub claims : Claims
-claims = record { nested-says = nested-says; strand-says = strand-says; check-says = check-says; pair-says = pair-says; lowest-says = lowest-says }
+claims =
+    record { nested-says = nested-says; strand-says = strand-says; check-says = check-says; check-refuses = check-refuses; lowest-says = lowest-says }

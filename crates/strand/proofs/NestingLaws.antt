@@ -9,7 +9,8 @@ use lib.ListN.{length}
 use lib.Dec.{ltb, leb, eqb}
 use borrow.Author.Tests.{lt-ltb, le-ltb, leb-false, eqb-true}
 use Rattle.lists.specs.Vocabulary.{nth, some}
-use Rattle.strand.specs.Strands.{isLetter, notLetter, mateOutside, notMutual, crosses, crossedAt, Inside, Paired, Apart, Closes}
+use Rattle.strand.specs.Strands.{isLetter, notLetter, mateOutside, notMutual, crosses, crossedAt, Inside, Paired, Apart}
+use Rattle.strand.specs.Nesting.{Closes}
 use Rattle.lists.proofs.ListLaws.{not-not, some-no, some-none}
 
 -- ---- the test of two arcs

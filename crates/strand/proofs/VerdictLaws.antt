@@ -1,17 +1,17 @@
 -- Tests and propositions of strands: nested mates, what an accepted strand is, a motif with a molecule, equal strands.
-use mathlib.Core.Path.{_≡_, sym, ap}
+use mathlib.Core.Path.{_≡_, refl, sym, ap}
 use mathlib.Core.Bool.{true, false, not, _&&_}
 use mathlib.Core.List.{List}
-use Prim.Native.Nat.{ℕ, _<_}
+use Prim.Native.Nat.{ℕ, _≤_, _<_}
 use native.Mathlib.Omega.{arith}
 use lib.ListN.{length}
 use borrow.Author.Tests.{eq-eqb, ltb-false, eqb-true, lt-leb}
 use Rattle.refusals.specs.declared.Verdict.the-variants.{Accepted}
 use Rattle.lists.specs.Vocabulary.{nth, all, some, sameList}
-use Rattle.strand.specs.Strands.{Strand, sameStrand, isLetter, notLetter, mateOutside, notMutual, crossedAt, isNested, Nested, Proper}
-use Rattle.refusals.specs.Rules.{unequalLengths, noBases, tooLong, badLetter, badMate, matesNotMutual, arcsCross}
-use Rattle.refusals.specs.Rules.{motifSide, moleculeSide}
-use Rattle.strand.specs.StrandRules.{strandVerdict, pairVerdict, leastMotif, leastMolecule, greatestLength}
+use Rattle.strand.specs.Strands.{Strand, sameStrand, isLetter, notLetter, mateOutside, notMutual, crossedAt, isNested, Nested, Proper, strandVerdict}
+use Rattle.strand.specs.Strands.{checkVerdict, pairVerdict, Pair, leastMotif, leastMolecule, greatestLength}
+use Rattle.refusals.specs.Rules.{unequalLengths, noBases, tooLong, badLetter, badMate, matesNotMutual, arcsCross, motifSide, moleculeSide, first, Numbered}
+use Rattle.refusals.proofs.Refusing.{Numbering, strand-number, if-numbered, lowest-numbered, none-numbered, first-numbered}
 use Rattle.refusals.proofs.RuleLaws.{first-pass, rule-pass, rule-at-pass}
 use Rattle.lists.proofs.ListLaws.{and-true, not-not, true-not, every-at, every-true, some-no, some-none, lowest-all, same-eq}
 use Rattle.strand.proofs.NestingLaws.{uncrossed-apart, apart-uncrossed, inside-of, paired-of}
@@ -96,11 +96,12 @@ module _ (side least greatest : ℕ) (bs ms : List ℕ) where
       N : Nested (nth ms) (length ms)
       N = rw (P .same) (P .nested)
 
--- ---- a motif and a molecule
+-- A strand that is proper with one greatest length is proper with a larger one.
+pub proper-within : {side least small large : ℕ} {bs ms : List ℕ} → small ≤ large → Proper side least small bs ms → Proper side least large bs ms
+proper-within h P =
+    record { same = P .same; enough = P .enough; small = (let z = P .small in omega arith); letters = P .letters; nested = P .nested }
 
-pub record Pair (p pm q qm : List ℕ) : Type 0 where
-  pub motif : Proper motifSide leastMotif greatestLength p pm
-  pub molecule : Proper moleculeSide leastMolecule greatestLength q qm
+-- ---- a motif and a molecule
 
 pub pair-proper : (p pm q qm : List ℕ) → pairVerdict p pm q qm ≡ Accepted → Pair p pm q qm
 unfolding pairVerdict
@@ -112,6 +113,14 @@ pair-proper p pm q qm e =
       molecule = accepted-proper moleculeSide leastMolecule greatestLength q qm (b .0);
     }
 
+pub proper-pair : (p pm q qm : List ℕ) → Pair p pm q qm → pairVerdict p pm q qm ≡ Accepted
+unfolding pairVerdict first
+proper-pair p pm q qm P =
+    rw (
+      proper-accepted motifSide leastMotif greatestLength p pm (P .motif),
+      proper-accepted moleculeSide leastMolecule greatestLength q qm (P .molecule),
+    )
+
 -- ---- equal strands
 
 pub same-strand-eq : (p q : Strand) → sameStrand p q ≡ true → p ≡ q
@@ -121,3 +130,34 @@ same-strand-eq p q e =
     let x : p .bases ≡ q .bases = same-eq (p .bases) (q .bases) (y .0) in
     let z : p .mates ≡ q .mates = same-eq (p .mates) (q .mates) (y .1) in
     λ i. record { bases = x i; mates = z i }
+
+-- ---- the refusals of a strand are those of the table
+
+module _ (side : ℕ) (known : side ≤ moleculeSide) where
+  -- rules 1 to 3 name no place, rules 4 to 7 the lowest
+  plain : (number : ℕ) → 1 ≤ number → number ≤ arcsCross → Numbered number side 0
+  plain number a b = strand-number number side 0 a b known (λ h. refl)
+
+  placed : (number : ℕ) → badLetter ≤ number → number ≤ arcsCross → (place : ℕ) → Numbered number side place
+  placed number a b place = strand-number number side place (omega arith) b known (λ h. absurd (omega arith))
+
+  pub strand-numbered : (least greatest : ℕ) (bases mates : List ℕ) → Numbering (strandVerdict side least greatest bases mates)
+  unfolding strandVerdict
+  strand-numbered least greatest bases mates =
+      first-numbered _ _ (if-numbered 1 side (plain 1 (omega arith) (omega arith)) _)
+      (first-numbered _ _ (if-numbered 2 side (plain 2 (omega arith) (omega arith)) _)
+      (first-numbered _ _ (if-numbered 3 side (plain 3 (omega arith) (omega arith)) _)
+      (first-numbered _ _ (lowest-numbered 4 side (placed 4 (omega arith) (omega arith)) _ _)
+      (first-numbered _ _ (lowest-numbered 5 side (placed 5 (omega arith) (omega arith)) _ _)
+      (first-numbered _ _ (lowest-numbered 6 side (placed 6 (omega arith) (omega arith)) _ _)
+      (first-numbered _ _ (lowest-numbered 7 side (placed 7 (omega arith) (omega arith)) _ _) none-numbered))))))
+
+pub check-numbered : (bases mates : List ℕ) → Numbering (checkVerdict bases mates)
+unfolding checkVerdict
+check-numbered bases mates = strand-numbered moleculeSide (omega arith) leastMolecule greatestLength bases mates
+
+pub pair-numbered : (p pm q qm : List ℕ) → Numbering (pairVerdict p pm q qm)
+unfolding pairVerdict
+pair-numbered p pm q qm =
+    first-numbered _ _ (strand-numbered motifSide (omega arith) leastMotif greatestLength p pm)
+    (first-numbered _ _ (strand-numbered moleculeSide (omega arith) leastMolecule greatestLength q qm) none-numbered)

@@ -1,3 +1,4 @@
+-- The definitions in reading order. Nesting is for the contract of one inner function.
 pub mod Strands
-pub mod StrandRules
 pub mod Statements
+pub mod Nesting

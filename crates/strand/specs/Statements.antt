@@ -7,10 +7,9 @@ use mathlib.Core.List.{List}
 use lib.ListN.{length}
 use Rattle.refusals.specs.declared.Verdict.the-variants.{Accepted}
 use Rattle.lists.specs.Vocabulary.{nth, lowest}
-use Rattle.refusals.specs.Rules.{motifSide, moleculeSide}
+use Rattle.refusals.specs.Rules.{Refuses}
 use Rattle.strand.specs.declared.Checked.the-variants as checked
-use Rattle.strand.specs.Strands.{isNested, Nested, Proper}
-use Rattle.strand.specs.StrandRules.{strandVerdict, leastMotif, leastMolecule, greatestLength, checkAnswer, pairVerdict}
+use Rattle.strand.specs.Strands.{isNested, Nested, Proper, strandVerdict, checkVerdict, checkAnswer, CheckSays}
 
 -- 01, Molecule and motif: the test of the mates passes exactly when they are in range and mutual and no two arcs cross.
 abbrev pub NestedSays : List ℕ → Type 0
@@ -20,16 +19,6 @@ NestedSays mates = (isNested mates ≡ true) ↔ Nested (nth mates) (length mate
 abbrev pub StrandSays : ℕ → ℕ → ℕ → List ℕ → List ℕ → Type 0
 StrandSays side least greatest bases mates =
     (strandVerdict side least greatest bases mates ≡ Accepted) ↔ Proper side least greatest bases mates
-
--- 01, Check: accepts a nested molecule, of 1 to 4,096 letters, and nothing else.
-abbrev pub CheckSays : List ℕ → List ℕ → Type 0
-CheckSays bases mates = (checkAnswer bases mates ≡ checked.Nested) ↔ Proper moleculeSide leastMolecule greatestLength bases mates
-
--- The direct calls go on exactly when motif and molecule are proper.
-abbrev pub PairSays : List ℕ → List ℕ → List ℕ → List ℕ → Type 0
-PairSays p pm q qm =
-    (pairVerdict p pm q qm ≡ Accepted)
-    ↔ (Proper motifSide leastMotif greatestLength p pm × Proper moleculeSide leastMolecule greatestLength q qm)
 
 -- The place that a rule names: the test passes there, and nowhere below. It is n where the test passes nowhere.
 pub record LowestSays (n : ℕ) (test : ℕ → Bool) : Type 0 where
@@ -41,6 +30,6 @@ pub record LowestSays (n : ℕ) (test : ℕ → Bool) : Type 0 where
 pub record Claims : Type 0 where
   pub nested-says : (mates : List ℕ) → NestedSays mates
   pub strand-says : (side least greatest : ℕ) (bases mates : List ℕ) → StrandSays side least greatest bases mates
-  pub check-says : (bases mates : List ℕ) → CheckSays bases mates
-  pub pair-says : (p pm q qm : List ℕ) → PairSays p pm q qm
+  pub check-says : (bases mates : List ℕ) → CheckSays bases mates (checkAnswer bases mates)
+  pub check-refuses : (bases mates : List ℕ) → Refuses (checkVerdict bases mates) checked.Refused (checkAnswer bases mates)
   pub lowest-says : (n : ℕ) (test : ℕ → Bool) → LowestSays n test

@@ -1,11 +1,17 @@
--- Strands: what molecules and motifs are made of, when one is nested and when proper; the letter rule, and the key of a motif.
+-- Strands: what molecules and motifs are made of, when one is nested and when proper, what it is refused for; the letter rule, and the key of a motif.
 use Prim.Native.Nat.{ℕ, _+_, _≤_, _<_}
 use mathlib.Core.Path.{_≡_}
+use mathlib.Core.Logic.{_↔_}
 use mathlib.Core.Bool.{Bool, true, not, _&&_, _||_}
-use mathlib.Core.List.{List}
+use mathlib.Core.List.{List, [], _∷_}
 use lib.Dec.{ltb, leb, eqb}
 use lib.ListN.{length}
 use Rattle.lists.specs.Vocabulary.{nth, some, all, sameList, total}
+use Rattle.refusals.specs.declared.Verdict.{Verdict}
+use Rattle.refusals.specs.Rules.{motifSide, moleculeSide, unequalLengths, noBases, tooLong, badLetter, badMate, matesNotMutual, arcsCross, refuseIf}
+use Rattle.refusals.specs.Rules.{refuseAtLowest, first, byVerdict}
+use Rattle.strand.specs.declared.Checked.{Checked}
+use Rattle.strand.specs.declared.Checked.the-variants as checked
 
 -- A molecule or a motif: bases as bytes, and for each base its mate, which is its own position where the base has no bond.
 pub record Strand : Type 0 where
@@ -56,7 +62,7 @@ unfoldable pub isNested : List ℕ → Bool
 isNested mates =
     not (some (length mates) (mateOutside mates)) && not (some (length mates) (notMutual mates)) && not (some (length mates) (crossedAt mates))
 
--- The same as propositions, for the mates of n bases. The mates are in range.
+-- The same as propositions: `mate i` is the mate of base i, n the number of bases. The mates are in range.
 abbrev pub Inside : (ℕ → ℕ) → ℕ → Type 0
 Inside mate n = (i : ℕ) → i < n → mate i < n
 
@@ -82,6 +88,50 @@ pub record Proper (side least greatest : ℕ) (bases mates : List ℕ) : Type 0 
   pub letters : all (isLetter side) bases ≡ true
   pub nested : Nested (nth mates) (length bases)
 
--- Every base strictly inside the arc of k, if k begins one, has its mate there too: what `nesting::closes` tells.
-abbrev pub Closes : (ℕ → ℕ) → ℕ → Type 0
-Closes mate k = (u : ℕ) → k < u → u < mate k → (k < mate u) × (mate u < mate k)
+-- Rules 1 to 7 for a strand of one side whose length has limits.
+unfoldable pub strandVerdict : ℕ → ℕ → ℕ → List ℕ → List ℕ → Verdict
+strandVerdict side least greatest bases mates =
+    first
+    (refuseIf unequalLengths side (not (eqb (length mates) (length bases)))
+    ∷ refuseIf noBases side (ltb (length bases) least)
+    ∷ refuseIf tooLong side (ltb greatest (length bases))
+    ∷ refuseAtLowest badLetter side (length bases) (notLetter side bases)
+    ∷ refuseAtLowest badMate side (length mates) (mateOutside mates)
+    ∷ refuseAtLowest matesNotMutual side (length mates) (notMutual mates)
+    ∷ refuseAtLowest arcsCross side (length mates) (crossedAt mates)
+    ∷ [])
+
+-- 01, lengths: a molecule and a motif have 1 base at the least; 4,096 at the most in the direct calls.
+abbrev pub leastMolecule : ℕ
+leastMolecule = 1
+
+abbrev pub leastMotif : ℕ
+leastMotif = 1
+
+abbrev pub greatestLength : ℕ
+greatestLength = 4096
+
+-- The rules of the call check: a molecule.
+unfoldable pub checkVerdict : List ℕ → List ℕ → Verdict
+checkVerdict bases mates = strandVerdict moleculeSide leastMolecule greatestLength bases mates
+
+-- Its answer.
+unfoldable pub checkAnswer : List ℕ → List ℕ → Checked
+checkAnswer bases mates = byVerdict (checkVerdict bases mates) checked.Refused checked.Nested
+
+-- 01, Check: it "accepts a nested molecule", of 1 to 4,096 letters, and nothing else. r is the answer.
+abbrev pub CheckSays : List ℕ → List ℕ → Checked → Type 0
+CheckSays bases mates r = (r ≡ checked.Nested) ↔ Proper moleculeSide leastMolecule greatestLength bases mates
+
+-- What the direct calls on a motif and a molecule refuse first: the motif, then the molecule.
+unfoldable pub pairVerdict : List ℕ → List ℕ → List ℕ → List ℕ → Verdict
+pairVerdict p pm q qm =
+    first
+    (strandVerdict motifSide leastMotif greatestLength p pm
+    ∷ strandVerdict moleculeSide leastMolecule greatestLength q qm
+    ∷ [])
+
+-- A motif and a molecule of 1 to 4,096 letters, both nested: what they let pass.
+pub record Pair (p pm q qm : List ℕ) : Type 0 where
+  pub motif : Proper motifSide leastMotif greatestLength p pm
+  pub molecule : Proper moleculeSide leastMolecule greatestLength q qm

@@ -2,8 +2,7 @@
 ghost use mathlib.Core.Path.{_≡_};
 ghost use Prim.Native.Nat.{_≤_};
 ghost use lib.ListN.{length};
-ghost use Rattle.strand.specs.Strands.{strandOf, key};
-ghost use Rattle.strand.specs.StrandRules.{greatestLength};
+ghost use Rattle.strand.specs.Strands.{strandOf, key, greatestLength};
 
 // The sum of the base bytes and the mates. Callers have accepted the motif.
 pub fn key(bases: &[u8], mates: &[u16]) -> usize

@@ -3,8 +3,10 @@ ghost use mathlib.Core.Path.{_≡_};
 ghost use mathlib.Core.Bool.{not};
 ghost use Prim.Native.Nat.{ℕ, _<_};
 ghost use lib.ListN.{length};
-ghost use Rattle.lists.specs.Vocabulary.{nth, some, lowest, Tells};
-ghost use Rattle.strand.specs.Strands.{mateOutside, notMutual, crosses, crossedAt, isNested, Inside, Paired, Closes};
+ghost use Rattle.lists.specs.Vocabulary.{nth, some, lowest};
+ghost use Rattle.lists.proofs.ListLaws.{Tells};
+ghost use Rattle.strand.specs.Strands.{mateOutside, notMutual, crosses, crossedAt, isNested, Inside, Paired};
+ghost use Rattle.strand.specs.Nesting.{Closes};
 
 // The lowest position whose mate is at or above the length, or the length.
 pub(crate) fn lowest_outside(mates: &[u16]) -> usize

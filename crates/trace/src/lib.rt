@@ -13,7 +13,7 @@ ghost use Rattle.lists.specs.Vocabulary.{nth};
 ghost use Rattle.embedding.specs.Row.{Best, Reach};
 ghost use Rattle.embedding.specs.Embedding.{lettersFit};
 ghost use Rattle.rows.specs.Rows.{Tables};
-ghost use Rattle.refusals.specs.Work.{workSize};
+ghost use Rattle.refusals.specs.Rules.{workSize};
 ghost use Rattle.arcs.specs.Arcs.{Setting, Sealed};
 ghost use Rattle.placing.specs.Placing.{Laid, KeptAround, OnPath, Levels, ArcLevels, LaidBut, FromArc, AtArc};
 

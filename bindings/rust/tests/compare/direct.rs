@@ -228,10 +228,9 @@ fn long_pairs() {
     report("check, length, show, verify on long pairs", count);
 }
 
-/// Length and show of a strand with itself in a thread with the stack that the header names. The calls nest as deep as the arcs.
+/// Length and show of a strand with itself in a thread with the stack that header and wrapper name. The calls nest as deep as the arcs.
 #[test]
 fn deepest_arcs_in_the_stack() {
-    const STACK: usize = 1 << 20;
     let mut r = seeded();
     let folds = [make::stem(LONGEST), make::balanced(LONGEST), make::comb(LONGEST), make::random_fold(&mut r, LONGEST, 0)];
     let count = folds.len();
@@ -243,7 +242,7 @@ fn deepest_arcs_in_the_stack() {
             assert_eq!(lakhido::length(strand, strand, &mut work), Ok(LONGEST));
             assert_eq!(lakhido::show(strand, strand, &mut places, &mut work), Ok(LONGEST));
         };
-        std::thread::Builder::new().stack_size(STACK).spawn(call).expect("a thread").join().expect("accepted");
+        std::thread::Builder::new().stack_size(lakhido::STACK).spawn(call).expect("a thread").join().expect("accepted");
     }
     report("length and show in a stack of 1 MiB", 2 * count);
 }

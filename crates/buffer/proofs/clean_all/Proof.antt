@@ -7,8 +7,7 @@ use mathlib.Core.Path.{_∙_, _≡_, ap, refl}
 use native.Mathlib.Omega.{arith}
 use Rattle.buffer.proofs.BufferLaws.{blocks-end, blocks-length, blocks-more, blocks-none, length-blocks}
 use Rattle.block.proofs.ContentLaws.{length-cleaned}
-use Rattle.block.specs.Block.{blockCount, cleaned}
-use Rattle.buffer.specs.Buffer.{blocksTo}
+use Rattle.block.specs.Block.{blockCount, cleaned, blocksTo}
 use Rattle.buffer.proofs.clean_all.Statement.{statement}
 use Rattle.buffer.proofs.clean_all.Tie as tie
 

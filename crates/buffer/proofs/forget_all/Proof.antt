@@ -7,8 +7,7 @@ use mathlib.Core.Path.{_∙_, _≡_, ap, refl}
 use native.Mathlib.Omega.{arith}
 use Rattle.buffer.proofs.BufferLaws.{blocks-end, blocks-length, blocks-more, blocks-none, length-blocks}
 use Rattle.block.proofs.ContentLaws.{length-forgot}
-use Rattle.block.specs.Block.{blockCount, forgot}
-use Rattle.buffer.specs.Buffer.{blocksTo}
+use Rattle.block.specs.Block.{blockCount, forgot, blocksTo}
 use Rattle.buffer.proofs.forget_all.Statement.{statement}
 use Rattle.buffer.proofs.forget_all.Tie as tie
 

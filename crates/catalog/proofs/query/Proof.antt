@@ -10,7 +10,7 @@ use Rattle.strand.specs.Strands.{strandOf}
 use Rattle.calls.proofs.Claims as claim
 use Rattle.calls.proofs.CallLaws as call
 use Rattle.refusals.proofs.RuleLaws as rule
-use Rattle.calls.specs.Motifs.{embeds}
+use Rattle.embedding.specs.Longest.{embeds}
 use Rattle.catalog.proofs.query.Statement.{statement}
 use Rattle.catalog.proofs.query.Tie as tie
 

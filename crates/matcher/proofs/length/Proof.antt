@@ -1,4 +1,4 @@
--- `matcher::length` meets its contract: on a refusal nothing was touched; accepted strands can be searched, and the search gives the longest.
+-- `matcher::length` meets its contract: on a refusal nothing was touched; accepted strands are proper, and the search gives the longest.
 use borrow.Author.Needs.{needs}
 use mathlib.Core.Path.{sym, _∙_}
 use Rattle.matcher.specs.Answers.{lengthAnswer}
@@ -29,7 +29,8 @@ prefix-length-requires : tie.Need-prefix-length-requires
 prefix-length-requires c κs =
     let at-enum-told = c .before in
     let at-judge-length = at-enum-told .before .before in
-    length-facts _ _ _ _ _ (sym (at-judge-length .judge-length .ensures) ∙ at-enum-told .enum-told .given .1)
+    let F = length-facts _ _ _ _ _ (sym (at-judge-length .judge-length .ensures) ∙ at-enum-told .enum-told .given .1) in
+    (F .0 .motif, (F .0 .molecule, F .1))
 
 same-length : tie.Need-same-length
 same-length c = search needs

@@ -2,7 +2,7 @@
 use borrow.Author.Needs.{needs}
 use native.Mathlib.Omega.{arith}
 use lib.ListN.{length}
-use Rattle.calls.specs.Motifs.{embeds}
+use Rattle.embedding.specs.Longest.{embeds}
 use Rattle.screening.proofs.ScreenLaws as law
 use Rattle.screening.proofs.ask.Statement.{statement}
 use Rattle.screening.proofs.ask.Tie as tie

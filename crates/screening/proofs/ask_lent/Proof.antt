@@ -5,7 +5,7 @@ use native.Mathlib.Omega.{arith}
 use mathlib.Core.Path.{sym}
 use lib.ListN.{length, take}
 use lib.Seq.{length-take-le}
-use Rattle.calls.specs.Motifs.{embeds}
+use Rattle.embedding.specs.Longest.{embeds}
 use Rattle.screening.proofs.ScreenLaws as law
 use Rattle.codec.proofs.OutcomeLaws as outcome
 use Rattle.screening.proofs.ask_lent.Statement.{statement}

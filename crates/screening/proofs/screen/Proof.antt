@@ -3,7 +3,7 @@ use borrow.Author.Needs.{needs}
 use mathlib.Core.Path.{sym, _∙_}
 use lib.ListN.{length}
 use Rattle.lists.proofs.ListLaws.{true-not, not-not}
-use Rattle.calls.specs.Motifs.{embeds}
+use Rattle.embedding.specs.Longest.{embeds}
 use Rattle.screening.proofs.ScreenLaws as law
 use Rattle.screening.proofs.screen.Statement.{statement}
 use Rattle.screening.proofs.screen.Tie as tie

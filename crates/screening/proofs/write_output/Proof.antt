@@ -6,7 +6,7 @@ use mathlib.Core.Path.{sym, _∙_}
 use lib.ListN.{length}
 use Rattle.lists.proofs.ListLaws.{true-not, not-not}
 use lib.Seq.{length-take-le}
-use Rattle.calls.specs.Motifs.{embeds}
+use Rattle.embedding.specs.Longest.{embeds}
 use Rattle.screening.specs.Text.{mostOutput}
 use Rattle.screening.proofs.ScreenLaws as law
 use Rattle.screening.proofs.write_output.Statement.{statement}

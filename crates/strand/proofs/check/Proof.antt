@@ -2,7 +2,7 @@
 use borrow.Author.Needs.{needs}
 use mathlib.Core.Path.{_∙_, sym}
 use Rattle.refusals.proofs.RuleLaws.{by-refused, by-accepted}
-use Rattle.strand.specs.StrandRules.{checkVerdict, checkAnswer}
+use Rattle.strand.specs.Strands.{checkVerdict, checkAnswer}
 use Rattle.strand.proofs.check.Statement.{statement}
 use Rattle.strand.proofs.check.Tie as tie
 

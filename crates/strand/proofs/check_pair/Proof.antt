@@ -2,7 +2,7 @@
 use borrow.Author.Needs.{needs}
 use mathlib.Core.Path.{sym, _∙_}
 use Rattle.refusals.specs.Rules.{first}
-use Rattle.strand.specs.StrandRules.{pairVerdict}
+use Rattle.strand.specs.Strands.{pairVerdict}
 use Rattle.refusals.proofs.RuleLaws.{first-second}
 use Rattle.strand.proofs.check_pair.Statement.{statement}
 use Rattle.strand.proofs.check_pair.Tie as tie

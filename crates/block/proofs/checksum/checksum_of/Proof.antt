@@ -1,7 +1,7 @@
 -- `block::checksum::checksum_of` meets its contract: the sum is `sumTo` of the bytes passed, and at most 129,540 for each, so 32 bits hold it.
 use Prim.Native.Nat.{_*_, _+_, _-_, _≤_, ℕ}
 use Rattle.block.proofs.SumLaws.{sum-more, sum-none, term-small}
-use Rattle.block.specs.Checksum.{checksumOf, sumTo}
+use Rattle.block.specs.Content.{checksumOf, sumTo}
 use borrow.Author.Needs.{needs}
 use lib.ListN.{length}
 use mathlib.Core.Path.{_∙_, _≡_, ap, ap₂, sym}

@@ -1,7 +1,7 @@
 -- `block::checksum::checksum_ok` meets its contract: less than a block has no checksum; else the sum is compared with the four bytes.
 use borrow.Author.Needs.{needs}
-use Rattle.block.specs.Checksum.{checksumOk}
-use Rattle.octets.specs.Numbers.{word32}
+use Rattle.block.specs.Content.{checksumOk}
+use Rattle.octets.specs.Octets.{word32}
 use Rattle.block.proofs.SumLaws.{right-short, right-is}
 use Rattle.block.proofs.checksum.checksum_ok.Statement.{statement}
 use Rattle.block.proofs.checksum.checksum_ok.Tie as tie

@@ -2,7 +2,7 @@
 use borrow.Author.Needs.{needs}
 use native.Mathlib.Omega.{arith}
 use lib.ListN.{length-set}
-use Rattle.block.specs.Checksum.{rechecked}
+use Rattle.block.specs.Content.{rechecked}
 use Rattle.block.proofs.SumLaws.{rechecked-short, rechecked-is}
 use Rattle.block.proofs.checksum.put_checksum.Statement.{statement}
 use Rattle.block.proofs.checksum.put_checksum.Tie as tie

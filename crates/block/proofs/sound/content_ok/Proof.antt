@@ -3,7 +3,7 @@ use borrow.Author.Needs.{needs}
 use native.Mathlib.Omega.{arith}
 use mathlib.Core.Path.{sym, _∙_}
 use borrow.Author.Tests.{not-true, not-false}
-use Rattle.block.specs.Content.{kindOf}
+use Rattle.block.specs.Inner.{kindOf}
 use Rattle.block.proofs.SoundLaws as laws
 use Rattle.block.proofs.sound.content_ok.Statement.{statement}
 use Rattle.block.proofs.sound.content_ok.Tie as tie

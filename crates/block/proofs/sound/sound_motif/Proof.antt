@@ -1,6 +1,6 @@
 -- `block::sound::sound_motif` meets its contract: the test of strand blocks with the numbers of its kind.
 use borrow.Author.Needs.{needs}
-use Rattle.block.specs.Block.{soundMotif}
+use Rattle.block.specs.Motif.{soundMotif}
 use Rattle.block.proofs.sound.sound_motif.Statement.{statement}
 use Rattle.block.proofs.sound.sound_motif.Tie as tie
 

@@ -77,12 +77,15 @@ prefix-length-requires c κs =
     let f = outcome.decoded-there (at-start .args .b .now) (at-start .args .letters .now) (at-start .args .bonds .now)
     (at-decode-molecule .decode-molecule .result) (at-decode-molecule .decode-molecule .last .1 .0) (at-decode-molecule .decode-molecule .last .1 .1 .0)
     (at-start .pre .0) (omega (arith, at-start .pre .4)) (omega (arith, at-start .pre .5)) (at-decode-molecule .decode-molecule .ensures) in (
-      matching.searchable (at-start .args .b .now) (at-start .args .p .now) (at-start .args .pm .now) (at-start .pre .0) (at-start .pre .1) (at-start .pre .2)
-          (at-decode-molecule .decode-molecule .result) (f .0) (at-decode-molecule .decode-molecule .last .1 .0)
-          (at-decode-molecule .decode-molecule .last .1 .1 .0) _ _ (f .1) (f .2),
-      matching.room (at-start .args .b .now) (at-start .args .p .now) (at-start .args .pm .now) (at-start .pre .0) (at-start .pre .1) (at-start .pre .2)
-          (at-decode-molecule .decode-molecule .result) (f .0) (at-decode-molecule .decode-molecule .last .1 .0)
-          (at-decode-molecule .decode-molecule .last .1 .1 .0) _ _ (f .1) (f .2) (length (at-start .args .work .now)) (at-start .pre .3),
+      matching.motif-long (at-start .args .p .now) (at-start .args .pm .now) (at-start .pre .2),
+      (
+        matching.molecule-read (at-start .args .b .now) (at-start .args .p .now) (at-start .args .pm .now) (at-start .pre .0) (at-start .pre .1)
+            (at-start .pre .2) (at-decode-molecule .decode-molecule .result) (f .0) (at-decode-molecule .decode-molecule .last .1 .0)
+            (at-decode-molecule .decode-molecule .last .1 .1 .0) _ _ (f .1) (f .2),
+        matching.room (at-start .args .b .now) (at-start .args .p .now) (at-start .args .pm .now) (at-start .pre .0) (at-start .pre .1) (at-start .pre .2)
+            (at-decode-molecule .decode-molecule .result) (f .0) (at-decode-molecule .decode-molecule .last .1 .0)
+            (at-decode-molecule .decode-molecule .last .1 .1 .0) _ _ (f .1) (f .2) (length (at-start .args .work .now)) (at-start .pre .3),
+      ),
     )
 
 same-length : tie.Need-same-length

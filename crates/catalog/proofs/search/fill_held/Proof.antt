@@ -6,7 +6,7 @@ use native.Mathlib.Omega.{arith}
 use mathlib.Core.Path.{_≡_, sym, ap, _∙_}
 use lib.ListN.{length, replicate}
 use Rattle.catalog.proofs.SearchLaws as search-laws
-use Rattle.octets.specs.Maps.{mapBytes}
+use Rattle.octets.specs.Octets.{mapBytes}
 use Rattle.calls.specs.Buffers.{held}
 use Rattle.block.specs.Block.{blockCount}
 use Rattle.catalog.proofs.search.fill_held.Statement.{statement}

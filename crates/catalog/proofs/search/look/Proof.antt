@@ -7,7 +7,7 @@ use Rattle.catalog.proofs.SearchLaws as search-laws
 use Rattle.strand.specs.Strands.{strandOf}
 use Rattle.block.specs.Content.{keepsMotif}
 use Rattle.calls.proofs.FactLaws as fact
-use Rattle.calls.specs.Motifs.{embeds}
+use Rattle.embedding.specs.Longest.{embeds}
 use Rattle.catalog.proofs.search.look.Statement.{statement}
 use Rattle.catalog.proofs.search.look.Tie as tie
 

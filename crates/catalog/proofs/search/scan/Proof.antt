@@ -8,7 +8,7 @@ use mathlib.Core.Path.{_≡_, refl, ap, _∙_}
 use lib.ListN.{length, replicate}
 use Rattle.catalog.proofs.SearchLaws as search-laws
 use Rattle.strand.specs.Strands.{strandOf}
-use Rattle.calls.specs.Motifs.{embeds}
+use Rattle.embedding.specs.Longest.{embeds}
 use Rattle.calls.specs.Calls.{isHit, toSearch}
 use Rattle.codec.proofs.OutcomeLaws as outcome
 use Rattle.block.specs.Block.{blockCount}

@@ -1,6 +1,6 @@
 -- `octets::bits::clear` meets its contract: one byte is stored; past the end nothing is.
 use Rattle.octets.proofs.BitLaws.{clear-map-out, without-bit}
-use Rattle.octets.specs.Bits.{clearMap}
+use Rattle.octets.specs.Octets.{clearMap}
 use borrow.Author.Needs.{needs}
 use mathlib.Core.Path.{sym}
 use native.Mathlib.Omega.{arith}

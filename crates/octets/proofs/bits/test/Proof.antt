@@ -1,6 +1,6 @@
 -- `octets::bits::test` meets its contract: one byte is read; past the end every bit is false.
 use Rattle.octets.proofs.BitLaws.{test-out}
-use Rattle.octets.specs.Bits.{mapBit}
+use Rattle.octets.specs.Octets.{mapBit}
 use borrow.Author.Needs.{needs}
 use mathlib.Core.Path.{sym}
 use native.Mathlib.Omega.{arith}

@@ -1,7 +1,7 @@
 -- `octets::scan::all_zero` meets its contract: every byte passed is zero.
 use Prim.Native.Nat.{_-_, _≤_}
 use Rattle.lists.proofs.ListLaws.{every-end, every-more, every-none, every-stop}
-use Rattle.octets.specs.Numbers.{isZero}
+use Rattle.octets.specs.Octets.{isZero}
 use borrow.Author.Needs.{needs}
 use borrow.Author.Tests.{eq-eqb, ne-eqb}
 use lib.ListN.{length}

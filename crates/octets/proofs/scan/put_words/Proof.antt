@@ -1,6 +1,6 @@
 -- `octets::scan::put_words` meets its contract: the first i numbers are written, the rest is as it was.
 use Prim.Native.Nat.{_*_, _-_, _≤_}
-use Rattle.octets.specs.Numbers.{bytesOf}
+use Rattle.octets.specs.Octets.{bytesOf}
 use borrow.Author.Needs.{needs}
 use lib.ListN.{drop, length, length-set, take}
 use mathlib.Core.List.{_++_}

@@ -3,11 +3,9 @@ use borrow.Author.Needs.{needs}
 use Prim.Native.Nat.{ℕ, _+_, _-_, _*_, _≤_}
 use native.Mathlib.Omega.{arith}
 use mathlib.Core.Path.{_≡_, refl, ap, _∙_}
-use mathlib.Core.List.{_++_}
-use lib.ListN.{length, drop}
-use Rattle.octets.specs.Numbers.{word16, words}
-use lib.ListN.{drop-of-length-le, length-set}
-use mathlib.Core.List.{append-nil}
+use mathlib.Core.List.{_++_, append-nil}
+use lib.ListN.{length, drop, drop-of-length-le, length-set}
+use Rattle.octets.specs.Octets.{word16, words}
 use Rattle.lists.proofs.ListLaws.{tab-more, tab-none}
 use Rattle.lists.specs.Vocabulary.{tab}
 use Rattle.octets.proofs.scan.read_words.Statement.{statement}

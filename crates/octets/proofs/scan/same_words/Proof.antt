@@ -4,7 +4,7 @@ use Prim.Native.Nat.{ℕ, _-_, _*_, _≤_, _<_}
 use native.Mathlib.Omega.{arith}
 use mathlib.Core.Path.{_≡_}
 use lib.ListN.{length}
-use Rattle.octets.specs.Numbers.{words}
+use Rattle.octets.specs.Octets.{words}
 use Rattle.lists.specs.Vocabulary.{nth}
 use Rattle.octets.proofs.ScanLaws.{other-word, same-word, all-words}
 use Rattle.octets.proofs.scan.same_words.Statement.{statement}

@@ -1,6 +1,6 @@
 -- `octets::scan::word_at` meets its contract: two bytes below 256 make the number.
 use native.Mathlib.Omega.{arith}
-use Rattle.octets.specs.Numbers.{word16}
+use Rattle.octets.specs.Octets.{word16}
 use borrow.Author.Needs.{needs}
 use Rattle.octets.proofs.scan.word_at.Statement.{statement}
 use Rattle.octets.proofs.scan.word_at.Tie as tie

@@ -6,7 +6,7 @@ use mathlib.Core.Path.{sym, ap}
 use mathlib.Core.Bool.{not}
 use lib.ListN.{length}
 use Rattle.lists.specs.Vocabulary.{nth}
-use Rattle.strand.specs.Strands.{Closes}
+use Rattle.strand.specs.Nesting.{Closes}
 use Rattle.lists.proofs.ListLaws.{not-not, true-not}
 use Rattle.strand.proofs.NestingLaws.{crossed-none, crossed-some, closes-more}
 use Rattle.strand.proofs.nesting.arcs_close.Statement.{statement}

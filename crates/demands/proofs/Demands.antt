@@ -1,0 +1,51 @@
+-- The three demands hold: assembled from the claims of the crates.
+use Rattle.strand.proofs.Claims as strand
+use Rattle.embedding.proofs.Claims as embedding
+use Rattle.embedding.specs.Longest.{embeds}
+use Rattle.matcher.proofs.Claims as matcher
+use Rattle.calls.proofs.Claims as calls
+use Rattle.history.proofs.Claims as history
+use Rattle.demands.specs.Demands.{AnyInput, RightAnswer, EveryHistory, Demands}
+
+any-input : AnyInput
+any-input =
+    record {
+      check = strand.claims .check-refuses;
+      length = matcher.claims .length-refuses;
+      show = matcher.claims .show-refuses;
+      verify = embedding.claims .verify-refuses;
+      add = calls.claims embeds .add-refuses;
+      remove = calls.claims embeds .remove-refuses;
+      query = calls.claims embeds .query-refuses;
+      length-accepts = matcher.claims .length-accepts;
+      show-accepts = matcher.claims .show-accepts;
+      verify-accepts = embedding.claims .verify-accepts;
+      add-accepts = calls.claims embeds .add-accepts;
+      remove-accepts = calls.claims embeds .remove-accepts;
+      query-accepts = calls.claims embeds .query-accepts;
+      add-keeps = calls.claims embeds .add-keeps;
+      remove-keeps = calls.claims embeds .remove-keeps;
+      query-keeps = calls.claims embeds .query-keeps;
+    }
+
+right-answer : RightAnswer
+right-answer =
+    record {
+      check = strand.claims .check-says;
+      length = matcher.claims .length-says;
+      show = matcher.claims .show-says;
+      whole = matcher.claims .length-whole;
+      verify = embedding.claims .verify-says;
+    }
+
+every-history : EveryHistory
+every-history =
+    record {
+      decides = history.claims .decides;
+      runs = history.claims .runs;
+      refusals = history.claims .refusals;
+      some-run = history.claims .some-run;
+    }
+
+pub demands : Demands
+demands = record { any-input = any-input; right-answer = right-answer; every-history = every-history }

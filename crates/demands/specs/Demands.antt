@@ -1,0 +1,80 @@
+-- The three demands on the library; `demands`, in proofs/Demands, proves them of the definitions that the contracts cite: xVerdict is the table's word on call
+-- x, xAnswer and xOutcome what x answers and leaves. Meets.antt says the same of the calls themselves, and alone has what no definition gives: the places that
+-- show writes, and the work slices (1.10, 2.5). p, pm are the bases and mates of the motif P, q, qm those of the molecule Q; in add and query q and p are whole
+-- strands. The screen program has its own statements (crate screening), document 01's examples theirs (crate examples).
+use Prim.Native.Nat.{ℕ}
+use mathlib.Core.List.{List}
+use lib.ListN.{length as len}
+use Rattle.refusals.specs.Rules.{Refuses, Keeps}
+use Rattle.strand.specs.Strands.{Strand, checkVerdict, checkAnswer, CheckSays}
+use Rattle.strand.specs.declared.Checked.the-variants as checks
+use Rattle.embedding.specs.Embedding.{EmbedsIn}
+use Rattle.embedding.specs.Longest.{verifyVerdict, verifyAnswer, VerifySays, VerifyAccepts, embeds}
+use Rattle.embedding.specs.declared.Verified.the-variants as verifies
+use Rattle.matcher.specs.Answers.{lengthVerdict, lengthAnswer, showVerdict, showAnswer, PrefixSays, WholeSays, LengthAccepts, ShowAccepts}
+use Rattle.matcher.specs.declared.Matched.the-variants as matches
+use Rattle.calls.specs.declared.Added.the-variants as adds
+use Rattle.calls.specs.declared.Removed.the-variants as removes
+use Rattle.calls.specs.declared.Queried.the-variants as queries
+use Rattle.calls.specs.Calls.{addVerdict, addOutcome, removeVerdict, removeOutcome, queryVerdict, queryOutcome, AddAccepts, RemoveAccepts}
+use Rattle.calls.specs.Calls.{QueryAccepts}
+use Rattle.history.specs.History.{SomeRun, SameRefusals, Decides, RunTheorem}
+
+-- Demand 1, any input: whichever buffers a caller hands over, a call gives an answer or a numbered refusal, and a refusal changes no byte.
+pub record AnyInput : Type 0 where
+  -- 1.1 to 1.4: the call answers Refused r exactly where its rules come to r, and r is a refusal of the table
+  pub check : (bases mates : List ℕ) → Refuses (checkVerdict bases mates) checks.Refused (checkAnswer bases mates)
+  pub length : (p pm q qm : List ℕ) (work : ℕ) → Refuses (lengthVerdict p pm q qm work) matches.Refused (lengthAnswer p pm q qm work)
+  pub show : (p pm q qm : List ℕ) (places work : ℕ) → Refuses (showVerdict p pm q qm places work) matches.Refused (showAnswer p pm q qm places work)
+  pub verify : (p pm q qm v : List ℕ) → Refuses (verifyVerdict p pm q qm v) verifies.Refused (verifyAnswer p pm q qm v)
+  -- 1.5 to 1.7: the same of add, remove and query; the reference model of demand 3 has the same rules
+  pub add : (catalog cache : List ℕ) (d : ℕ) (q : Strand) → Refuses (addVerdict catalog cache d q) adds.Refused (addOutcome catalog cache d q .answer)
+  pub remove : (catalog cache : List ℕ) (d : ℕ) → Refuses (removeVerdict catalog cache d) removes.Refused (removeOutcome catalog cache d .answer)
+  pub query : (catalog cache : List ℕ) (p : Strand) (work : ℕ) (hits : List ℕ)
+      → Refuses (queryVerdict catalog cache p work (len hits)) queries.Refused (queryOutcome embeds catalog cache p work hits .answer)
+  -- 1.8: a call is accepted exactly where no row of the table applies (check: 2.1)
+  pub length-accepts : (p pm q qm : List ℕ) (work : ℕ) → LengthAccepts p pm q qm work
+  pub show-accepts : (p pm q qm : List ℕ) (places work : ℕ) → ShowAccepts p pm q qm places work
+  pub verify-accepts : (p pm q qm v : List ℕ) → VerifyAccepts p pm q qm v
+  pub add-accepts : (catalog cache : List ℕ) (d : ℕ) (q : Strand) → AddAccepts catalog cache d q
+  pub remove-accepts : (catalog cache : List ℕ) (d : ℕ) → RemoveAccepts catalog cache d
+  pub query-accepts : (catalog cache : List ℕ) (p : Strand) (work room : ℕ) → QueryAccepts catalog cache p work room
+  -- 1.9: a refusing add or remove leaves catalog and cache as they were, a refusing query cache and hits (it only reads the catalog)
+  pub add-keeps : (catalog cache : List ℕ) (d : ℕ) (q : Strand)
+      → Keeps adds.Refused (addOutcome catalog cache d q .answer) catalog cache (addOutcome catalog cache d q .catalog) (addOutcome catalog cache d q .cache)
+  pub remove-keeps : (catalog cache : List ℕ) (d : ℕ)
+      → Keeps removes.Refused (removeOutcome catalog cache d .answer) catalog cache
+      (removeOutcome catalog cache d .catalog) (removeOutcome catalog cache d .cache)
+  pub query-keeps : (catalog cache : List ℕ) (p : Strand) (work : ℕ) (hits : List ℕ)
+      → Keeps queries.Refused (queryOutcome embeds catalog cache p work hits .answer) cache hits
+      (queryOutcome embeds catalog cache p work hits .cache) (queryOutcome embeds catalog cache p work hits .hits)
+
+-- Demand 2, the right answer. (2.5, in Meets: the first L places that show leaves are an embedding of that prefix, and later ones keep their values.)
+pub record RightAnswer : Type 0 where
+  -- 2.1: check accepts a nested molecule and nothing else
+  pub check : (bases mates : List ℕ) → CheckSays bases mates (checkAnswer bases mates)
+  -- 2.2: length and show answer the length of the longest closed prefix of P that embeds in Q
+  pub length : (p pm q qm : List ℕ) (work : ℕ) → PrefixSays (lengthVerdict p pm q qm work) p pm q qm (lengthAnswer p pm q qm work)
+  pub show : (p pm q qm : List ℕ) (places work : ℕ) → PrefixSays (showVerdict p pm q qm places work) p pm q qm (showAnswer p pm q qm places work)
+  -- 2.3: it is the length of P exactly when P embeds in Q
+  pub whole : (p pm q qm : List ℕ) (work : ℕ) → WholeSays (lengthVerdict p pm q qm work) p pm q qm (lengthAnswer p pm q qm work)
+  -- 2.4: verify says yes exactly to embeddings of the whole P
+  pub verify : (p pm q qm v : List ℕ) → VerifySays p pm q qm v (verifyAnswer p pm q qm v)
+
+-- Demand 3, every history of add, remove and query.
+pub record EveryHistory : Type 0 where
+  -- 3.1: `embeds`, the test of contracts and model, is true exactly where an embedding exists, for motifs and molecules that rules 1 to 7 let pass
+  pub decides : Decides EmbedsIn embeds
+  -- 3.2: from zeroed buffers, with at most one alteration in each cache block before the first accepted call and between one accepted call and the next,
+  -- all that is compared is what the reference model says; and each accepted query lists just the numbers then held into whose molecules the motif
+  -- embeds, rising
+  pub runs : RunTheorem EmbedsIn embeds
+  -- 3.3: from zeroed buffers, with any alterations, a run refuses just what the model refuses: "accepted" in 3.2 is one notion
+  pub refusals : SameRefusals embeds
+  -- 3.4: 3.2 and 3.3 are not empty: every list has a run (that the calls make its steps is `step`, in Meets)
+  pub some-run : SomeRun embeds
+
+pub record Demands : Type 0 where
+  pub any-input : AnyInput
+  pub right-answer : RightAnswer
+  pub every-history : EveryHistory

@@ -1,0 +1,93 @@
+-- Which refusals a list of rules can give, and that a call that goes by its verdict tells just these.
+use Prim.Native.Nat.{ℕ, _≤_, _<_}
+use native.Mathlib.Omega.{arith}
+use mathlib.Core.Path.{_≡_, refl, sym, ap, _∙_}
+use mathlib.Core.Logic.{_↔_}
+use mathlib.Core.Bool.{Bool, true, false}
+use mathlib.Core.List.{List, [], _∷_}
+use lib.Dec.{ltb}
+use Rattle.lists.specs.Vocabulary.{choose, lowest}
+use Rattle.refusals.specs.declared.Refusal.{Refusal}
+use Rattle.refusals.specs.declared.Verdict.{Verdict}
+use Rattle.refusals.specs.declared.Verdict.the-variants.{Accepted, Refused}
+use Rattle.refusals.specs.Rules.{badLetter, unsoundBlock, arcsCross, notHeld, moleculeSide, noSide, refusal, refuseIf, refuseAtLowest, first}
+use Rattle.refusals.specs.Rules.{byVerdict, Numbered}
+use Rattle.refusals.specs.Rules.{Refuses, Keeps, workRule}
+use Rattle.refusals.proofs.RuleLaws.{unrefused, by-accepted, by-refused}
+
+-- Every refusal that a verdict can be is one of the table.
+abbrev pub Numbering : Verdict → Type 0
+Numbering v = (r : Refusal) → v ≡ Refused r → Numbered (r .number) (r .side) (r .place)
+
+pub strand-number : (number side place : ℕ) → 1 ≤ number → number ≤ arcsCross → side ≤ moleculeSide → (number < badLetter → place ≡ 0)
+    → Numbered number side place
+strand-number number side place a b c d =
+    record { from = a; upto = omega arith; of-strand = λ h. c; of-call = λ h. absurd (omega arith); early = d; late = λ h n. absurd (omega arith) }
+
+pub call-number : (number place : ℕ) → 8 ≤ number → number ≤ notHeld → ((number ≡ unsoundBlock → ⊥) → place ≡ 0) → Numbered number noSide place
+call-number number place a b d =
+    record {
+      from = omega arith;
+      upto = b;
+      of-strand = λ h. absurd (omega arith);
+      of-call = λ h. refl;
+      early = λ h. absurd (omega arith);
+      late = λ h n. d n;
+    }
+
+module _ (number side : ℕ) where
+  refusal-numbered : (place : ℕ) → Numbered number side place → Numbering (refusal number side place)
+  refusal-numbered place ok r e =
+      let a : number ≡ r .number = cc in
+      let b : side ≡ r .side = cc in
+      let c : place ≡ r .place = cc in
+      rw (a, b, c) at ok
+
+  -- a rule that names no place
+  pub if-numbered : Numbered number side 0 → (b : Bool) → Numbering (refuseIf number side b)
+  unfolding refuseIf choose
+  if-numbered ok true r e = refusal-numbered 0 ok r e
+  if-numbered ok false r e = absurd (unrefused r (sym e))
+
+  -- a rule that names the lowest place
+  pub lowest-numbered : ((place : ℕ) → Numbered number side place) → (n : ℕ) (p : ℕ → Bool) → Numbering (refuseAtLowest number side n p)
+  unfolding refuseAtLowest choose
+  lowest-numbered ok n p = go (ltb (lowest n p) n)
+    where
+      go : (b : Bool) → Numbering (choose b (refusal number side (lowest n p)) Accepted)
+      go true r e = refusal-numbered (lowest n p) (ok (lowest n p)) r e
+      go false r e = absurd (unrefused r (sym e))
+
+pub none-numbered : Numbering (first [])
+unfolding first
+none-numbered r e = absurd (unrefused r (sym e))
+
+pub first-numbered : (v : Verdict) (vs : List Verdict) → Numbering v → Numbering (first vs) → Numbering (first (v ∷ vs))
+unfolding first
+first-numbered Accepted vs a b = b
+first-numbered (Refused x) vs a b = a
+
+pub work-numbered : (m n work : ℕ) → Numbering (workRule m n work)
+work-numbered m n work = if-numbered 8 noSide (call-number 8 0 (omega arith) (omega arith) (λ n. refl)) _
+
+-- A call that comes to a value by its verdict, of which `answer` is read: refusals have different answers, and no other answer is one of them.
+module _ {E A : Type 0} (v : Verdict) (f : Refusal → E) (x : E) (answer : E → A) (refused : Refusal → A) (tells : (r : Refusal) → answer (f r) ≡ refused r)
+    (apart : (r : Refusal) → answer x ≡ refused r → ⊥) where
+  pub refuses-by : Numbering v → ((r s : Refusal) → refused r ≡ refused s → r ≡ s) → Refuses v refused (answer (byVerdict v f x))
+  refuses-by ok one = record { numbered = ok; exactly = go v }
+    where
+      go : (w : Verdict) (r : Refusal) → (w ≡ Refused r) ↔ (answer (byVerdict w f x) ≡ refused r)
+      go Accepted r = ((λ e. absurd (unrefused r (sym e))), (λ e. absurd (apart r (sym (ap answer (by-accepted Accepted f x refl)) ∙ e))))
+      go (Refused s) r = (
+        (λ e. let z : s ≡ r = cc in ap answer (by-refused (Refused s) f x s refl) ∙ tells s ∙ ap refused z),
+        (λ e. ap Refused (one s r (sym (ap answer (by-refused (Refused s) f x s refl) ∙ tells s) ∙ e))),
+      )
+
+  -- and a refusal leaves the two buffers as it found them
+  pub keeps-by : (one two : E → List ℕ) (a b : List ℕ) → ((r : Refusal) → one (f r) ≡ a) → ((r : Refusal) → two (f r) ≡ b)
+      → Keeps refused (answer (byVerdict v f x)) a b (one (byVerdict v f x)) (two (byVerdict v f x))
+  keeps-by one two a b same-one same-two = go v
+    where
+      go : (w : Verdict) → Keeps refused (answer (byVerdict w f x)) a b (one (byVerdict w f x)) (two (byVerdict w f x))
+      go Accepted r e = absurd (apart r (sym (ap answer (by-accepted Accepted f x refl)) ∙ e))
+      go (Refused s) r e = let w = by-refused (Refused s) f x s refl in (ap one w ∙ same-one s, ap two w ∙ same-two s)
