@@ -23,6 +23,10 @@ pub record Seen (qm : List ℕ) (lo hi best size i : ℕ) : Type 0 where
   pub most : (c : ℕ) → lo ≤ c → c < i → c < nth qm c → nth qm c - c ≤ size
   pub first : (c : ℕ) → lo ≤ c → c < best → best < hi → c < nth qm c → nth qm c - c < size
 
+-- A split before which no arc leaves crosses no arc.
+pub split-sealed : {qm : List ℕ} {lo i : ℕ} → Sealed qm lo i → (hi : ℕ) → Split (nth qm) lo i hi
+split-sealed Z hi u a b d = absurd (omega (arith, Z .high u a b))
+
 module _ {qm : List ℕ} {n : ℕ} (N : Nested (nth qm) n) where
   -- No arc leaves what lies between the ends of an arc.
   arc-sealed : (l : ℕ) → l < n → l < nth qm l → Sealed qm (suc l) (nth qm l)
@@ -191,7 +195,7 @@ module _ {qm : List ℕ} {n : ℕ} (N : Nested (nth qm) n) where
         go (no x) (no y) = omega (arith, back, arc-closed N h (omega arith) (H .arc lt) (nth qm u) (omega arith) (omega arith))
 
     pub split-left : Split (nth qm) lo h hi
-    split-left u a b d = absurd (omega (arith, heavy-left .high u a b))
+    split-left = split-sealed heavy-left hi
 
     split-right : Split (nth qm) h (nth qm h + 1) hi
     split-right u a b d = absurd (omega (arith, arc-closed N h (omega arith) (H .arc lt) u a (omega arith)))
@@ -248,11 +252,16 @@ pub room-past : {w l r room : ℕ} (qm : List ℕ) (lo hi : ℕ) → Room w (r -
 room-past qm lo hi R h lr =
     record { depth = R .depth; rows = omega (arith, R .rows); light = λ c a b d. omega (arith, h c a b d, R .short) }
 
-pub room-at : {w size room room′ : ℕ} → Room w size room → room′ ≡ room → Room w size room′
-room-at R e = record { depth = R .depth; short = R .short; rows = omega (arith, R .rows) }
+-- More room.
+pub room-more : {w size room room′ : ℕ} → Room w size room → room ≤ room′ → Room w size room′
+room-more R e = record { depth = R .depth; short = R .short; rows = omega (arith, R .rows) }
 
 pub light-at : {w lo hi room room′ : ℕ} {qm : List ℕ} → LightRoom w qm lo hi room → room′ ≡ room → LightRoom w qm lo hi room′
 light-at R e = record { depth = R .depth; rows = omega (arith, R .rows); light = R .light }
+
+-- Room for the front of a stretch.
+pub light-front : {w lo hi room : ℕ} {qm : List ℕ} (i : ℕ) → i ≤ hi → LightRoom w qm lo hi room → LightRoom w qm lo i room
+light-front i h L = record { depth = L .depth; rows = L .rows; light = λ c a b d. L .light c a (omega arith) d }
 
 -- An arc (l, r), and the longest arc (h, e) inside it.
 pub record Around (qm : List ℕ) (n l r h e : ℕ) : Type 0 where

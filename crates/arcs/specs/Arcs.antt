@@ -8,8 +8,8 @@ use Rattle.lists.specs.Vocabulary.{nth, all}
 use Rattle.strand.specs.Strands.{Nested, isLetter}
 use Rattle.refusals.specs.Rules.{moleculeSide}
 use Rattle.embedding.specs.Embedding.{lettersFit}
-use Rattle.embedding.specs.Row.{IsRow}
-use Rattle.rows.specs.Rows.{Window}
+use Rattle.embedding.specs.Row.{IsRow, Bounds}
+use Rattle.rows.specs.Rows.{Window, Tables, boundAt, lastAt}
 
 -- A window of a nested motif, and a nested molecule of letters.
 pub record Setting (p pm q qm : List ℕ) (from to : ℕ) : Type 0 where
@@ -45,12 +45,30 @@ pub record LightRoom (w : ℕ) (qm : List ℕ) (lo hi room : ℕ) : Type 0 where
   pub rows : (2 * depth + 1) * w ≤ room
   pub light : (c : ℕ) → lo ≤ c → c < hi → c < nth qm c → 2 * (nth qm c - c + 3) < 8 * 2 ^ depth
 
--- The row `new` is the row `old` with Q[lo..hi) put in front of its stretch.
-pub record Prepended (p pm q qm : List ℕ) (from to lo hi : ℕ) (old new : List ℕ) : Type 0 where
-  pub row : ℕ → ℕ
-  pub is : IsRow (lettersFit p q) (nth pm) (nth qm) from to lo hi row
-  pub entry : (j : ℕ) → from ≤ j → j ≤ to → nth new j ≡ nth old (row j)
+-- The tables have bounds of the starts for the bases of Q[lo..hi) and for hi, and the bound at lo is no less than `from`: who begins at lo with `from` has
+-- come at base i no further than the bound there. A row of a stretch that begins at base i has entries for the starts from `from` to that bound, or to the
+-- end of the window P[from..to).
+pub record Bounded (p q tables : List ℕ) (from to lo hi : ℕ) : Type 0 where
+  pub room : 5 * (length p + 1) + hi < length tables
+  pub start : from ≤ boundAt (length p) tables lo
+  pub bounds : Bounds (lettersFit p q) to lo hi (boundAt (length p) tables)
 
--- The first row of the work slice is the row inside the arc of Q whose left end is `kept`, if that is a position of Q.
+-- The tables of P with the length of P as the bound of each base of a molecule of n bases, and behind them: rows have entries for all starts.
+pub record AllStarts (p pm : List ℕ) (n : ℕ) (tables : List ℕ) : Type 0 where
+  pub motif : Tables p pm tables
+  pub room : 5 * (length p + 1) + n < length tables
+  pub all : (i : ℕ) → i ≤ n → boundAt (length p) tables i ≡ length p
+
+-- The first row of the work slice is the row of Q[lo..hi), for the starts up to the bound at lo.
+pub record RowOf (p pm q qm tables : List ℕ) (from to lo hi : ℕ) (work : List ℕ) : Type 0 where
+  pub is : IsRow (lettersFit p q) (nth pm) (nth qm) from (lastAt (length p) tables to lo) to lo hi (nth work)
+
+-- The row `new` is the row `old` with Q[lo..hi) put in front of its stretch.
+pub record Prepended (p pm q qm tables : List ℕ) (from to lo hi : ℕ) (old new : List ℕ) : Type 0 where
+  pub row : ℕ → ℕ
+  pub is : IsRow (lettersFit p q) (nth pm) (nth qm) from (lastAt (length p) tables to lo) to lo hi row
+  pub entry : (j : ℕ) → from ≤ j → j ≤ lastAt (length p) tables to lo → nth new j ≡ nth old (row j)
+
+-- The first row of the work slice is the row inside the arc of Q whose left end is `kept`, for every start of the window, if that is a position of Q.
 pub record KeptRow (p pm q qm : List ℕ) (from to kept : ℕ) (work : List ℕ) : Type 0 where
-  pub row : kept < length q → IsRow (lettersFit p q) (nth pm) (nth qm) from to (kept + 1) (nth qm kept) (nth work)
+  pub row : kept < length q → IsRow (lettersFit p q) (nth pm) (nth qm) from to to (kept + 1) (nth qm kept) (nth work)

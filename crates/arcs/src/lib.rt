@@ -1,14 +1,18 @@
 // The tree of arcs of the molecule: the longest arc of a stretch, and the row inside an arc by a walk over the tree, heavy child first.
+pub mod bounds;
+
 use rows::row;
+use rows::tables;
 ghost use mathlib.Core.Path.{_≡_};
-ghost use Prim.Native.Nat.{ℕ, _+_, _-_, _≤_, _<_, min};
+ghost use mathlib.Core.Bool.{true};
+ghost use Prim.Native.Nat.{ℕ, _+_, _-_, _*_, _≤_, _<_, min};
 ghost use lib.ListN.{length};
 ghost use Rattle.lists.specs.Vocabulary.{nth};
-ghost use Rattle.strand.specs.Strands.{Nested};
-ghost use Rattle.embedding.specs.Embedding.{lettersFit};
-ghost use Rattle.embedding.specs.Row.{IsRow};
-ghost use Rattle.rows.specs.Rows.{Tables};
-ghost use Rattle.arcs.specs.Arcs.{Setting, Sealed, Heavy, Room, LightRoom, Prepended, KeptRow};
+ghost use Rattle.strand.specs.Strands.{Nested, isLetter};
+ghost use Rattle.refusals.specs.Rules.{moleculeSide};
+ghost use Rattle.embedding.specs.Row.{arcAt};
+ghost use Rattle.rows.specs.Rows.{Window, Remade, Tables, matches, boundAt, lastAt};
+ghost use Rattle.arcs.specs.Arcs.{Setting, Sealed, Heavy, Room, LightRoom, Bounded, RowOf, Prepended, KeptRow};
 
 // The smaller of two numbers.
 pub fn smaller(a: usize, b: usize) -> usize
@@ -49,6 +53,32 @@ pub fn heaviest(qm: &[u16], lo: usize, hi: usize) -> usize
     best
 }
 
+// Closes the arc l, r: its row in the place of its inner row, for the starts up to the bound at l.
+fn close(
+    p: &[u8],
+    pm: &[u16],
+    tables: &[u16],
+    q: &[u8],
+    from: usize,
+    to: usize,
+    l: usize,
+    r: usize,
+    work: &mut [u16],
+)
+    requires { ⌜ Window (now p) (now pm) from to ⌝ }
+    requires { ⌜ Tables (now p) (now pm) (now tables) ⌝ }
+    requires { ⌜ (l < r) × ((r < length (now q)) × ((length (now q) ≤ 4096) × (isLetter moleculeSide (nth (now q) r) ≡ true))) ⌝ }
+    requires { ⌜ (5 * (length (now p) + 1) + l < length (now tables)) × (from ≤ boundAt (length (now p)) (now tables) l) ⌝ }
+    requires { ⌜ 2 * (length (now p) + 1) ≤ length (now work) ⌝ }
+    requires { ⌜ ((j : ℕ) → from ≤ j → j ≤ lastAt (length (now p)) (now tables) to l → (j ≤ nth (now work) j) × (nth (now work) j ≤ to)) ⌝ }
+    ensures { λ _. ⌜ Remade (λ j. arcAt (matches (now (p .entry)) (nth (now (q .entry)) l)) (matches (now (p .entry)) (nth (now (q .entry)) r))
+        (nth (now (pm .entry))) to (nth (now (work .entry)) j) (nth (now (work .entry)) (j + 1)) j) (now (work .entry)) (now (work .exit)) from
+        (min (lastAt (length (now (p .entry))) (now (tables .entry)) to l + 1) to) ⌝ }
+{
+    let last = tables::last_start(p.len(), tables, to, l);
+    row::close_arc(p, pm, tables, from, last, to, q[l], q[r], work);
+}
+
 // Leaves the row of lo..hi, which has no arc, as the first row of work.
 fn flat_row(
     p: &[u8],
@@ -67,17 +97,21 @@ fn flat_row(
     requires { ⌜ ((u : ℕ) → lo ≤ u → u < hi → nth (now qm) u ≡ u) ⌝ }
     requires { ⌜ length (now p) < length (now work) ⌝ }
     requires { ⌜ Tables (now p) (now pm) (now tables) ⌝ }
-    ensures { λ _. ⌜ IsRow (lettersFit (now (p .entry)) (now (q .entry))) (nth (now (pm .entry))) (nth (now (qm .entry))) from to lo hi (nth (now (work .exit))) ⌝ }
+    requires { ⌜ Bounded (now p) (now q) (now tables) from to lo hi ⌝ }
+    ensures { λ _. ⌜ RowOf (now (p .entry)) (now (pm .entry)) (now (q .entry)) (now (qm .entry)) (now (tables .entry)) from to lo hi (now (work .exit)) ⌝ }
 {
     if hi <= lo {
-        row::identity(from, to, work);
+        let last = tables::last_start(p.len(), tables, to, lo);
+        row::identity(from, last, work);
         return;
     }
     let mut i = hi - 1;
-    row::single(p, pm, tables, from, to, q[i], work);
+    let last = tables::last_start(p.len(), tables, to, i);
+    row::single(p, pm, tables, from, last, to, q[i], work);
     while lo < i {
         i -= 1;
-        row::extend(p, pm, tables, from, to, q[i], work);
+        let last = tables::last_start(p.len(), tables, to, i);
+        row::extend(p, pm, tables, from, last, to, q[i], work);
     }
 }
 
@@ -100,8 +134,9 @@ pub fn inner_row(
     requires { ⌜ (l < r) × ((r < length (now q)) × (nth (now qm) l ≡ r)) ⌝ }
     requires { ⌜ Room (length (now p) + 1) (r - l) (length (now work)) ⌝ }
     requires { ⌜ Tables (now p) (now pm) (now tables) ⌝ }
+    requires { ⌜ Bounded (now p) (now q) (now tables) from to (l + 1) r ⌝ }
     requires { ⌜ KeptRow (now p) (now pm) (now q) (now qm) from to kept (now work) ⌝ }
-    ensures { λ _. ⌜ IsRow (lettersFit (now (p .entry)) (now (q .entry))) (nth (now (pm .entry))) (nth (now (qm .entry))) from to (l + 1) r (nth (now (work .exit))) ⌝ }
+    ensures { λ _. ⌜ RowOf (now (p .entry)) (now (pm .entry)) (now (q .entry)) (now (qm .entry)) (now (tables .entry)) from to (l + 1) r (now (work .exit)) ⌝ }
 {
     if l == kept {
         return;
@@ -114,15 +149,50 @@ pub fn inner_row(
     }
     let heavy_r = mate(qm, heavy_l);
     inner_row(p, pm, tables, q, qm, from, to, heavy_l, heavy_r, kept, work);
-    row::close_arc(p, pm, tables, from, to, q[heavy_l], q[heavy_r], work);
+    close(p, pm, tables, q, from, to, heavy_l, heavy_r, work);
     if heavy_r + 1 < r {
         let rest = &mut work[w..];
-        row::identity(from, to, rest);
-        prepend(p, pm, tables, q, qm, from, to, heavy_r + 1, r, rest);
-        row::combine(from, to, 0, w, work);
+        stretch_row(p, pm, tables, q, qm, from, to, heavy_r + 1, r, rest);
+        let last = tables::last_start(p.len(), tables, to, heavy_l);
+        row::combine(from, last, 0, w, work);
     }
     if l + 1 < heavy_l {
         prepend(p, pm, tables, q, qm, from, to, l + 1, heavy_l, work);
+    }
+}
+
+// Leaves the row of lo..hi, which is not empty and no arc leaves, as the first row of work.
+fn stretch_row(
+    p: &[u8],
+    pm: &[u16],
+    tables: &[u16],
+    q: &[u8],
+    qm: &[u16],
+    from: usize,
+    to: usize,
+    lo: usize,
+    hi: usize,
+    work: &mut [u16],
+)
+    requires { ⌜ Setting (now p) (now pm) (now q) (now qm) from to ⌝ }
+    requires { ⌜ (lo < hi) × (hi ≤ length (now q)) ⌝ }
+    requires { ⌜ Sealed (now qm) lo hi ⌝ }
+    requires { ⌜ LightRoom (length (now p) + 1) (now qm) lo hi (length (now work)) ⌝ }
+    requires { ⌜ Tables (now p) (now pm) (now tables) ⌝ }
+    requires { ⌜ Bounded (now p) (now q) (now tables) from to lo hi ⌝ }
+    ensures { λ _. ⌜ RowOf (now (p .entry)) (now (pm .entry)) (now (q .entry)) (now (qm .entry)) (now (tables .entry)) from to lo hi (now (work .exit)) ⌝ }
+{
+    let r = hi - 1;
+    let l = mate(qm, r);
+    if l == r {
+        let last = tables::last_start(p.len(), tables, to, r);
+        row::single(p, pm, tables, from, last, to, q[r], work);
+    } else {
+        inner_row(p, pm, tables, q, qm, from, to, l, r, q.len(), work);
+        close(p, pm, tables, q, from, to, l, r, work);
+    }
+    if lo < l {
+        prepend(p, pm, tables, q, qm, from, to, lo, l, work);
     }
 }
 
@@ -144,7 +214,9 @@ fn prepend(
     requires { ⌜ Sealed (now qm) lo hi ⌝ }
     requires { ⌜ LightRoom (length (now p) + 1) (now qm) lo hi (length (now work)) ⌝ }
     requires { ⌜ Tables (now p) (now pm) (now tables) ⌝ }
-    ensures { λ _. ⌜ Prepended (now (p .entry)) (now (pm .entry)) (now (q .entry)) (now (qm .entry)) from to lo hi (now (work .entry)) (now (work .exit)) ⌝ }
+    requires { ⌜ Bounded (now p) (now q) (now tables) from to lo hi ⌝ }
+    ensures { λ _. ⌜ Prepended (now (p .entry)) (now (pm .entry)) (now (q .entry)) (now (qm .entry)) (now (tables .entry)) from to lo hi
+        (now (work .entry)) (now (work .exit)) ⌝ }
 {
     let w = p.len() + 1;
     let mut i = hi;
@@ -152,12 +224,14 @@ fn prepend(
         let r = i - 1;
         let l = mate(qm, r);
         if l == r {
-            row::extend(p, pm, tables, from, to, q[r], work);
+            let last = tables::last_start(p.len(), tables, to, r);
+            row::extend(p, pm, tables, from, last, to, q[r], work);
         } else {
             let rest = &mut work[w..];
             inner_row(p, pm, tables, q, qm, from, to, l, r, q.len(), rest);
-            row::close_arc(p, pm, tables, from, to, q[l], q[r], rest);
-            row::combine(from, to, w, 0, work);
+            close(p, pm, tables, q, from, to, l, r, rest);
+            let last = tables::last_start(p.len(), tables, to, l);
+            row::combine(from, last, w, 0, work);
         }
         i = l;
     }

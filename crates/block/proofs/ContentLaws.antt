@@ -9,13 +9,13 @@ use native.Mathlib.Omega.{arith}
 use lib.ListN.{length, drop, replicate, length-drop, length-set, length-replicate}
 use lib.Seq.{length-take-le}
 use Rattle.lists.specs.Vocabulary.{nth}
-use Rattle.strand.specs.Strands.{Strand, Proper, leastMotif, leastMolecule}
+use Rattle.strand.specs.Strands.{Strand, strandOf, Proper, leastMotif, leastMolecule}
 use Rattle.refusals.specs.Rules.{moleculeSide, motifSide}
 use Rattle.lists.proofs.ListLaws.{every-at, never, zeros-at, zeros-not, zeros-zero, zeros-are, by-bool, choose-yes, choose-no}
-use Rattle.octets.specs.Octets.{Bytes, mapBytes, without, clearMap}
+use Rattle.octets.specs.Octets.{Bytes, mapBit, mapBytes, without, clearMap}
 use Rattle.block.specs.Content.{withChecksum, checksumOk, rechecked, Kind, blockBases, entryBases, moleculeKind, entryKind, emptyBlock, isEmpty}
 use Rattle.block.specs.Content.{lengthIn, strandIn, moleculeIn, motifIn, searchedIn, hitIn, contentOf, strandBlock, entryWith}
-use Rattle.block.specs.Content.{encodeMolecule, encodeEntry}
+use Rattle.block.specs.Content.{searchedAt, hitAt, encodeMolecule, encodeEntry}
 use Rattle.block.specs.Motif.{motifKind, motifHandedIn, encodeMotif, soundMotif}
 use Rattle.block.specs.Block.{hitOk, hitsOk, soundMolecule, soundEntry, forgot, cleaned}
 use Rattle.block.proofs.SoundLaws.{Content, Sound, blank, filled, strand-zero, entry-zero, strand-size, strand-is, molecule-is, entry-is}
@@ -146,6 +146,19 @@ module _ (q : Strand) (ok : Proper motifSide leastMotif entryBases (q .bases) (q
   pub entry-forgot : (d : ℕ) → d < 512 → forgot d (encodeEntry q s h) ≡ encodeEntry q (without d s) (without d h)
   unfolding encodeEntry
   entry-forgot d l = entry.entry-forget [] (q .bases) (q .mates) refl ok s h d l
+
+-- The bits of a block's two maps, and the entry with the maps of two sets.
+pub searched-bit : (s : List ℕ) (d : ℕ) → mapBit s searchedAt d ≡ searchedIn s d
+unfolding searchedIn
+searched-bit s d = refl
+
+pub hit-bit : (s : List ℕ) (d : ℕ) → mapBit s hitAt d ≡ hitIn s d
+unfolding hitIn
+hit-bit s d = refl
+
+pub entry-of-maps : (p pm : List ℕ) (s h : ℕ → Bool) → entryWith [] p pm (mapBytes s) (mapBytes h) ≡ encodeEntry (strandOf p pm) s h
+unfolding encodeEntry
+entry-of-maps p pm s h = refl
 
 -- ---- what soundness gives
 

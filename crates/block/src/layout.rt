@@ -1,4 +1,8 @@
-// Where things stand in a block, and how many there is room for (specs/Content has the same numbers).
+// Where blocks stand in a buffer, where things stand in a block, and how many there is room for (specs/Content has the same numbers).
+ghost use mathlib.Core.Path.{_≡_};
+ghost use Prim.Native.Nat.{_<_};
+ghost use Rattle.block.specs.Block.{blockOf, blockCount};
+
 pub const BLOCK_SIZE: usize = 512;
 
 pub const CHECKSUM_AT: usize = 508;
@@ -35,3 +39,13 @@ pub const SEARCHED_AT: usize = 380;
 pub const HIT_AT: usize = 444;
 
 pub const MAP_SIZE: usize = 64;
+
+// Block d of a buffer. Callers name a block that is there.
+pub fn block_at(buf: &[u8], d: usize) -> &[u8]
+    requires { ⌜ d < blockCount (now buf) ⌝ }
+    ensures { λ r. ⌜ now r ≡ blockOf d (now (buf .entry)) ⌝ }
+{
+    let a = BLOCK_SIZE * d;
+    let e = a + BLOCK_SIZE;
+    &buf[a..e]
+}

@@ -225,9 +225,7 @@ pub fn sound_at(buf: &[u8], d: usize) -> bool
     ensures { λ r. ⌜ r ≡ soundMolecule (blockOf d (now (buf .entry))) ⌝ }
 {
     if d < buf.len() / layout::BLOCK_SIZE {
-        let a = layout::BLOCK_SIZE * d;
-        let e = a + layout::BLOCK_SIZE;
-        return sound_molecule(&buf[a..e]);
+        return sound_molecule(layout::block_at(buf, d));
     }
     false
 }

@@ -1,18 +1,19 @@
 -- The outcomes of the writers of one block of a buffer: each return of their code, and what a caller whose input fits may cite.
 use mathlib.Core.Path.{_≡_, refl, ap, _∙_}
-use mathlib.Core.Bool.{Bool, true, false}
-use mathlib.Core.List.{List, _++_}
+use mathlib.Core.Bool.{Bool, true, false, _&&_}
+use mathlib.Core.List.{List, [], _++_}
 use Prim.Native.Nat.{ℕ, _+_, _-_, _*_, _<_, _≤_}
 use native.Mathlib.Omega.{arith}
-use borrow.Author.Tests.{lt-ltb, le-ltb}
+use borrow.Author.Tests.{lt-ltb, le-ltb, eq-eqb}
+use lib.Dec.{eqb}
 use borrow.Rule.Slice.PartMut.{putMid}
 use lib.ListN.{length, take, drop, take-append-drop, replicate}
 use Rattle.lists.specs.Vocabulary.{choose}
 use Rattle.strand.specs.Strands.{strandOf}
-use Rattle.block.specs.Content.{emptyBlock, encodeMolecule}
+use Rattle.block.specs.Content.{emptyBlock, encodeMolecule, entryWith}
 use Rattle.block.specs.Block.{blockOf, blockCount, putBlock}
-use Rattle.buffer.specs.Buffer.{blockFits, moleculePut, zeroPut}
-use Rattle.codec.specs.Outcomes.{Wrote, wrote, wroteIf, strandFits, moleculeWrote}
+use Rattle.buffer.specs.Buffer.{blockFits, moleculePut, entryPut, zeroPut}
+use Rattle.codec.specs.Outcomes.{Wrote, wrote, wroteIf, strandFits, moleculeWrote, entryWrote}
 use Rattle.buffer.proofs.BlockLaws.{length-block}
 use Rattle.buffer.proofs.BufferLaws.{put-is}
 use Rattle.codec.proofs.OutcomeLaws.{wrote-not, wrote-new, bytes-new, strand-fits}
@@ -50,6 +51,34 @@ module _ (d : ℕ) (bases mates buf : List ℕ) where
   molecule-put-there r x h hb hm q =
       bytes-new (putBlock d (encodeMolecule (strandOf bases mates)) buf) buf _ r x
       (rw (lt-ltb d (blockCount buf) h, strand-fits 160 512 (length bases) (length mates) refl hb hm)) q
+
+module _ (k : ℕ) (bases mates searched hits buf : List ℕ) where
+  pub entry-not : blockCount buf ≤ k → wrote false buf ≡ entryPut k (strandOf bases mates) searched hits buf
+  unfolding entryPut blockFits
+  entry-not h = wrote-not (putBlock k (entryWith [] bases mates searched hits) buf) buf _ (rw (le-ltb k (blockCount buf) h))
+
+  pub entry-done : (r : Bool) (x : List ℕ) → k < blockCount buf → wrote r x ≡ entryWrote (blockOf k buf) bases mates searched hits
+      → wrote r (putMid (512 * k) (512 * k + 512 - 512 * k) buf x) ≡ entryPut k (strandOf bases mates) searched hits buf
+  unfolding entryPut entryWrote blockFits
+  entry-done r x h e =
+      let l : length (blockOf k buf) ≡ 512 = length-block k buf (omega arith) in
+      rw (lt-ltb k (blockCount buf) h)
+      (part-put k (entryWith [] bases mates searched hits) buf x r
+      (strandFits 512 120 (length bases) (length mates) && eqb (length searched) 64 && eqb (length hits) 64) (rw l at e))
+
+  -- Where there is a block k and the motif fits, its entry is written.
+  pub entry-put-there : (r : Bool) (x : List ℕ) → k < blockCount buf → length bases ≤ 120 → length mates ≡ length bases
+      → length searched ≡ 64 → length hits ≡ 64 → wrote r x ≡ entryPut k (strandOf bases mates) searched hits buf
+      → x ≡ putBlock k (entryWith [] bases mates searched hits) buf
+  unfolding entryPut blockFits
+  entry-put-there r x h hb hm hs hh q =
+      bytes-new (putBlock k (entryWith [] bases mates searched hits) buf) buf _ r x
+      (rw (
+        lt-ltb k (blockCount buf) h,
+        strand-fits 120 512 (length bases) (length mates) refl hb hm,
+        eq-eqb (length searched) 64 hs,
+        eq-eqb (length hits) 64 hh,
+      )) q
 
 pub zero-at-is : (d : ℕ) (s r : List ℕ) → d < blockCount s → r ≡ replicate (length (take (512 * d + 512 - 512 * d) (drop (512 * d) s))) 0
     → putMid (512 * d) (512 * d + 512 - 512 * d) s r ≡ putBlock d emptyBlock s

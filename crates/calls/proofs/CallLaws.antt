@@ -1,23 +1,27 @@
 -- From the judge's acceptance and what the writers left to the outcome of a call; what the entry of a slot knows.
 use Prim.Native.Nat.{ℕ, _/_, _<_}
 use native.Mathlib.Omega.{arith}
-use mathlib.Core.Path.{_≡_, sym, ap, ap₂, _∙_}
-use mathlib.Core.Bool.{Bool, true, false, _&&_}
-use mathlib.Core.List.{List}
-use lib.ListN.{length}
+use mathlib.Core.Path.{_≡_, refl, sym, ap, ap₂, _∙_}
+use mathlib.Core.Bool.{Bool, true, false, not, _&&_, _||_, or-false}
+use mathlib.Core.List.{List, _++_}
+use lib.ListN.{length, drop}
+use Rattle.lists.specs.Vocabulary.{choose, select}
 use Rattle.strand.specs.Strands.{Strand, sameStrand}
+use Rattle.lists.proofs.ListLaws.{choose-yes, choose-no}
 use Rattle.refusals.proofs.RuleLaws.{by-accepted}
 use Rattle.refusals.specs.declared.Verdict.the-variants.{Accepted}
-use Rattle.block.specs.Content.{blockSize, emptyBlock, encodeMolecule, encodeEntry}
+use Rattle.block.specs.Content.{blockSize, emptyBlock, encodeMolecule, encodeEntry, keepsMotif, searchedIn, hitIn}
 use Rattle.block.specs.Block.{blockOf, soundEntry, cleaned, forgot, blockCount, eachBlock, putBlock}
 use Rattle.block.proofs.ContentLaws.{length-cleaned}
 use Rattle.buffer.proofs.BlockLaws.{block-each, length-each, length-block}
 use Rattle.calls.specs.declared.Added.the-variants.{Stored}
 use Rattle.calls.specs.declared.Removed.the-variants.{Cleared}
 use Rattle.calls.specs.declared.Queried.{Queried}
-use Rattle.calls.specs.Buffers.{mostCatalogBlocks, motifVerdict, slotOf, cleanCache}
+use Rattle.calls.specs.declared.Queried.the-variants.{Hits}
+use Rattle.calls.specs.Buffers.{mostCatalogBlocks, motifVerdict, held, moleculeAt, slotOf, cleanCache}
 use Rattle.calls.specs.Calls.{effect, addVerdict, addOutcome, removeVerdict, removeOutcome, queried, queryVerdict, isKnown, queryAccepted}
-use Rattle.calls.specs.Calls.{queryOutcome}
+use Rattle.calls.specs.Calls.{toSearch, isHit, queryOutcome}
+use Rattle.calls.specs.Statements.{AllSound}
 use Rattle.calls.proofs.BlockUse as leaf
 use Rattle.calls.proofs.ReadingLaws.{cleaned-sound}
 
@@ -25,7 +29,7 @@ use Rattle.calls.proofs.ReadingLaws.{cleaned-sound}
 updated-eq : {A : Type 0} {r : A} {a a′ b b′ : List ℕ} → a ≡ a′ → b ≡ b′ → effect r a b ≡ effect r a′ b′
 updated-eq {r = r} x y = λ i. record { answer = r; catalog = x i; cache = y i }
 
-pub queried-eq : {r r′ : Queried} {a a′ b b′ : List ℕ} → r ≡ r′ → a ≡ a′ → b ≡ b′ → queried r a b ≡ queried r′ a′ b′
+queried-eq : {r r′ : Queried} {a a′ b b′ : List ℕ} → r ≡ r′ → a ≡ a′ → b ≡ b′ → queried r a b ≡ queried r′ a′ b′
 queried-eq z x y = λ i. record { answer = z i; cache = x i; hits = y i }
 
 -- Add
@@ -64,21 +68,34 @@ module _ (embeds : Strand → Strand → Bool) (catalog cache : List ℕ) (p : S
   unfolding queryOutcome
   query-does e = by-accepted (queryVerdict catalog cache p work (length hits)) _ _ e
 
-  -- y is the cache cleaned, s the slot
-  pub query-done : (r : Queried) (x h y : List ℕ) (s : ℕ) → queryVerdict catalog cache p work (length hits) ≡ Accepted → y ≡ eachBlock cleaned cache
-      → s ≡ slotOf (blockCount y) p → queried r x h ≡ queryAccepted embeds catalog y (blockOf s y) s p hits
+  -- y is the cache cleaned
+  pub query-done : (r : Queried) (x h y : List ℕ) → queryVerdict catalog cache p work (length hits) ≡ Accepted → y ≡ eachBlock cleaned cache
+      → queried r x h ≡ queryAccepted embeds catalog y (blockOf (slotOf (blockCount y) p) y) (slotOf (blockCount y) p) p hits
       → queried r x h ≡ queryOutcome embeds catalog cache p work hits
   unfolding cleanCache
-  query-done r x h y s e ey es er =
+  query-done r x h y e ey er =
       let len : length y ≡ length cache = ap length ey ∙ length-each cleaned length-cleaned cache in
-      let es′ : s ≡ slotOf (blockCount cache) p = es ∙ ap (λ (k : ℕ). slotOf (k / blockSize) p) len in
-      er ∙ ap₂ (λ (w : List ℕ) (k : ℕ). queryAccepted embeds catalog w (blockOf k w) k p hits) ey es′ ∙ sym (query-does e)
+      er
+      ∙ ap₂ (λ (w : List ℕ) (k : ℕ). queryAccepted embeds catalog w (blockOf k w) k p hits) ey (ap (λ (k : ℕ). slotOf (k / blockSize) p) len)
+      ∙ sym (query-does e)
 
--- The slot's entry in a clean cache is sound.
-pub slot-sound : (cache y : List ℕ) (s : ℕ) → y ≡ eachBlock cleaned cache → s < blockCount cache → soundEntry (blockOf s y) ≡ true
-slot-sound cache y s e l =
+-- What an accepted query answers and leaves: c and k count its hits and the numbers that it searched, x is the cache and y the slice of the hits.
+module _ (embeds : Strand → Strand → Bool) (catalog cache entry : List ℕ) (s : ℕ) (p : Strand) (hits : List ℕ) where
+  pub query-answers : (c k : ℕ) (x y : List ℕ) → c ≡ length (select (blockCount catalog) (isHit embeds catalog entry p))
+      → k ≡ length (select (blockCount catalog) (toSearch catalog entry p))
+      → x ≡ putBlock s (encodeEntry p (held catalog) (isHit embeds catalog entry p)) cache
+      → y ≡ select (blockCount catalog) (isHit embeds catalog entry p) ++ drop c hits
+      → queried (Hits c k) x y ≡ queryAccepted embeds catalog cache entry s p hits
+  unfolding queryAccepted
+  query-answers c k x y ec ek ex ey =
+      queried-eq (ap₂ Hits ec ek) ex (ey ∙ ap (λ (n : ℕ). select (blockCount catalog) (isHit embeds catalog entry p) ++ drop n hits) ec)
+
+-- Every entry of a clean cache is sound.
+pub clean-sound : (cache y : List ℕ) → y ≡ eachBlock cleaned cache → AllSound y
+clean-sound cache y e s l =
+    let len : length y ≡ length cache = ap length e ∙ length-each cleaned length-cleaned cache in
     ap (λ (w : List ℕ). soundEntry (blockOf s w)) e
-    ∙ ap soundEntry (block-each cleaned length-cleaned s cache l)
+    ∙ ap soundEntry (block-each cleaned length-cleaned s cache (omega arith))
     ∙ cleaned-sound (blockOf s cache) (length-block s cache (omega arith))
 
 -- What an entry knows, and what an empty slot does.
@@ -90,3 +107,21 @@ entry-known m ok searched hits p d l = rw (leaf.entry-keeps m ok searched hits p
 pub empty-known : (p : Strand) (d : ℕ) → isKnown emptyBlock p d ≡ false
 unfolding isKnown
 empty-known p d = rw (leaf.empty-keeps p)
+
+-- The numbers that a query has to search, and its hits: those that the entry knows as hits, and those searched in which the motif embeds.
+module _ (catalog entry : List ℕ) (p : Strand) (d : ℕ) where
+  pub search-is : toSearch catalog entry p d ≡ (held catalog d && not (keepsMotif entry p && searchedIn entry d))
+  unfolding toSearch isKnown
+  search-is = refl
+
+  pub hit-is : (embeds : Strand → Strand → Bool) → isHit embeds catalog entry p d
+      ≡ ((held catalog d && (keepsMotif entry p && (searchedIn entry d && hitIn entry d)))
+      || (toSearch catalog entry p d && embeds p (moleculeAt catalog d)))
+  unfolding toSearch isHit isKnown
+  hit-is embeds = go (held catalog d) (keepsMotif entry p) (searchedIn entry d) (hitIn entry d) (embeds p (moleculeAt catalog d))
+    where
+      go : (h k s t e : Bool) → (h && choose (k && s) t e) ≡ ((h && (k && (s && t))) || ((h && not (k && s)) && e))
+      go false k s t e = refl
+      go true false s t e = choose-no false t e refl
+      go true true false t e = choose-no false t e refl
+      go true true true t e = choose-yes true t e refl ∙ sym (or-false t)

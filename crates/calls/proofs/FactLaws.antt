@@ -1,5 +1,5 @@
 -- What is known of a call that its rules let pass.
-use mathlib.Core.Path.{_≡_}
+use mathlib.Core.Path.{_≡_, refl}
 use mathlib.Core.Bool.{true, false, not, _&&_}
 use mathlib.Core.List.{List, []}
 use Prim.Native.Nat.{ℕ, _*_, _%_, _<_, _≤_}
@@ -13,11 +13,11 @@ use Rattle.refusals.specs.Rules.{refuseIf, refuseAtLowest, workSize}
 use Rattle.lists.proofs.ListLaws.{and-true, not-not, true-not}
 use Rattle.refusals.proofs.RuleLaws.{first-pass, rule-pass, rule-at-pass}
 use Rattle.strand.proofs.VerdictLaws.{accepted-proper}
-use Rattle.block.specs.Content.{blockSize, isEmpty}
+use Rattle.block.specs.Content.{blockSize, isEmpty, moleculeIn}
 use Rattle.block.specs.Block.{soundMolecule, blockOf, blockCount}
 use Rattle.refusals.specs.declared.Verdict.the-variants.{Accepted}
 use Rattle.calls.specs.Buffers.{mostCatalogBlocks, mostCacheBlocks, mostMoleculeBases, mostMotifBases, moleculeVerdict, motifVerdict, workVerdict}
-use Rattle.calls.specs.Buffers.{isWhole, areWhole, unsoundAt, held, buffersVerdict, Usable}
+use Rattle.calls.specs.Buffers.{isWhole, areWhole, unsoundAt, held, moleculeAt, buffersVerdict, Usable}
 use Rattle.calls.specs.Calls.{addVerdict, removeVerdict, queryVerdict}
 
 whole-facts : (most : ℕ) (s : List ℕ) → isWhole most s ≡ true → (length s ≡ blockSize * blockCount s) × (1 ≤ blockCount s) × (blockCount s ≤ most)
@@ -54,6 +54,10 @@ unfolding held
 held-facts cat d e =
     let x = and-true (ltb d (blockCount cat)) _ e in
     (ltb-true d _ (x .0), true-not (isEmpty (blockOf d cat)) (x .1))
+
+pub molecule-at : (cat : List ℕ) (d : ℕ) → moleculeIn (blockOf d cat) ≡ moleculeAt cat d
+unfolding moleculeAt
+molecule-at cat d = refl
 
 module _ (cat cache : List ℕ) (d : ℕ) where
   pub add-facts : (q : Strand) → addVerdict cat cache d q ≡ Accepted

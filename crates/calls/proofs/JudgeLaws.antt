@@ -2,10 +2,8 @@
 use mathlib.Core.Path.{_≡_, sym, ap, _∙_}
 use mathlib.Core.Bool.{Bool, true, false, not}
 use mathlib.Core.List.{List}
-use Prim.Native.Nat.{ℕ, _+_, _-_, _*_, _%_, _<_, _≤_}
-use native.Mathlib.Omega.{arith}
-use lib.ListN.{length, drop}
-use lib.Seq.{getD-take, getD-drop}
+use Prim.Native.Nat.{ℕ, _%_, _<_, _≤_}
+use lib.ListN.{length}
 use lib.Dec.{eqb, leb}
 use borrow.Author.Tests.{eq-eqb, ne-eqb, lt-ltb, le-ltb, le-leb, lt-leb}
 use Rattle.lists.specs.Vocabulary.{nth, lowest}
@@ -78,16 +76,11 @@ module _ (catalog : List ℕ) (d : ℕ) where
   unfolding held
   above-not-held h = rw (le-ltb d (blockCount catalog) h)
 
-  byte-0 : nth (blockOf d catalog) 0 ≡ nth catalog (blockSize * d)
-  byte-0 =
-      getD-take (blockSize * d + blockSize - blockSize * d) (drop (blockSize * d) catalog) 0 0 (omega arith)
-      ∙ getD-drop (blockSize * d) catalog 0 0
-      ∙ ap (λ (n : ℕ). nth catalog n) (let z : blockSize * d + 0 ≡ blockSize * d = omega arith in z)
-
   -- byte 0 of a sound block tells
-  pub held-by-byte : soundMolecule (blockOf d catalog) ≡ true → d < blockCount catalog → not (eqb (nth catalog (blockSize * d)) 0) ≡ held catalog d
+  pub held-by-byte : soundMolecule (blockOf d catalog) ≡ true → d < blockCount catalog → (b : List ℕ) → b ≡ blockOf d catalog
+      → not (eqb (nth b 0) 0) ≡ held catalog d
   unfolding held
-  held-by-byte ok h = rw (lt-ltb d (blockCount catalog) h, ← byte-0, leaf.molecule-first (blockOf d catalog) ok)
+  held-by-byte ok h b e = rw (lt-ltb d (blockCount catalog) h, e, leaf.molecule-first (blockOf d catalog) ok)
 
 -- Add
 

@@ -1,3 +1,1 @@
 mod ReadyLaws
-mod MatchLaws
-mod SearchLaws

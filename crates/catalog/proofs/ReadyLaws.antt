@@ -1,18 +1,13 @@
--- What the functions behind a call ask, from the verdict of its judge.
+-- What the search behind a query asks, from the verdict of its judge.
 use mathlib.Core.Path.{_≡_}
 use mathlib.Core.List.{List}
 use Prim.Native.Nat.{ℕ, _≤_}
 use Rattle.strand.specs.Strands.{Strand}
 use Rattle.block.specs.Block.{blockCount}
 use Rattle.refusals.specs.declared.Verdict.the-variants.{Accepted}
-use Rattle.calls.specs.Buffers.{buffersVerdict}
 use Rattle.calls.specs.Calls.{queryVerdict}
-use Rattle.calls.proofs.FactLaws.{sized, query-facts}
-use Rattle.catalog.specs.Search.{SoundCatalog, Judged}
-
--- Rules 10 and 11 let a catalog of sound blocks pass only.
-pub all-sound : (catalog cache : List ℕ) → buffersVerdict catalog cache ≡ Accepted → SoundCatalog catalog
-all-sound catalog cache e = record { sound = sized catalog cache e .blocks }
+use Rattle.calls.proofs.FactLaws.{query-facts}
+use Rattle.search.specs.Search.{Judged}
 
 pub query-ready : (catalog cache : List ℕ) (p : Strand) (work room : ℕ) → queryVerdict catalog cache p work room ≡ Accepted
     → Judged catalog (p .bases) (p .mates) work × (blockCount catalog ≤ room) × (1 ≤ blockCount cache)

@@ -5,10 +5,6 @@ ghost use Rattle.strand.specs.Strands.{strandOf};
 ghost use Rattle.embedding.specs.Longest.{embeds};
 ghost use Rattle.refusals.specs.Rules.{WorkKept};
 ghost use Rattle.calls.specs.Calls.{effect, addOutcome, removeOutcome, queried, queryVerdict, queryOutcome};
-
-mod judge;
-mod search;
-
 pub use calls::Added;
 pub use calls::Queried;
 pub use calls::Removed;
@@ -18,7 +14,7 @@ pub fn add(catalog: &mut [u8], cache: &mut [u8], d: usize, bases: &[u8], mates: 
     ensures { λ r. ⌜ effect r (now (catalog .exit)) (now (cache .exit))
         ≡ addOutcome (now (catalog .entry)) (now (cache .entry)) d (strandOf (now (bases .entry)) (now (mates .entry))) ⌝ }
 {
-    let verdict = judge::judge_add(catalog, cache, d, bases, mates);
+    let verdict = search::judge::judge_add(catalog, cache, d, bases, mates);
     if let refusals::Verdict::Refused(r) = verdict {
         return Added::Refused(r);
     }
@@ -31,7 +27,7 @@ pub fn add(catalog: &mut [u8], cache: &mut [u8], d: usize, bases: &[u8], mates: 
 pub fn remove(catalog: &mut [u8], cache: &mut [u8], d: usize) -> Removed
     ensures { λ r. ⌜ effect r (now (catalog .exit)) (now (cache .exit)) ≡ removeOutcome (now (catalog .entry)) (now (cache .entry)) d ⌝ }
 {
-    let verdict = judge::judge_remove(catalog, cache, d);
+    let verdict = search::judge::judge_remove(catalog, cache, d);
     if let refusals::Verdict::Refused(r) = verdict {
         return Removed::Refused(r);
     }
@@ -59,12 +55,10 @@ pub fn query(
 {
     let entries = work.len();
     let places = hits.len();
-    let verdict = judge::judge_query(catalog, cache, p, pm, entries, places);
+    let verdict = search::judge::judge_query(catalog, cache, p, pm, entries, places);
     if let refusals::Verdict::Refused(r) = verdict {
         return Queried::Refused(r);
     }
     buffer::clean_all(cache);
-    let n = cache.len() / block::layout::BLOCK_SIZE;
-    let slot = search::slot(p, pm, n);
-    search::answer(catalog, cache, slot, p, pm, work, hits)
+    search::answer(catalog, cache, p, pm, work, hits)
 }

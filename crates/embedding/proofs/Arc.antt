@@ -217,13 +217,12 @@ module _ {fit : ℕ → ℕ → Bool} {pm qm : ℕ → ℕ} (l r : ℕ) (lr : l 
           }
           (λ k R. elim (decLt b k) [ yes t ↦ omega (arith, arc-upon k R t .0) | no t ↦ omega arith ])
 
-      pub arc-leaves : {a : ℕ} → Best fit pm qm m (suc j) a (suc l) r → (fit j l ≡ true → fit (pm j) r ≡ true → pm j ≤ a → ⊥)
-          → Best fit pm qm m j b l (suc r)
-      arc-leaves A h =
+      pub arc-leaves : (fit j l ≡ true → fit (pm j) r ≡ true → Reach fit pm qm m (suc j) (pm j) (suc l) r → ⊥) → Best fit pm qm m j b l (suc r)
+      arc-leaves h =
           record {
             reach = later j l (suc r) (omega arith) (B .reach .from) (omega arith) (omega arith) (B .reach);
             most = λ k R. elim (decLt b k) [
-              | yes t ↦ let v = arc-upon k R t in absurd (h (v .1) (v .2) (A .most (pm j) (v .3)))
+              | yes t ↦ let v = arc-upon k R t in absurd (h (v .1) (v .2) (v .3))
               | no t ↦ omega arith
             ];
           }

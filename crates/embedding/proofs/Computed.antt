@@ -1,6 +1,6 @@
 -- The tests say what the propositions say: places and embeddings, `prefixOk` and reached ends, `longest` and the largest of them.
 use Prim.Native.Nat.{ℕ, _<_}
-use mathlib.Core.Path.{_≡_, refl, sym, _∙_}
+use mathlib.Core.Path.{_≡_, refl, sym, ap, _∙_}
 use mathlib.Core.Bool.{Bool, true, false, _&&_, Bool·beq}
 use mathlib.Core.Logic.{_↔_}
 use mathlib.Core.List.{List}
@@ -10,7 +10,8 @@ use lib.ListN.{length}
 use borrow.Author.Tests.{lt-ltb, ltb-true, eqb-true, eq-eqb}
 use Rattle.lists.specs.Vocabulary.{nth, every, someList, tab}
 use Rattle.embedding.specs.Embedding.{fits, Emb, Embeds}
-use Rattle.embedding.specs.Longest.{placesOk, closedTo, prefixOk, longest, verified}
+use Rattle.strand.specs.Strands.{Strand, lettersMatch}
+use Rattle.embedding.specs.Longest.{placesOk, closedTo, prefixOk, longest, verified, embeds}
 use Rattle.embedding.specs.Row.{Closed, Best}
 use Rattle.lists.proofs.ListLaws.{and-true, every-at, every-true, length-tab, nth-tab}
 use Rattle.lists.proofs.Ranges.{someList-true, someList-of, Largest, largest-is}
@@ -121,3 +122,8 @@ module _ (rule : ℕ → ℕ → Bool) (pb pm qb qm : List ℕ) where
 
       back : (length v ≡ length pb) × Emb (fits rule pb qb) (nth pm) (nth qm) 0 (length pb) 0 (length qb) (nth v) → verified rule pb pm qb qm v ≡ true
       back (l, E) = and-of (eq-eqb (length v) (length pb) l) (embed-places (fits rule pb qb) (nth pm) (nth qm) (length qb) (length pb) v E)
+
+-- The motif embeds exactly where the longest prefix that does is the whole motif.
+pub embeds-longest : (p q : Strand) (k : ℕ) → k ≡ longest lettersMatch (p .bases) (p .mates) (q .bases) (q .mates) → eqb k (length (p .bases)) ≡ embeds p q
+unfolding embeds
+embeds-longest p q k e = ap (λ (n : ℕ). eqb n (length (p .bases))) e

@@ -6,6 +6,7 @@ pub mod Window
 pub mod Recurrence
 pub mod Entries
 pub mod Arc
+pub mod Bounds
 pub mod Rows
 pub mod Computed
 mod VerifyLaws

@@ -8,7 +8,8 @@ use native.Mathlib.Omega.{arith}
 use lib.Dec.{ltb, leb}
 use borrow.Author.Tests.{ltb-true, ltb-false, leb-true, leb-false}
 use Rattle.strand.specs.Strands.{Nested}
-use Rattle.embedding.specs.Row.{Closed, Split, Best, IsRow, unitAt, overAt, arcAt, overBy}
+use Rattle.embedding.specs.Row.{Closed, Split, Best, IsRow, Bounds, unitAt, overAt, arcAt, overBy}
+use Rattle.embedding.proofs.Bounds.{bounds-end}
 use Rattle.embedding.proofs.Answers.{by-test, clash}
 use Rattle.embedding.proofs.Splitting.{restrict}
 use Rattle.embedding.proofs.Recurrence.{later, empty, combine, single-takes, single-skips, extend-takes, extend-skips}
@@ -31,8 +32,8 @@ module _ {fit : ℕ → ℕ → Bool} {pm qm : ℕ → ℕ} {z : ℕ} where
       P n = Best fit pm qm z k n u (suc u)
 
   -- The row of an arc (l, r) from its inner row f. P[lo..z) is a window of a nested P; an arc that leaves it to the right is never begun.
-  module _ {lo M n l r : ℕ} {f : ℕ → ℕ} (NP : Nested pm M) (hM : z ≤ M) (NQ : Nested qm n) (lr : l < r) (rn : r < n) (arc : qm l ≡ r)
-      (A : IsRow fit pm qm lo z (suc l) r f) where
+  module _ {lo hi M n l r : ℕ} {f : ℕ → ℕ} (NP : Nested pm M) (hM : z ≤ M) (NQ : Nested qm n) (lr : l < r) (rn : r < n) (arc : qm l ≡ r)
+      (A : IsRow fit pm qm lo hi z (suc l) r f) where
     -- No arc from inside ends at r.
     pub before-right : Split qm (suc l) r (suc r)
     before-right u p q h = elim (ℕ-discrete (qm u) r) [
@@ -41,14 +42,18 @@ module _ {fit : ℕ → ℕ → Bool} {pm qm : ℕ → ℕ} {z : ℕ} where
     ]
 
     -- The inner stretch with the right end as an unbonded base.
-    inner-right : (j : ℕ) → lo ≤ j → j ≤ z → Best fit pm qm z j (unitAt (λ x. fit x r) pm z (f j)) (suc l) (suc r)
+    inner-right : (j : ℕ) → lo ≤ j → j ≤ hi → Best fit pm qm z j (unitAt (λ x. fit x r) pm z (f j)) (suc l) (suc r)
     inner-right j g h =
         let B = A .best j g h in
         combine (omega arith) (omega arith) before-right B (unit-best (f j) r (B .reach .upto))
 
-    module _ (j : ℕ) (g : lo ≤ j) (h : j ≤ z) where
+    -- The entry for j. Where the left end has the letter of j, the inner row has an entry for j + 1.
+    module _ (j : ℕ) (g : lo ≤ j) (h : j ≤ hi) (next : j < z → fit j l ≡ true → suc j ≤ hi) where
       B : Best fit pm qm z j (unitAt (λ x. fit x r) pm z (f j)) (suc l) (suc r)
       B = inner-right j g h
+
+      after : j < z → fit j l ≡ true → Best fit pm qm z (suc j) (f (suc j)) (suc l) r
+      after p t = A .best (suc j) (omega arith) (next p t)
 
       -- A left end whose mate lies past the window.
       blocked : (b : ℕ) → Best fit pm qm z j b (suc l) (suc r) → j < pm j → z ≤ pm j → Best fit pm qm z j b l (suc r)
@@ -78,7 +83,7 @@ module _ {fit : ℕ → ℕ → Bool} {pm qm : ℕ → ℕ} {z : ℕ} where
           go b X (yes p) (yes q) s = free b X (λ t. q)
           go b X (yes p) (no q) (yes s) =
               let i : max b 0 ≡ b = omega arith in
-              rw i (arc-leaves l r lr arc NP NQ rn hM j b (omega arith) s X (A .best (suc j) (omega arith) p) (n₂ p (omega arith) s))
+              rw i (arc-leaves l r lr arc NP NQ rn hM j b (omega arith) s X (λ t v R. n₂ p (omega arith) s t v (after p t .most (pm j) R)))
           go b X (yes p) (no q) (no s) = let i : max b 0 ≡ b = omega arith in rw i (blocked b X (omega arith) (omega arith))
 
       pub arc-best : Best fit pm qm z j (arcAt (λ x. fit x l) (λ x. fit x r) pm z (f j) (f (suc j)) j) l (suc r)
@@ -90,7 +95,7 @@ module _ {fit : ℕ → ℕ → Bool} {pm qm : ℕ → ℕ} {z : ℕ} where
           (λ d.
           let p = ltb-true j z a in
           let q = leb-true (pm j) j d in
-          let X = extend-takes lr (λ t. omega arith) p q b (A .best (suc j) (omega arith) p) in
+          let X = extend-takes lr (λ t. omega arith) p q b (after p b) in
           let i : max (unitAt (λ x. fit x r) pm z (f j)) (f (suc j)) ≡ max (f (suc j)) (unitAt (λ x. fit x r) pm z (f j)) = omega arith in
           rw i (arc-free l r lr arc (λ t. q) X B))
           (λ d. by-test P (ltb (pm j) z)
@@ -99,7 +104,7 @@ module _ {fit : ℕ → ℕ → Bool} {pm qm : ℕ → ℕ} {z : ℕ} where
           (λ w.
           let p = ltb-true j z a in
           arc-lays l r lr arc NP NQ rn hM j (unitAt (λ x. fit x r) pm z (f j)) (leb-false (pm j) j d) (ltb-true (pm j) z e) B
-          (A .best (suc j) (omega arith) p) b t (leb-true (pm j) (f (suc j)) w))
+          (after p b) b t (leb-true (pm j) (f (suc j)) w))
           (λ w. nothing (λ x y v. omega (arith, leb-false (pm j) j d)) (λ p q s x y o. omega (arith, leb-false (pm j) (f (suc j)) w))))
           (λ t. nothing (λ x y v. omega (arith, leb-false (pm j) j d)) (λ p q s x y o. clash t y)))
           (λ e. nothing (λ x y v. omega (arith, leb-false (pm j) j d)) (λ p q s x y o. omega (arith, ltb-false (pm j) z e)))))
@@ -109,34 +114,50 @@ module _ {fit : ℕ → ℕ → Bool} {pm qm : ℕ → ℕ} {z : ℕ} where
           P : ℕ → Type 0
           P k = Best fit pm qm z j (max (unitAt (λ x. fit x r) pm z (f j)) k) l (suc r)
 
--- The rows of a unit, an empty stretch, two stretches side by side, and an arc.
+-- The rows of a unit, an empty stretch, two stretches side by side, and an arc. The starts of a stretch that begins at s go up to the bound there.
 module _ {fit : ℕ → ℕ → Bool} {pm qm : ℕ → ℕ} {lo z : ℕ} where
-  pub empty-row : (s : ℕ) (f : ℕ → ℕ) → ((j : ℕ) → lo ≤ j → j ≤ z → f j ≡ j) → IsRow fit pm qm lo z s s f
-  empty-row s f e = record { best = λ j g h. rw (e j g h) (empty j s h) }
+  pub empty-row : {hi : ℕ} (s : ℕ) (f : ℕ → ℕ) → hi ≤ z → ((j : ℕ) → lo ≤ j → j ≤ hi → f j ≡ j) → IsRow fit pm qm lo hi z s s f
+  empty-row s f hz e = record { best = λ j g h. rw (e j g h) (empty j s (omega arith)) }
 
-  pub unit-row : (u : ℕ) → IsRow fit pm qm lo z u (suc u) (unitAt (λ x. fit x u) pm z)
-  unit-row u = record { best = λ j g h. unit-best j u h }
-
-  pub combine-row : {s i e : ℕ} {f g h : ℕ → ℕ} → s ≤ i → i ≤ e → Split qm s i e → IsRow fit pm qm lo z s i f → IsRow fit pm qm lo z i e g
-      → ((j : ℕ) → lo ≤ j → j ≤ z → h j ≡ g (f j)) → IsRow fit pm qm lo z s e h
-  combine-row {s} {i} {e} {f} {g} {h} hs he S F G q =
-      record {
-        best = λ j a b.
-            let B = F .best j a b in
-            rw (q j a b) (combine hs he S B (G .best (f j) (omega arith) (B .reach .upto)));
-      }
-
-  pub arc-row : {M n l r : ℕ} {f h : ℕ → ℕ} → Nested pm M → z ≤ M → Nested qm n → l < r → r < n → qm l ≡ r → IsRow fit pm qm lo z (suc l) r f
-      → ((j : ℕ) → lo ≤ j → j ≤ z → h j ≡ arcAt (λ x. fit x l) (λ x. fit x r) pm z (f j) (f (suc j)) j) → IsRow fit pm qm lo z l (suc r) h
-  arc-row NP hM NQ lr rn arc A q = record { best = λ j a b. rw (q j a b) (arc-best NP hM NQ lr rn arc A j a b) }
+  pub unit-row : {hi : ℕ} (u : ℕ) → hi ≤ z → IsRow fit pm qm lo hi z u (suc u) (unitAt (λ x. fit x u) pm z)
+  unit-row u hz = record { best = λ j g h. unit-best j u (omega arith) }
 
   -- The entries of a row lie between their index and z.
-  pub row-from : {s e : ℕ} {f : ℕ → ℕ} → IsRow fit pm qm lo z s e f → (j : ℕ) → lo ≤ j → j ≤ z → (j ≤ f j) × (f j ≤ z)
+  pub row-from : {hi s e : ℕ} {f : ℕ → ℕ} → IsRow fit pm qm lo hi z s e f → (j : ℕ) → lo ≤ j → j ≤ hi → (j ≤ f j) × (f j ≤ z)
   row-from F j a b = let B = F .best j a b in (B .reach .from, B .reach .upto)
+
+  -- A row for fewer starts.
+  pub fewer-starts : {hi hi′ s e : ℕ} {f : ℕ → ℕ} → hi′ ≤ hi → IsRow fit pm qm lo hi z s e f → IsRow fit pm qm lo hi′ z s e f
+  fewer-starts h F = record { best = λ j a b. F .best j a (omega arith) }
+
+  -- The entries of a row are starts of the rows behind it.
+  pub row-within : {s e : ℕ} {b f : ℕ → ℕ} → Bounds fit z s e b → s ≤ e → IsRow fit pm qm lo (min z (b s)) z s e f
+      → (j : ℕ) → lo ≤ j → j ≤ min z (b s) → f j ≤ min z (b e)
+  row-within D se F j a h = let B = F .best j a h in omega (arith, B .reach .upto, bounds-end D se (omega arith) (B .reach))
+
+  pub combine-row : {s i e : ℕ} {b f g h : ℕ → ℕ} → s ≤ i → i ≤ e → Split qm s i e → Bounds fit z s i b → IsRow fit pm qm lo (min z (b s)) z s i f
+      → IsRow fit pm qm lo (min z (b i)) z i e g → ((j : ℕ) → lo ≤ j → j ≤ min z (b s) → h j ≡ g (f j)) → IsRow fit pm qm lo (min z (b s)) z s e h
+  combine-row {s} {i} {e} {b} {f} {g} {h} hs he S D F G q =
+      record {
+        best = λ j a x.
+            let B = F .best j a x in
+            rw (q j a x) (combine hs he S B (G .best (f j) (omega (arith, B .reach .from)) (row-within D hs F j a x)));
+      }
+
+  pub arc-row : {M n l r : ℕ} {b f h : ℕ → ℕ} → Nested pm M → z ≤ M → Nested qm n → l < r → r < n → qm l ≡ r → Bounds fit z l r b
+      → IsRow fit pm qm lo (min z (b (suc l))) z (suc l) r f
+      → ((j : ℕ) → lo ≤ j → j ≤ min z (b l) → h j ≡ arcAt (λ x. fit x l) (λ x. fit x r) pm z (f j) (f (suc j)) j)
+      → IsRow fit pm qm lo (min z (b l)) z l (suc r) h
+  arc-row {M} {n} {l} {r} {b} NP hM NQ lr rn arc D A q =
+      record {
+        best = λ j a x. rw (q j a x)
+            (arc-best NP hM NQ lr rn arc A j a (omega (arith, D .rise l (omega arith) lr))
+            (λ p t. omega (arith, D .step l j (omega arith) lr p (omega arith) t)));
+      }
 
 -- A row serves a narrower window P[lo′..z′), if that is closed: no entry goes past it.
 pub narrow-row : {fit : ℕ → ℕ → Bool} {pm qm : ℕ → ℕ} {lo z lo′ z′ s e : ℕ} {f h : ℕ → ℕ} → lo ≤ lo′ → z′ ≤ z → Closed pm lo′ z′
-    → IsRow fit pm qm lo z s e f → ((j : ℕ) → lo′ ≤ j → j ≤ z′ → h j ≡ min (f j) z′) → IsRow fit pm qm lo′ z′ s e h
+    → IsRow fit pm qm lo z z s e f → ((j : ℕ) → lo′ ≤ j → j ≤ z′ → h j ≡ min (f j) z′) → IsRow fit pm qm lo′ z′ z′ s e h
 narrow-row {fit} {pm} {qm} {lo} {z} {lo′} {z′} {s} {e} {f} {h} la zb C F q = record {
   best = λ j a b. rw (q j a b)
       (best j a b (F .best j (omega arith) (omega arith)));

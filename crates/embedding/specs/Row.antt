@@ -1,7 +1,8 @@
--- Only the laws of Bille and Gørtz (proofs/Window, Recurrence, Entries, Arc, Rows and Computed of this crate) and the contracts and laws of rows, arcs,
--- placing, trace and matcher need this file: reached ends, the largest of them, and rows of such ends.
+-- Only the laws of Bille and Gørtz (proofs/Window, Recurrence, Entries, Arc, Bounds, Rows and Computed of this crate) and the contracts and laws of rows,
+-- arcs, placing, trace and matcher need this file: reached ends, the largest of them, rows of such ends, and bounds of the starts.
 use Prim.Native.Nat.{ℕ, suc, _≤_, _<_, max}
-use mathlib.Core.Bool.{Bool}
+use mathlib.Core.Path.{_≡_}
+use mathlib.Core.Bool.{Bool, true}
 use lib.Dec.{ltb, leb}
 use Rattle.lists.specs.Vocabulary.{choose}
 use Rattle.embedding.specs.Embedding.{Embeds}
@@ -26,9 +27,15 @@ pub record Best (fit : ℕ → ℕ → Bool) (pm qm : ℕ → ℕ) (m j k s e : 
   pub reach : Reach fit pm qm m j k s e
   pub most : (k′ : ℕ) → Reach fit pm qm m j k′ s e → k′ ≤ k
 
--- The row (003: the Γ sequence) of Q[s..e) for the starts from lo to z in the window P[lo..z).
-pub record IsRow (fit : ℕ → ℕ → Bool) (pm qm : ℕ → ℕ) (lo z s e : ℕ) (row : ℕ → ℕ) : Type 0 where
-  pub best : (j : ℕ) → lo ≤ j → j ≤ z → Best fit pm qm z j (row j) s e
+-- The row (003: the Γ sequence) of Q[s..e) for the starts from lo to hi, where P ends at z.
+pub record IsRow (fit : ℕ → ℕ → Bool) (pm qm : ℕ → ℕ) (lo hi z s e : ℕ) (row : ℕ → ℕ) : Type 0 where
+  pub best : (j : ℕ) → lo ≤ j → j ≤ hi → Best fit pm qm z j (row j) s e
+
+-- Bounds of the starts in Q[s..e), where P ends at z, letter by letter and whatever the bonds: what has taken no more than b i positions of P before base i
+-- has taken no more than b (i + 1) after it. A row of a stretch that begins at i is wanted for the starts up to b i alone.
+pub record Bounds (fit : ℕ → ℕ → Bool) (z s e : ℕ) (b : ℕ → ℕ) : Type 0 where
+  pub rise : (i : ℕ) → s ≤ i → i < e → b i ≤ b (suc i)
+  pub step : (i j : ℕ) → s ≤ i → i < e → j < z → j ≤ b i → fit j i ≡ true → j < b (suc i)
 
 -- The row of one unbonded base: it takes position k if k is no left end and `has` its letter.
 unfoldable pub unitAt : (ℕ → Bool) → (ℕ → ℕ) → ℕ → ℕ → ℕ

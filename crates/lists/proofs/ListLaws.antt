@@ -238,6 +238,19 @@ select-short p (suc n) = go (p n) (select-short p n)
     go true i = omega (arith, length-append (select n p) (n ∷ []))
     go false i = rw append-nil (omega arith)
 
+-- One number more.
+pub select-none : (p : ℕ → Bool) → select 0 p ≡ []
+unfolding select
+select-none p = refl
+
+pub select-yes : (p : ℕ → Bool) (n : ℕ) → p n ≡ true → select (n + 1) p ≡ select n p ++ (n ∷ [])
+unfolding select choose
+select-yes p n h = rw (add-one, h)
+
+pub select-no : (p : ℕ → Bool) (n : ℕ) → p n ≡ false → select (n + 1) p ≡ select n p
+unfolding select choose
+select-no p n h = rw (add-one, h) (append-nil (select n p))
+
 -- ---- sums
 
 module _ (s : List ℕ) (i : ℕ) where

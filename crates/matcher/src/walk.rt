@@ -1,19 +1,65 @@
 // The walk over the top of the molecule, from left to right: how far the motif is taken.
+use arcs::bounds;
 use rows::row;
 use rows::tables;
 ghost use mathlib.Core.Path.{_≡_};
-ghost use Prim.Native.Nat.{_+_, _*_, _≤_, _<_};
+ghost use Prim.Native.Nat.{ℕ, _+_, _*_, _≤_, _<_};
 ghost use lib.ListN.{length};
 ghost use Rattle.lists.specs.Vocabulary.{nth};
-ghost use Rattle.strand.specs.Strands.{lettersMatch, Proper, leastMotif, leastMolecule, greatestLength};
+ghost use Rattle.strand.specs.Strands.{lettersMatch, strandOf, Nested, Proper, leastMotif, leastMolecule, greatestLength};
 ghost use Rattle.refusals.specs.Rules.{motifSide, moleculeSide, workSize};
 ghost use Rattle.embedding.specs.Row.{Best};
 ghost use Rattle.embedding.specs.Embedding.{lettersFit};
-ghost use Rattle.embedding.specs.Longest.{longest};
-ghost use Rattle.rows.specs.Rows.{Tables};
-ghost use Rattle.arcs.specs.Arcs.{Setting};
+ghost use Rattle.embedding.specs.Longest.{longest, embeds as embedsIn};
+ghost use Rattle.rows.specs.Rows.{Tables, boundAt};
+ghost use Rattle.arcs.specs.Arcs.{Setting, Bounded};
+ghost use Rattle.placing.specs.Placing.{Walked};
+ghost use Rattle.matcher.specs.Walk.{TablesFor};
 
-// How far the arc l, r takes the motif from `from` on. An arc takes no more positions than it has bases: its row is made for that window alone.
+// The numbers of the tables of a motif of 120 bases with the bounds of a molecule of 160, the longest that a query has.
+pub const QUERY_TABLES: usize = tables::SHORT_SIZE;
+
+// Makes the tables of the motif, once for all molecules that it is searched in.
+pub fn prepare(p: &[u8], pm: &[u16], tables: &mut [u16])
+    requires { ⌜ (length (now pm) ≡ length (now p)) × (length (now p) ≤ 4096) ⌝ }
+    requires { ⌜ Nested (nth (now pm)) (length (now p)) ⌝ }
+    requires { ⌜ 5 * (length (now p) + 1) ≤ length (now tables) ⌝ }
+    ensures { λ _. ⌜ ((n : ℕ) → 5 * (length (now (p .entry)) + 1) + n < length (now (tables .entry))
+        → TablesFor (now (p .entry)) (now (pm .entry)) n (now (tables .exit))) ⌝ }
+{
+    tables::fill(p, pm, tables);
+}
+
+// Where a walk has come to: the next base of the molecule, and how far what lies before it takes the motif.
+pub struct Place {
+    pub base: usize,
+    pub from: usize,
+}
+
+// The walk up to the first arc, or to the end of the motif or the molecule: it needs no tables.
+fn first_arc(p: &[u8], pm: &[u16], q: &[u8], qm: &[u16]) -> Place
+    requires { ⌜ Setting (now p) (now pm) (now q) (now qm) 0 (length (now p)) ⌝ }
+    ensures { λ a. ⌜ Walked (now (p .entry)) (now (pm .entry)) (now (q .entry)) (now (qm .entry)) (length (now (p .entry))) 0 0 (length (now (q .entry)))
+        (a .from) (a .base) ⌝ }
+{
+    let m = p.len();
+    let mut from = 0;
+    let mut l = 0;
+    while l < q.len() {
+        if m <= from {
+            return Place { base: l, from };
+        }
+        let r = arcs::mate(qm, l);
+        if l < r {
+            return Place { base: l, from };
+        }
+        from = row::unit(p, pm, from, m, q[l]);
+        l = r + 1;
+    }
+    Place { base: l, from }
+}
+
+// How far the arc l, r takes the motif from `from` on; `most` is the bound behind the arc.
 fn arc_end(
     p: &[u8],
     pm: &[u16],
@@ -21,6 +67,7 @@ fn arc_end(
     q: &[u8],
     qm: &[u16],
     from: usize,
+    most: usize,
     l: usize,
     r: usize,
     work: &mut [u16],
@@ -30,30 +77,46 @@ fn arc_end(
     requires { ⌜ (l < r) × ((r < length (now q)) × (nth (now qm) l ≡ r)) ⌝ }
     requires { ⌜ workSize (length (now p)) (length (now q)) ≤ length (now work) ⌝ }
     requires { ⌜ Tables (now p) (now pm) (now tables) ⌝ }
-    ensures { λ k. ⌜ Best (lettersFit (now (p .entry)) (now (q .entry))) (nth (now (pm .entry))) (nth (now (qm .entry))) (length (now (p .entry))) from k l (r + 1) ⌝ }
+    requires { ⌜ Bounded (now p) (now q) (now tables) from (length (now p)) l (r + 1) × (most ≡ boundAt (length (now p)) (now tables) (r + 1)) ⌝ }
+    ensures { λ k. ⌜ Best (lettersFit (now (p .entry)) (now (q .entry))) (nth (now (pm .entry))) (nth (now (qm .entry))) (length (now (p .entry))) from k
+        l (r + 1) ⌝ }
 {
-    let to = arcs::smaller(p.len(), from + (r + 1 - l));
-    arcs::inner_row(p, pm, tables, q, qm, from, to, l, r, q.len(), work);
-    row::arc_entry(p, pm, from, to, q[l], q[r], work[from], work[from + 1]) as usize
+    if most <= from {
+        return from;
+    }
+    let m = p.len();
+    arcs::inner_row(p, pm, tables, q, qm, from, m, l, r, q.len(), work);
+    row::arc_entry(p, pm, from, m, q[l], q[r], work[from], work[from + 1]) as usize
 }
 
-// How far the whole motif is taken by the whole molecule.
-fn whole_end(p: &[u8], pm: &[u16], tables: &[u16], q: &[u8], qm: &[u16], work: &mut [u16]) -> usize
+// How far the whole motif is taken by the whole molecule, where the walk has come to base `base` with `start`.
+fn whole_end(
+    p: &[u8],
+    pm: &[u16],
+    tables: &mut [u16],
+    q: &[u8],
+    qm: &[u16],
+    start: usize,
+    base: usize,
+    work: &mut [u16],
+) -> usize
     requires { ⌜ Setting (now p) (now pm) (now q) (now qm) 0 (length (now p)) ⌝ }
+    requires { ⌜ Walked (now p) (now pm) (now q) (now qm) (length (now p)) 0 0 (length (now q)) start base ⌝ }
     requires { ⌜ workSize (length (now p)) (length (now q)) ≤ length (now work) ⌝ }
-    requires { ⌜ Tables (now p) (now pm) (now tables) ⌝ }
+    requires { ⌜ TablesFor (now p) (now pm) (length (now q)) (now tables) ⌝ }
     ensures { λ k. ⌜ k ≡ longest lettersMatch (now (p .entry)) (now (pm .entry)) (now (q .entry)) (now (qm .entry)) ⌝ }
 {
     let m = p.len();
-    let mut from = 0;
-    let mut l = 0;
+    let mut from = start;
+    let mut l = base;
     while l < q.len() {
         if m <= from {
             return from;
         }
         let r = arcs::mate(qm, l);
         if l < r {
-            from = arc_end(p, pm, tables, q, qm, from, l, r, work);
+            let most = bounds::fill(p, q, from, l, r + 1, tables);
+            from = arc_end(p, pm, tables, q, qm, from, most, l, r, work);
         } else {
             from = row::unit(p, pm, from, m, q[l]);
         }
@@ -62,48 +125,129 @@ fn whole_end(p: &[u8], pm: &[u16], tables: &[u16], q: &[u8], qm: &[u16], work: &
     from
 }
 
-// As `prefix_length`, with borrowed room for the tables of the motif.
-fn prefix_length_lent(
+// Whether the whole motif is taken by the whole molecule, with tables of the motif that were filled before. The walk stops where the rest of the molecule
+// cannot take the rest of the motif: it has fewer bases, or the bound behind an arc says so.
+pub fn embeds(
+    p: &[u8],
+    pm: &[u16],
+    tables: &mut [u16],
+    q: &[u8],
+    qm: &[u16],
+    work: &mut [u16],
+) -> bool
+    requires { ⌜ Proper motifSide leastMotif greatestLength (now p) (now pm) ⌝ }
+    requires { ⌜ Proper moleculeSide leastMolecule greatestLength (now q) (now qm) ⌝ }
+    requires { ⌜ workSize (length (now p)) (length (now q)) ≤ length (now work) ⌝ }
+    requires { ⌜ TablesFor (now p) (now pm) (length (now q)) (now tables) ⌝ }
+    ensures { λ r. ⌜ r ≡ embedsIn (strandOf (now (p .entry)) (now (pm .entry))) (strandOf (now (q .entry)) (now (qm .entry))) ⌝ }
+    ensures { λ _. ⌜ TablesFor (now (p .entry)) (now (pm .entry)) (length (now (q .entry))) (now (tables .exit)) ⌝ }
+{
+    let m = p.len();
+    let mut from = 0;
+    let mut l = 0;
+    while l < q.len() {
+        if m <= from {
+            return true;
+        }
+        if q.len() - l < m - from {
+            return false;
+        }
+        let r = arcs::mate(qm, l);
+        if l < r {
+            let most = bounds::fill(p, q, from, l, r + 1, tables);
+            if most + (q.len() - (r + 1)) < m {
+                return false;
+            }
+            from = arc_end(p, pm, tables, q, qm, from, most, l, r, work);
+        } else {
+            from = row::unit(p, pm, from, m, q[l]);
+        }
+        l = r + 1;
+    }
+    m <= from
+}
+
+// The rest of `prefix_length`, from the first arc on, with borrowed room for the tables.
+fn rest_lent(
     p: &[u8],
     pm: &[u16],
     q: &[u8],
     qm: &[u16],
+    start: usize,
+    base: usize,
     work: &mut [u16],
     tables: &mut [u16],
 ) -> usize
     requires { ⌜ Setting (now p) (now pm) (now q) (now qm) 0 (length (now p)) ⌝ }
+    requires { ⌜ Walked (now p) (now pm) (now q) (now qm) (length (now p)) 0 0 (length (now q)) start base ⌝ }
     requires { ⌜ workSize (length (now p)) (length (now q)) ≤ length (now work) ⌝ }
-    requires { ⌜ 5 * (length (now p) + 1) ≤ length (now tables) ⌝ }
+    requires { ⌜ 5 * (length (now p) + 1) + length (now q) < length (now tables) ⌝ }
     ensures { λ k. ⌜ k ≡ longest lettersMatch (now (p .entry)) (now (pm .entry)) (now (q .entry)) (now (qm .entry)) ⌝ }
 {
-    tables::fill(p, pm, tables);
-    whole_end(p, pm, tables, q, qm, work)
+    prepare(p, pm, tables);
+    whole_end(p, pm, tables, q, qm, start, base, work)
 }
 
-// As `prefix_length`, for a motif of a query: its tables take little room.
-fn prefix_length_short(p: &[u8], pm: &[u16], q: &[u8], qm: &[u16], work: &mut [u16]) -> usize
+// The same for short strands: their tables take little room.
+fn rest_short(
+    p: &[u8],
+    pm: &[u16],
+    q: &[u8],
+    qm: &[u16],
+    start: usize,
+    base: usize,
+    work: &mut [u16],
+) -> usize
     requires { ⌜ Setting (now p) (now pm) (now q) (now qm) 0 (length (now p)) ⌝ }
+    requires { ⌜ Walked (now p) (now pm) (now q) (now qm) (length (now p)) 0 0 (length (now q)) start base ⌝ }
     requires { ⌜ workSize (length (now p)) (length (now q)) ≤ length (now work) ⌝ }
-    requires { ⌜ length (now p) ≤ 120 ⌝ }
+    requires { ⌜ (length (now p) ≤ 120) × (length (now q) ≤ 160) ⌝ }
     ensures { λ k. ⌜ k ≡ longest lettersMatch (now (p .entry)) (now (pm .entry)) (now (q .entry)) (now (qm .entry)) ⌝ }
 {
-    // five rows of 121 entries
-    let mut tables = [0u16; 605];
-    prefix_length_lent(p, pm, q, qm, work, &mut tables)
+    let mut tables = [0u16; tables::SHORT_SIZE];
+    rest_lent(p, pm, q, qm, start, base, work, &mut tables)
+}
+
+// The same for any strands.
+fn rest_long(
+    p: &[u8],
+    pm: &[u16],
+    q: &[u8],
+    qm: &[u16],
+    start: usize,
+    base: usize,
+    work: &mut [u16],
+) -> usize
+    requires { ⌜ Setting (now p) (now pm) (now q) (now qm) 0 (length (now p)) ⌝ }
+    requires { ⌜ Walked (now p) (now pm) (now q) (now qm) (length (now p)) 0 0 (length (now q)) start base ⌝ }
+    requires { ⌜ workSize (length (now p)) (length (now q)) ≤ length (now work) ⌝ }
+    ensures { λ k. ⌜ k ≡ longest lettersMatch (now (p .entry)) (now (pm .entry)) (now (q .entry)) (now (qm .entry)) ⌝ }
+{
+    let mut tables = [0u16; tables::LONG_SIZE];
+    rest_lent(p, pm, q, qm, start, base, work, &mut tables)
 }
 
 // The length of the longest closed prefix of the motif that embeds in the molecule. It asks for what the rules of the direct calls accept: the call
-// length checks both strands before, and a query finds every catalog block sound before it searches one.
+// length checks both strands before. Where the molecule has no arc, no tables are made.
 pub fn prefix_length(p: &[u8], pm: &[u16], q: &[u8], qm: &[u16], work: &mut [u16]) -> usize
     requires { ⌜ Proper motifSide leastMotif greatestLength (now p) (now pm) ⌝ }
     requires { ⌜ Proper moleculeSide leastMolecule greatestLength (now q) (now qm) ⌝ }
     requires { ⌜ workSize (length (now p)) (length (now q)) ≤ length (now work) ⌝ }
     ensures { λ k. ⌜ k ≡ longest lettersMatch (now (p .entry)) (now (pm .entry)) (now (q .entry)) (now (qm .entry)) ⌝ }
 {
-    if p.len() <= 120 {
-        return prefix_length_short(p, pm, q, qm, work);
+    let at = first_arc(p, pm, q, qm);
+    let from = at.from;
+    let base = at.base;
+    if q.len() <= base {
+        return from;
     }
-    // five rows of 4,097 entries
-    let mut tables = [0u16; 20485];
-    prefix_length_lent(p, pm, q, qm, work, &mut tables)
+    if p.len() <= from {
+        return from;
+    }
+    if p.len() <= tables::SHORT_MOTIF {
+        if q.len() <= tables::SHORT_MOLECULE {
+            return rest_short(p, pm, q, qm, from, base, work);
+        }
+    }
+    rest_long(p, pm, q, qm, from, base, work)
 }

@@ -157,7 +157,7 @@ and-bit a b k =
 not-test : ℕ → ℕ → Bool
 not-test k b = same (bitOf (255 - b) k) (not (bitOf b k))
 
-not-bit : (b k : ℕ) → b < 256 → k < 8 → bitOf (255 - b) k ≡ not (bitOf b k)
+pub not-bit : (b k : ℕ) → b < 256 → k < 8 → bitOf (255 - b) k ≡ not (bitOf b k)
 unfolding not-test
 not-bit b k hb hk = same→eq _ _ (below₂-at not-test 8 256 (unfold not-test bitOf in tt) k b hk hb)
 

@@ -135,17 +135,17 @@ module _ {p pm q qm : List ℕ} where
 
   -- What an arc takes, from its inner row for all of the window.
   pub taken-window : {j to s r : ℕ} {row : ℕ → ℕ} (t : ArcTake) → Setting p pm q qm j to → j < to → s < r → r < length q → nth qm s ≡ r
-      → IsRow (lettersFit p q) (nth pm) (nth qm) j to (s + 1) r row
+      → IsRow (lettersFit p q) (nth pm) (nth qm) j to to (s + 1) r row
       → Takes (matches p (nth q s)) (matches p (nth q r)) (nth pm) j to (row j) (row (j + 1)) t → Taken p pm q qm j to s r t
   taken-window {j} {to} {s} {r} {row} t S jt sr rn arc A T =
-      let A′ : IsRow (lettersFit p q) (nth pm) (nth qm) j to (suc s) r row = rw (← (add-one s)) A in
+      let A′ : IsRow (lettersFit p q) (nth pm) (nth qm) j to to (suc s) r row = rw (← (add-one s)) A in
       taken to s r S jt (omega arith) sr rn arc A
-      (rw (add-one r, add-one j) (arc-best (S .motif) (S .window .ends) (S .molecule) sr rn arc A′ j (omega arith) (omega arith))) t T
+      (rw (add-one r, add-one j) (arc-best (S .motif) (S .window .ends) (S .molecule) sr rn arc A′ j (omega arith) (omega arith) (λ a t. a))) t T
 
   -- The same, from its inner row for a window that is as long as the arc.
   pub taken-at : {j to : ℕ} {row : ℕ → ℕ} (z s r : ℕ) (t : ArcTake) → Setting p pm q qm j to → j < to → z ≡ min to (j + (r + 1 - s)) → s < r → r < length q
       → nth qm s ≡ r
-      → IsRow (lettersFit p q) (nth pm) (nth qm) j z (s + 1) r row
+      → IsRow (lettersFit p q) (nth pm) (nth qm) j z z (s + 1) r row
       → Takes (matches p (nth q s)) (matches p (nth q r)) (nth pm) j z (row j) (row (j + 1)) t → Taken p pm q qm j to s r t
   taken-at z s r t S jt e sr rn arc A T =
       taken z s r S (window-low z s r S jt e sr rn arc) (window-high z s r S jt e sr rn arc) sr rn arc A (window-best z s r S jt e sr rn arc A) t T
@@ -155,7 +155,7 @@ module _ {fit : ℕ → ℕ → Bool} {f g : ℕ → ℕ} where
   all-taken : {t j k s e : ℕ} → Best fit f g t j k s e → Reach fit f g t j t s e → k ≡ t
   all-taken {t} B R = omega (arith, B .most t R, B .reach .upto)
 
-  row-same : {lo z s e : ℕ} {x y : ℕ → ℕ} → ((j : ℕ) → lo ≤ j → j ≤ z → y j ≡ x j) → IsRow fit f g lo z s e x → IsRow fit f g lo z s e y
+  row-same : {lo hi z s e : ℕ} {x y : ℕ → ℕ} → ((j : ℕ) → lo ≤ j → j ≤ hi → y j ≡ x j) → IsRow fit f g lo hi z s e x → IsRow fit f g lo hi z s e y
   row-same h A = record { best = λ j a b. rw (h j a b) (A .best j a b) }
 
 -- The kept row.
@@ -201,7 +201,7 @@ module _ {p pm q qm : List ℕ} where
 
   -- What the walk over the tree leaves in the part past the first row.
   pub ready : {j t s r : ℕ} {old mid : List ℕ} {f : ℕ → ℕ} (ys : List ℕ) → length p + 1 ≤ length mid
-      → Written f old mid (length p + 1 + j) (length p + 1 + t + 1) → IsRow (lettersFit p q) (nth pm) (nth qm) j t (s + 1) r (nth ys)
+      → Written f old mid (length p + 1 + j) (length p + 1 + t + 1) → IsRow (lettersFit p q) (nth pm) (nth qm) j t t (s + 1) r (nth ys)
       → SecondRow p pm q qm j t s r old (back (length p + 1) mid ys)
   ready {j} {t} {s} {r} {old} {mid} ys le W A =
       record {

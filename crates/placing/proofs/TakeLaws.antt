@@ -85,7 +85,7 @@ module _ {fit : ℕ → ℕ → Bool} {f g : ℕ → ℕ} where
 
 -- What an arc takes, from its inner row for a narrower window that the arc does not fill, or for all of the window.
 module _ {p pm q qm : List ℕ} {j to : ℕ} (z l r : ℕ) (S : Setting p pm q qm j to) (jz : j < z) (zt : z ≤ to)
-    (lr : l < r) (rn : r < length q) (arc : nth qm l ≡ r) {row : ℕ → ℕ} (A : IsRow (lettersFit p q) (nth pm) (nth qm) j z (l + 1) r row)
+    (lr : l < r) (rn : r < length q) (arc : nth qm l ≡ r) {row : ℕ → ℕ} (A : IsRow (lettersFit p q) (nth pm) (nth qm) j z z (l + 1) r row)
     (best : Best (lettersFit p q) (nth pm) (nth qm) to j (arcAt (matches p (nth q l)) (matches p (nth q r)) (nth pm) z (row j) (row (j + 1)) j) l (r + 1)) where
   here : (j ≤ row j) × (row j ≤ z)
   here = row-from A j (omega arith) (omega (arith, jz))
@@ -95,7 +95,7 @@ module _ {p pm q qm : List ℕ} {j to : ℕ} (z l r : ℕ) (S : Setting p pm q q
 
   split-right : Split (nth qm) (l + 1) r (r + 1)
   split-right u a b d =
-      let A′ : IsRow (lettersFit p q) (nth pm) (nth qm) j z (suc l) r row = rw (← (add-one l)) A in
+      let A′ : IsRow (lettersFit p q) (nth pm) (nth qm) j z z (suc l) r row = rw (← (add-one l)) A in
       omega (arith, before-right {z = z} (S .motif) (omega (arith, zt, S .window .ends)) (S .molecule) lr rn arc A′ u (omega arith) b d)
 
   taken-inside : overAt (matches p (nth q l)) (matches p (nth q r)) (nth pm) z (row (j + 1)) j ≤ unitAt (matches p (nth q r)) (nth pm) z (row j)

@@ -16,6 +16,7 @@ use Rattle.embedding.proofs.Rows.{unit-best, arc-best}
 use Rattle.rows.specs.Rows.{matches}
 use Rattle.arcs.specs.Arcs.{Setting, Sealed}
 use Rattle.arcs.proofs.Arcs.{seal-on}
+use Rattle.placing.specs.Placing.{Walked}
 
 -- A window within a window.
 pub narrow : {p pm q qm : List ℕ} {from to : ℕ} (a z : ℕ) → Setting p pm q qm from to → a ≤ z → z ≤ length p → Setting p pm q qm a z
@@ -64,8 +65,8 @@ module _ {p pm q qm : List ℕ} {j to : ℕ} (z l r : ℕ) (S : Setting p pm q q
   pub window-of : Setting p pm q qm j z
   window-of = narrow j z S (omega (arith, window-low)) (omega (arith, window-high, S .window .ends))
 
-  module _ {row : ℕ → ℕ} (A : IsRow (lettersFit p q) (nth pm) (nth qm) j z (l + 1) r row) where
-    inner : IsRow (lettersFit p q) (nth pm) (nth qm) j z (suc l) r row
+  module _ {row : ℕ → ℕ} (A : IsRow (lettersFit p q) (nth pm) (nth qm) j z z (l + 1) r row) where
+    inner : IsRow (lettersFit p q) (nth pm) (nth qm) j z z (suc l) r row
     inner = rw (← (add-one l)) A
 
     pub window-best : Best (lettersFit p q) (nth pm) (nth qm) to j (arcAt (matches p (nth q l)) (matches p (nth q r)) (nth pm) z (row j) (row (j + 1)) j) l
@@ -73,14 +74,8 @@ module _ {p pm q qm : List ℕ} {j to : ℕ} (z l r : ℕ) (S : Setting p pm q q
     window-best =
         rw (add-one r, add-one j)
         (widen window-high (λ h. omega arith)
-        (arc-best (S .motif) (omega (arith, window-high, S .window .ends)) (S .molecule) lr rn arc inner j (omega arith) (omega (arith, window-low))))
-
--- The walk's place: i is the next base.
-pub record Walked (p pm q qm : List ℕ) (to from lo hi j i : ℕ) : Type 0 where
-  pub low : lo ≤ i
-  pub high : i ≤ hi
-  pub seal : Sealed qm lo i
-  pub best : Best (lettersFit p q) (nth pm) (nth qm) to from j lo i
+        (arc-best (S .motif) (omega (arith, window-high, S .window .ends)) (S .molecule) lr rn arc inner j (omega arith) (omega (arith, window-low))
+        (λ a t. a)))
 
 module _ {p pm q qm : List ℕ} {to from lo hi : ℕ} where
   pub walked-none : from ≤ to → lo ≤ hi → Walked p pm q qm to from lo hi from lo

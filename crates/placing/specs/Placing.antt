@@ -8,9 +8,15 @@ use lib.ListN.{length}
 use Rattle.lists.specs.Vocabulary.{nth}
 use Rattle.embedding.specs.Embedding.{Emb, lettersFit}
 use Rattle.embedding.specs.Row.{Closed, Reach, Best, IsRow, unitAt, overAt}
-use Rattle.rows.specs.Rows.{Tables}
-use Rattle.arcs.specs.Arcs.{Setting, Sealed, Heavy, KeptRow}
+use Rattle.arcs.specs.Arcs.{Setting, Sealed, Heavy, KeptRow, AllStarts}
 use Rattle.placing.specs.declared.take.ArcTake.{ArcTake}
+
+-- The walk over the top of Q[lo..hi) is at base i, and no arc leaves what lies before: that takes P[from..to) to j and no further.
+pub record Walked (p pm q qm : List ℕ) (to from lo hi j i : ℕ) : Type 0 where
+  pub low : lo ≤ i
+  pub high : i ≤ hi
+  pub seal : Sealed qm lo i
+  pub best : Best (lettersFit p q) (nth pm) (nth qm) to from j lo i
 
 -- What an arc can take of the window P[from..to): an arc of P upon it; a position with its left end; or nothing with its left end, and one with its right end
 -- where that is taken.
@@ -68,7 +74,7 @@ pub record KeptAround (p pm q qm : List ℕ) (from to kept : ℕ) (work : List �
 -- Past the first row of the work slice, which is as before, is the row inside the arc (l, r) for the window P[from..to).
 pub record SecondRow (p pm q qm : List ℕ) (from to l r : ℕ) (old new : List ℕ) : Type 0 where
   pub under : (k : ℕ) → k < length p + 1 → nth new k ≡ nth old k
-  pub row : IsRow (lettersFit p q) (nth pm) (nth qm) from to (l + 1) r (λ k. nth new (length p + 1 + k))
+  pub row : IsRow (lettersFit p q) (nth pm) (nth qm) from to to (l + 1) r (λ k. nth new (length p + 1 + k))
 
 -- The arc from `kept` is that from l, or a longest arc in a longest arc .. inside it.
 pub data Below (qm : List ℕ) (kept : ℕ) : ℕ → Type 0 where
@@ -137,7 +143,7 @@ pub record AtArc (p pm q qm : List ℕ) (from to l r kept places : ℕ) (work ta
   pub kept-row : KeptAround p pm q qm from to kept work
   pub room : to ≤ places
   pub levels : Levels (length p + 1) (r - (l + 1)) (r - (l + 1) - (nth qm kept - kept)) (length work)
-  pub tables-of : Tables p pm tables
+  pub tables-of : AllStarts p pm (length q) tables
 
 -- What the walk asks that places P[from..to) in Q[l..hi), where an arc begins at l and the kept arc, if there is one, is that arc or in it.
 pub record FromArc (p pm q qm : List ℕ) (from to l hi kept places : ℕ) (work tables : List ℕ) : Type 0 where
@@ -149,4 +155,4 @@ pub record FromArc (p pm q qm : List ℕ) (from to l hi kept places : ℕ) (work
   pub kept-row : KeptAround p pm q qm from to kept work
   pub room : to ≤ places
   pub levels : Levels (length p + 1) (hi - l) (hi - l - (nth qm kept - kept)) (length work)
-  pub tables-of : Tables p pm tables
+  pub tables-of : AllStarts p pm (length q) tables

@@ -6,8 +6,7 @@ ghost use lib.ListN.{length};
 ghost use Rattle.lists.specs.Vocabulary.{nth};
 ghost use Rattle.strand.specs.Strands.{Nested};
 ghost use Rattle.embedding.specs.Row.{Closed};
-ghost use Rattle.rows.specs.Rows.{Tables};
-ghost use Rattle.arcs.specs.Arcs.{Setting};
+ghost use Rattle.arcs.specs.Arcs.{Setting, AllStarts};
 ghost use Rattle.placing.specs.Placing.{KeptAround, SecondRow, Lower, Between};
 
 // The span from..to of the motif.
@@ -92,7 +91,7 @@ pub fn keep(
     requires { ⌜ (l < r) × ((r < length (now q)) × (nth (now qm) l ≡ r)) ⌝ }
     requires { ⌜ KeptAround (now p) (now pm) (now q) (now qm) from to kept (now work) ⌝ }
     requires { ⌜ 24 * (length (now p) + 1) ≤ length (now work) ⌝ }
-    requires { ⌜ Tables (now p) (now pm) (now tables) ⌝ }
+    requires { ⌜ AllStarts (now p) (now pm) (length (now q)) (now tables) ⌝ }
     ensures { λ _. ⌜ SecondRow (now (p .entry)) (now (pm .entry)) (now (q .entry)) (now (qm .entry)) from to l r (now (work .entry)) (now (work .exit)) ⌝ }
 {
     let w = p.len() + 1;

@@ -7,7 +7,7 @@ ghost use lib.ListN.{length};
 ghost use Rattle.lists.specs.Vocabulary.{nth};
 ghost use Rattle.embedding.specs.Row.{Closed, unitAt};
 ghost use Rattle.rows.specs.Rows.{Tables, matches};
-ghost use Rattle.arcs.specs.Arcs.{Setting};
+ghost use Rattle.arcs.specs.Arcs.{Setting, AllStarts};
 ghost use Rattle.placing.specs.Placing.{Takes, Taken, PlacePut, Ended, KeptAround};
 
 // What an arc l, r takes of a window of the motif: the span from..to goes inside it, the position before it to l if that is one of the window, the one
@@ -106,7 +106,7 @@ pub fn take_at(
     requires { ⌜ (from < to) × (to ≤ length (now places)) ⌝ }
     requires { ⌜ (l < r) × ((r < length (now q)) × (nth (now qm) l ≡ r)) ⌝ }
     requires { ⌜ 23 * (length (now p) + 1) ≤ length (now work) ⌝ }
-    requires { ⌜ Tables (now p) (now pm) (now tables) ⌝ }
+    requires { ⌜ AllStarts (now p) (now pm) (length (now q)) (now tables) ⌝ }
     ensures { λ t. ⌜ Taken (now (p .entry)) (now (pm .entry)) (now (q .entry)) (now (qm .entry)) from to l r t ⌝ }
     ensures { λ t. ⌜ Ended from l r t (now (places .entry)) (now (places .exit)) ⌝ }
 {
@@ -148,7 +148,7 @@ pub fn take_kept(
     requires { ⌜ (l < r) × ((r < length (now q)) × (nth (now qm) l ≡ r)) ⌝ }
     requires { ⌜ KeptAround (now p) (now pm) (now q) (now qm) from to kept (now work) ⌝ }
     requires { ⌜ 24 * (length (now p) + 1) ≤ length (now work) ⌝ }
-    requires { ⌜ Tables (now p) (now pm) (now tables) ⌝ }
+    requires { ⌜ AllStarts (now p) (now pm) (length (now q)) (now tables) ⌝ }
     ensures { λ t. ⌜ Taken (now (p .entry)) (now (pm .entry)) (now (q .entry)) (now (qm .entry)) from to l r t ⌝ }
     ensures { λ t. ⌜ Ended from l r t (now (places .entry)) (now (places .exit)) ⌝ }
     ensures { λ t. ⌜ KeptAround (now (p .entry)) (now (pm .entry)) (now (q .entry)) (now (qm .entry)) (t .from) (t .to) kept (now (work .exit)) ⌝ }

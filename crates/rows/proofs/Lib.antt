@@ -1,4 +1,4 @@
-mod Pass
+pub mod Pass
 pub mod Parts
 mod Passes
-mod TableLaws
+pub mod TableLaws

@@ -41,14 +41,17 @@ module _ (k z s : ℕ) (h : (z < k → s ≡ 1) × (k ≤ z → s ≡ 0)) where
   pub past-less : k ≤ z + 1 → k - s ≡ min k z
   past-less b = elim (decLt z k) [ yes a ↦ omega (arith, h .0 a) | no a ↦ omega (arith, h .1 (omega arith)) ]
 
--- A round of the loop that takes the entries on by the steps of a base.
-module _ (steps row₀ row : List ℕ) (from to j : ℕ) (W : Written (λ i. nth steps (nth row₀ i)) row₀ row from j) (lo : from ≤ j) (hi : j ≤ to)
-    (h : (i : ℕ) → from ≤ i → i ≤ to → nth row₀ i ≤ to) where
-  pub step-index : nth row j ≤ to
-  step-index = omega (arith, W .past j (omega arith), h j lo hi)
+-- An entry that no round has written yet is within its bound, up to z or before z.
+module _ (f : ℕ → ℕ) (row₀ row : List ℕ) (from end j z : ℕ) (W : Written f row₀ row from j) (lo : from ≤ j) (hi : j < end) where
+  pub index-up-to : ((i : ℕ) → from ≤ i → i < end → nth row₀ i ≤ z) → nth row j ≤ z
+  index-up-to h = omega (arith, W .past j (omega arith), h j lo hi)
 
-  pub step-step : nth steps (nth row j) ≡ nth steps (nth row₀ j)
-  step-step = ap (nth steps) (W .past j (omega arith))
+  pub index-before : ((i : ℕ) → from ≤ i → i < end → nth row₀ i < z) → nth row j < z
+  index-before h = omega (arith, W .past j (omega arith), h j lo hi)
+
+-- A round of the loop that takes the entries on by the steps of a base.
+pub step-step : (f : ℕ → ℕ) (steps row₀ row : List ℕ) (from j : ℕ) → Written f row₀ row from j → nth steps (nth row j) ≡ nth steps (nth row₀ j)
+step-step f steps row₀ row from j W = ap (nth steps) (W .past j (omega arith))
 
 pub raise-step : (f : ℕ → ℕ) (at z : ℕ) (row₀ row : List ℕ) (from j s r : ℕ) → Written f row₀ row from j → s ≡ min (nth row j) z → r ≡ max s (nth row (at + j))
     → r ≡ max (min (nth row₀ j) z) (nth row₀ (at + j))
@@ -57,9 +60,6 @@ raise-step f at z row₀ row from j s r W d e = e ∙ rw (d, W .past j (omega ar
 -- A round of the loop that closes an arc in one pass.
 module _ (left right : ℕ → Bool) (pm : ℕ → ℕ) (z : ℕ) (steps row₀ row : List ℕ) (from j : ℕ)
     (W : Written (λ i. max (min (nth steps (nth row₀ i)) z) (overAt left right pm z (nth row₀ (i + 1)) i)) row₀ row from j) where
-  pub short-index : from ≤ j → j ≤ z → ((i : ℕ) → from ≤ i → i ≤ z → nth row₀ i ≤ z) → nth row j ≤ z
-  short-index lo hi h = omega (arith, W .past j (omega arith), h j lo hi)
-
   pub short-step : (s o r : ℕ) (d : Bool) → j < z → s ≡ min (nth steps (nth row j)) z → d ≡ right (pm j)
       → o ≡ overBy (left j) d (pm j) z (nth row (j + 1)) j → r ≡ max s o
       → r ≡ max (min (nth steps (nth row₀ j)) z) (overAt left right pm z (nth row₀ (j + 1)) j)
@@ -79,34 +79,36 @@ set-at f old new at a e v W le lt q =
     let i : at + (e + 1) ≡ at + e + 1 = omega arith in
     rw i (pass-set f old new (at + a) (at + e) v W (omega arith) lt q)
 
--- The row of an arc, from the steps of its right end.
-module _ (left right : ℕ → Bool) (pm : ℕ → ℕ) (from to : ℕ) (steps : List ℕ) (s : (k : ℕ) → k ≤ to → min (nth steps k) to ≡ unitAt right pm to k) where
+-- The row of an arc for the starts from `from` to `last`, from the steps of its right end; e is where the loops ended.
+module _ (left right : ℕ → Bool) (pm : ℕ → ℕ) (from last to e : ℕ) (steps : List ℕ) (s : (k : ℕ) → k ≤ to → min (nth steps k) to ≡ unitAt right pm to k)
+    (t : e ≡ min (last + 1) to) where
   -- In one pass.
-  pub remade-short : (row new : List ℕ) → ((j : ℕ) → from ≤ j → j ≤ to → (j ≤ nth row j) × (nth row j ≤ to))
-      → Written (λ j. max (min (nth steps (nth row j)) to) (overAt left right pm to (nth row (j + 1)) j)) row new from to
-      → Remade (λ j. arcAt left right pm to (nth row j) (nth row (j + 1)) j) row new from to
+  pub remade-short : (row new : List ℕ) → ((j : ℕ) → from ≤ j → j ≤ last → (j ≤ nth row j) × (nth row j ≤ to))
+      → Written (λ j. max (min (nth steps (nth row j)) to) (overAt left right pm to (nth row (j + 1)) j)) row new from e
+      → Remade (λ j. arcAt left right pm to (nth row j) (nth row (j + 1)) j) row new from (min (last + 1) to)
   remade-short row new h W = record {
     long = W .long;
-    done = λ j a b. W .done j a b ∙ ap (λ (x : ℕ). max x (overAt left right pm to (nth row (j + 1)) j)) (s (nth row j) (h j a (omega arith) .1));
-    last = λ j a b. W .past j a;
+    done = λ j a b. W .done j a (omega (arith, t))
+        ∙ ap (λ (x : ℕ). max x (overAt left right pm to (nth row (j + 1)) j)) (s (nth row j) (h j a (omega arith) .1));
+    last = λ j a b. W .past j (omega (arith, t));
   }
 
   -- By the three passes, with the rows after each.
-  pub remade : (w : ℕ) (row o mid new : List ℕ) → from ≤ to → to < w → ((j : ℕ) → from ≤ j → j ≤ to → (j ≤ nth row j) × (nth row j ≤ to))
-      → Written (λ k. overAt left right pm to (nth row (k - w + 1)) (k - w)) row o (w + from) (w + to)
-      → Written (λ j. nth steps (nth o j)) o mid from to
-      → Written (λ j. max (min (nth mid j) to) (nth mid (w + j))) mid new from to
-      → Remade (λ j. arcAt left right pm to (nth row j) (nth row (j + 1)) j) row new from to
-  remade w row o mid new ft tw h O M N = record {
+  pub remade : (w : ℕ) (row o mid new : List ℕ) → to < w → ((j : ℕ) → from ≤ j → j ≤ last → (j ≤ nth row j) × (nth row j ≤ to))
+      → Written (λ k. overAt left right pm to (nth row (k - w + 1)) (k - w)) row o (w + from) (w + e)
+      → Written (λ j. nth steps (nth o j)) o mid from e
+      → Written (λ j. max (min (nth mid j) to) (nth mid (w + j))) mid new from e
+      → Remade (λ j. arcAt left right pm to (nth row j) (nth row (j + 1)) j) row new from (min (last + 1) to)
+  remade w row o mid new tw h O M N = record {
     long = N .long ∙ M .long ∙ O .long;
-    done = λ j a b. N .done j a b ∙ ap₂ max (unit j a b) (over j a b);
-    last = λ j a b. N .past j a ∙ M .past j a ∙ O .under j (omega arith);
+    done = λ j a b. N .done j a (omega (arith, t)) ∙ ap₂ max (unit j a (omega (arith, t))) (over j a (omega (arith, t)));
+    last = λ j a b. N .past j (omega (arith, t)) ∙ M .past j (omega (arith, t)) ∙ O .under j (omega arith);
   } where
-    unit : (j : ℕ) → from ≤ j → j < to → min (nth mid j) to ≡ unitAt right pm to (nth row j)
-    unit j a b =
-        ap (λ (x : ℕ). min x to) (M .done j a b ∙ ap (nth steps) (O .under j (omega arith))) ∙ s (nth row j) (h j a (omega arith) .1)
+    unit : (j : ℕ) → from ≤ j → j < e → min (nth mid j) to ≡ unitAt right pm to (nth row j)
+    unit j a b = ap (λ (x : ℕ). min x to) (M .done j a b ∙ ap (nth steps) (O .under j (omega (arith, t))))
+        ∙ s (nth row j) (h j a (omega (arith, t)) .1)
 
-    over : (j : ℕ) → from ≤ j → j < to → nth mid (w + j) ≡ overAt left right pm to (nth row (j + 1)) j
+    over : (j : ℕ) → from ≤ j → j < e → nth mid (w + j) ≡ overAt left right pm to (nth row (j + 1)) j
     over j a b =
         let i : w + j - w ≡ j = omega arith in
         M .past (w + j) (omega arith) ∙ O .done (w + j) (omega arith) (omega arith)

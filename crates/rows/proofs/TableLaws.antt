@@ -130,3 +130,13 @@ module _ (p pm t₀ t₁ tA tC tG tU : List ℕ) where
   } where
     m : ℕ
     m = length p
+
+-- Where the motif's own rows are as they were, the tables are.
+pub tables-kept : {p pm old new : List ℕ} → Tables p pm old → length new ≡ length old → ((k : ℕ) → k < 5 * (length p + 1) → nth new k ≡ nth old k)
+    → Tables p pm new
+tables-kept {p} T e h =
+    record {
+      long = omega (arith, T .long);
+      letter = λ j l. h j (omega arith) ∙ T .letter j l;
+      step = λ b L k l. h (stepsAt (length p) b + k) (omega (arith, steps-within (length p) b)) ∙ T .step b L k l;
+    }

@@ -1,6 +1,6 @@
 -- Only the contracts and laws of this crate and of those above it that search need this file: windows, what a pass over a row writes, and the tables of a
 -- motif.
-use Prim.Native.Nat.{ℕ, _+_, _*_, _/_, _%_, _≤_, _<_}
+use Prim.Native.Nat.{ℕ, _+_, _*_, _/_, _%_, _≤_, _<_, min}
 use mathlib.Core.Path.{_≡_}
 use mathlib.Core.Bool.{Bool, true}
 use mathlib.Core.List.{List}
@@ -10,7 +10,8 @@ use Rattle.strand.specs.Strands.{isLetter, lettersMatch}
 use Rattle.refusals.specs.Rules.{moleculeSide}
 use Rattle.embedding.specs.Row.{unitAt}
 
--- A window P[from..to) of the motif. A row has an entry for each start from `from` to `to`, at that index of its stretch of the work slice.
+-- A window P[from..to) of the motif. A row has an entry for each start from `from` to its last one, which is `to` or less, at that index of its stretch of
+-- the work slice.
 pub record Window (p pm : List ℕ) (from to : ℕ) : Type 0 where
   pub same : length pm ≡ length p
   pub small : length p ≤ 4096
@@ -24,7 +25,7 @@ pub record Written (f : ℕ → ℕ) (old new : List ℕ) (a e : ℕ) : Type 0 w
   pub done : (k : ℕ) → a ≤ k → k < e → nth new k ≡ f k
   pub past : (k : ℕ) → e ≤ k → nth new k ≡ nth old k
 
--- Of a row with an entry for each start from a to e, those before e were written, with the values of f; what lies before a and past the row is free.
+-- Of a row the entries from a to before e were written, with the values of f, and the entry at e stayed; what lies before a and past e is free.
 pub record Remade (f : ℕ → ℕ) (old new : List ℕ) (a e : ℕ) : Type 0 where
   pub long : length new ≡ length old
   pub done : (k : ℕ) → a ≤ k → k < e → nth new k ≡ f k
@@ -50,3 +51,11 @@ pub record Steps (steps : List ℕ) (to : ℕ) : Type 0 where
   pub long : to < length steps
   pub low : (k : ℕ) → k ≤ to → k ≤ nth steps k
   pub high : (k : ℕ) → k ≤ to → nth steps k ≤ k + 1
+
+-- The number for base i of a molecule after the five rows of a motif of m bases. The crates above keep bounds of the starts there (`Bounded` of arcs).
+unfoldable pub boundAt : ℕ → List ℕ → ℕ → ℕ
+boundAt m tables i = nth tables (5 * (m + 1) + i)
+
+-- The last start of the rows of stretches that begin at base i, in a window that ends at `to`.
+abbrev pub lastAt : ℕ → List ℕ → ℕ → ℕ → ℕ
+lastAt m tables to i = min to (boundAt m tables i)

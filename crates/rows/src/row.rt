@@ -1,6 +1,6 @@
-// The row operations. A row for the motif's window from..to has an entry for each start from `from` to `to`, at that index of the slice that the
-// operation borrows; a second row starts `at` entries further on. The bodies of the loops are functions of values, with early returns: the compiler
-// makes vector code of them.
+// The row operations. A row for the motif's window from..to has an entry for each start from `from` to `last`, which is `to` or less, at that index of the
+// slice that the operation borrows; a second row starts `at` entries further on. The bodies of the loops are functions of values, with early returns: the
+// compiler makes vector code of them.
 use crate::tables;
 ghost use mathlib.Core.Path.{_≡_};
 ghost use Prim.Native.Nat.{ℕ, _+_, _-_, _*_, _≤_, _<_, min, max};
@@ -26,6 +26,13 @@ fn smaller(a: u16, b: u16) -> u16
     if a < b { a } else { b }
 }
 
+// Where the loops over the starts from `from` to `last` end that leave the window's end `to` out.
+fn end_of(last: usize, to: usize) -> usize
+    ensures { λ r. ⌜ r ≡ min (last + 1) to ⌝ }
+{
+    if last < to { last + 1 } else { to }
+}
+
 // The row of an empty stretch.
 pub fn identity(from: usize, to: usize, row: &mut [u16])
     requires { ⌜ (from ≤ to) × ((to ≤ 4096) × (to < length (now row))) ⌝ }
@@ -48,66 +55,89 @@ fn extend_entry(step: u16, j: u16, here: u16, next: u16) -> u16
     next
 }
 
-// The row with the unbonded base in front whose own row is `steps`.
-fn extend_by(steps: &[u16], from: usize, to: usize, row: &mut [u16])
-    requires { ⌜ (from ≤ to) × ((to ≤ 4096) × (to < length (now row))) ⌝ }
-    requires { ⌜ Steps (now steps) to ⌝ }
-    ensures { λ _. ⌜ Written (λ j. nth (now (row .entry)) (nth (now (steps .entry)) j)) (now (row .entry)) (now (row .exit)) from to ⌝ }
+// The row with the unbonded base in front whose own row is `steps`, for the starts from `from` to before `end`.
+fn extend_by(steps: &[u16], from: usize, end: usize, row: &mut [u16])
+    requires { ⌜ (from ≤ end) × ((end ≤ 4096) × (end < length (now row))) ⌝ }
+    requires { ⌜ Steps (now steps) end ⌝ }
+    ensures { λ _. ⌜ Written (λ j. nth (now (row .entry)) (nth (now (steps .entry)) j)) (now (row .entry)) (now (row .exit)) from end ⌝ }
 {
     let mut j = from;
-    while j < to {
+    while j < end {
         row[j] = extend_entry(steps[j], j as u16, row[j], row[j + 1]);
         j += 1;
     }
 }
 
-// The row with the unbonded base b put in front of its stretch (003: extend).
-pub fn extend(p: &[u8], pm: &[u16], tables: &[u16], from: usize, to: usize, b: u8, row: &mut [u16])
+// The row with the unbonded base b put in front of its stretch (003: extend). The entry for `to` stays.
+pub fn extend(
+    p: &[u8],
+    pm: &[u16],
+    tables: &[u16],
+    from: usize,
+    last: usize,
+    to: usize,
+    b: u8,
+    row: &mut [u16],
+)
     requires { ⌜ Window (now p) (now pm) from to ⌝ }
+    requires { ⌜ (from ≤ last) × (last ≤ to) ⌝ }
     requires { ⌜ Tables (now p) (now pm) (now tables) ⌝ }
     requires { ⌜ isLetter moleculeSide b ≡ true ⌝ }
     requires { ⌜ to < length (now row) ⌝ }
-    ensures { λ _. ⌜ Written (λ j. nth (now (row .entry)) (unitAt (matches (now (p .entry)) b) (nth (now (pm .entry))) to j)) (now (row .entry)) (now (row .exit)) from to ⌝ }
+    ensures { λ _. ⌜ Written (λ j. nth (now (row .entry)) (unitAt (matches (now (p .entry)) b) (nth (now (pm .entry))) to j))
+        (now (row .entry)) (now (row .exit)) from (min (last + 1) to) ⌝ }
 {
     let at = tables::steps_at(p.len(), b);
-    extend_by(&tables[at..], from, to, row);
+    let end = end_of(last, to);
+    extend_by(&tables[at..], from, end, row);
 }
 
-// Copies the entries of a base's row.
-fn copy_steps(steps: &[u16], from: usize, to: usize, row: &mut [u16])
-    requires { ⌜ (from ≤ to) × ((to ≤ 4096) × (to < length (now row))) ⌝ }
-    requires { ⌜ Steps (now steps) to ⌝ }
-    ensures { λ _. ⌜ Written (nth (now (steps .entry))) (now (row .entry)) (now (row .exit)) from to ⌝ }
+// Copies the entries of a base's row, from `from` to before `end`.
+fn copy_steps(steps: &[u16], from: usize, end: usize, row: &mut [u16])
+    requires { ⌜ (from ≤ end) × ((end ≤ 4096) × (end < length (now row))) ⌝ }
+    requires { ⌜ Steps (now steps) end ⌝ }
+    ensures { λ _. ⌜ Written (nth (now (steps .entry))) (now (row .entry)) (now (row .exit)) from end ⌝ }
 {
     let mut j = from;
-    while j < to {
+    while j < end {
         row[j] = steps[j];
         j += 1;
     }
 }
 
-// The row of the unbonded base b (003: initialize).
-pub fn single(p: &[u8], pm: &[u16], tables: &[u16], from: usize, to: usize, b: u8, row: &mut [u16])
+// The row of the unbonded base b (003: initialize). Of its entries in the tables only the one for `to` may be past the window.
+pub fn single(
+    p: &[u8],
+    pm: &[u16],
+    tables: &[u16],
+    from: usize,
+    last: usize,
+    to: usize,
+    b: u8,
+    row: &mut [u16],
+)
     requires { ⌜ Window (now p) (now pm) from to ⌝ }
+    requires { ⌜ (from ≤ last) × (last ≤ to) ⌝ }
     requires { ⌜ Tables (now p) (now pm) (now tables) ⌝ }
     requires { ⌜ isLetter moleculeSide b ≡ true ⌝ }
     requires { ⌜ to < length (now row) ⌝ }
-    ensures { λ _. ⌜ Written (unitAt (matches (now (p .entry)) b) (nth (now (pm .entry))) to) (now (row .entry)) (now (row .exit)) from (to + 1) ⌝ }
+    ensures { λ _. ⌜ Written (unitAt (matches (now (p .entry)) b) (nth (now (pm .entry))) to) (now (row .entry)) (now (row .exit)) from (last + 1) ⌝ }
 {
     let at = tables::steps_at(p.len(), b);
-    copy_steps(&tables[at..], from, to, row);
-    row[to] = to as u16;
+    let steps = &tables[at..];
+    copy_steps(steps, from, last, row);
+    row[last] = smaller(steps[last], to as u16);
 }
 
 // The row of two stretches (003: combine), in the place of the first row: `first` is where the row of the one in front starts, `then` where that of the one
-// behind does.
-pub fn combine(from: usize, to: usize, first: usize, then: usize, row: &mut [u16])
-    requires { ⌜ (from ≤ to) × ((to ≤ 4096) × ((first + to < length (now row)) × (then + to < length (now row)))) ⌝ }
-    requires { ⌜ ((j : ℕ) → from ≤ j → j ≤ to → (j ≤ nth (now row) (first + j)) × (nth (now row) (first + j) ≤ to)) ⌝ }
-    ensures { λ _. ⌜ Written (λ j. nth (now (row .entry)) (then + nth (now (row .entry)) (first + j))) (now (row .entry)) (now (row .exit)) from (to + 1) ⌝ }
+// behind does, whose entries may lie past `last`.
+pub fn combine(from: usize, last: usize, first: usize, then: usize, row: &mut [u16])
+    requires { ⌜ (from ≤ last) × ((last ≤ 4096) × (first + last < length (now row))) ⌝ }
+    requires { ⌜ ((j : ℕ) → from ≤ j → j ≤ last → (j ≤ nth (now row) (first + j)) × (then + nth (now row) (first + j) < length (now row))) ⌝ }
+    ensures { λ _. ⌜ Written (λ j. nth (now (row .entry)) (then + nth (now (row .entry)) (first + j))) (now (row .entry)) (now (row .exit)) from (last + 1) ⌝ }
 {
     let mut j = from;
-    while j <= to {
+    while j <= last {
         let k = row[first + j] as usize;
         row[j] = row[then + k];
         j += 1;
@@ -201,12 +231,13 @@ pub fn over_entry(c: u8, x: u8, k: u16, j: u16, to: u16, d: u16, y: u16, next: u
     k + 1
 }
 
-// Writes at `at` what an arc with the bases x and y takes with its left end, from its inner row.
+// Writes at `at` what an arc with the bases x and y takes with its left end, from its inner row, for the starts from `from` to before `end`.
 fn over(
     p: &[u8],
     pm: &[u16],
     tables: &[u16],
     from: usize,
+    end: usize,
     to: usize,
     x: u8,
     y: u8,
@@ -215,11 +246,12 @@ fn over(
 )
     requires { ⌜ Window (now p) (now pm) from to ⌝ }
     requires { ⌜ Tables (now p) (now pm) (now tables) ⌝ }
-    requires { ⌜ (to < at) × ((at ≤ 4097) × (at + to < length (now row))) ⌝ }
-    ensures { λ _. ⌜ Written (λ k. overAt (matches (now (p .entry)) x) (matches (now (p .entry)) y) (nth (now (pm .entry))) to (nth (now (row .entry)) (k - at + 1)) (k - at)) (now (row .entry)) (now (row .exit)) (at + from) (at + to) ⌝ }
+    requires { ⌜ (from ≤ end) × ((end ≤ to) × ((to < at) × ((at ≤ 4097) × (at + to < length (now row))))) ⌝ }
+    ensures { λ _. ⌜ Written (λ k. overAt (matches (now (p .entry)) x) (matches (now (p .entry)) y) (nth (now (pm .entry))) to
+        (nth (now (row .entry)) (k - at + 1)) (k - at)) (now (row .entry)) (now (row .exit)) (at + from) (at + end) ⌝ }
 {
     let mut j = from;
-    while j < to {
+    while j < end {
         row[at + j] = over_entry(
             p[j],
             x,
@@ -234,28 +266,28 @@ fn over(
     }
 }
 
-// Takes each entry of the row on by the unbonded base behind whose own row is `steps`.
-fn step(steps: &[u16], from: usize, to: usize, row: &mut [u16])
-    requires { ⌜ (from ≤ to) × ((to ≤ 4096) × (to < length (now row))) ⌝ }
-    requires { ⌜ Steps (now steps) to ⌝ }
-    requires { ⌜ ((j : ℕ) → from ≤ j → j ≤ to → nth (now row) j ≤ to) ⌝ }
-    ensures { λ _. ⌜ Written (λ j. nth (now (steps .entry)) (nth (now (row .entry)) j)) (now (row .entry)) (now (row .exit)) from to ⌝ }
+// Takes the entries from `from` to before `end` on by the unbonded base behind whose own row is `steps`.
+fn step(steps: &[u16], from: usize, end: usize, row: &mut [u16])
+    requires { ⌜ (from ≤ end) × ((end ≤ 4096) × (end < length (now row))) ⌝ }
+    requires { ⌜ ((j : ℕ) → from ≤ j → j < end → nth (now row) j < length (now steps)) ⌝ }
+    ensures { λ _. ⌜ Written (λ j. nth (now (steps .entry)) (nth (now (row .entry)) j)) (now (row .entry)) (now (row .exit)) from end ⌝ }
 {
     let mut j = from;
-    while j < to {
+    while j < end {
         let k = row[j] as usize;
         row[j] = steps[k];
         j += 1;
     }
 }
 
-// Raises the row to the row at `at`, no entry past `to`.
-fn raise(from: usize, to: usize, at: usize, row: &mut [u16])
-    requires { ⌜ (from ≤ to) × ((to ≤ 4096) × ((to < at) × (at + to < length (now row)))) ⌝ }
-    ensures { λ _. ⌜ Written (λ j. max (min (nth (now (row .entry)) j) to) (nth (now (row .entry)) (at + j))) (now (row .entry)) (now (row .exit)) from to ⌝ }
+// Raises the entries from `from` to before `end` to those of the row at `at`, none past `to`.
+fn raise(from: usize, end: usize, to: usize, at: usize, row: &mut [u16])
+    requires { ⌜ (from ≤ end) × ((end ≤ to) × ((to ≤ 4096) × ((to < at) × (at + to < length (now row))))) ⌝ }
+    ensures { λ _. ⌜ Written (λ j. max (min (nth (now (row .entry)) j) to) (nth (now (row .entry)) (at + j)))
+        (now (row .entry)) (now (row .exit)) from end ⌝ }
 {
     let mut j = from;
-    while j < to {
+    while j < end {
         row[j] = larger(smaller(row[j], to as u16), row[at + j]);
         j += 1;
     }
@@ -276,13 +308,15 @@ fn capped(k: u16, to: u16) -> u16
     k - past(to, k)
 }
 
-// The row of an arc with the bases x and y, in the place of its inner row: in one pass, for a short window. `steps` is the row of an unbonded y.
+// The entries of the row of an arc with the bases x and y from `from` to before `end`, in the place of its inner row: in one pass, for few entries. `steps`
+// is the row of an unbonded y.
 fn close_short(
     p: &[u8],
     pm: &[u16],
     tables: &[u16],
     steps: &[u16],
     from: usize,
+    end: usize,
     to: usize,
     x: u8,
     y: u8,
@@ -291,12 +325,14 @@ fn close_short(
     requires { ⌜ Window (now p) (now pm) from to ⌝ }
     requires { ⌜ Tables (now p) (now pm) (now tables) ⌝ }
     requires { ⌜ Steps (now steps) to ⌝ }
-    requires { ⌜ to < length (now row) ⌝ }
-    requires { ⌜ ((j : ℕ) → from ≤ j → j ≤ to → nth (now row) j ≤ to) ⌝ }
-    ensures { λ _. ⌜ Written (λ j. max (min (nth (now (steps .entry)) (nth (now (row .entry)) j)) to) (overAt (matches (now (p .entry)) x) (matches (now (p .entry)) y) (nth (now (pm .entry))) to (nth (now (row .entry)) (j + 1)) j)) (now (row .entry)) (now (row .exit)) from to ⌝ }
+    requires { ⌜ (from ≤ end) × ((end ≤ to) × (to < length (now row))) ⌝ }
+    requires { ⌜ ((j : ℕ) → from ≤ j → j < end → nth (now row) j ≤ to) ⌝ }
+    ensures { λ _. ⌜ Written (λ j. max (min (nth (now (steps .entry)) (nth (now (row .entry)) j)) to)
+        (overAt (matches (now (p .entry)) x) (matches (now (p .entry)) y) (nth (now (pm .entry))) to (nth (now (row .entry)) (j + 1)) j))
+        (now (row .entry)) (now (row .exit)) from end ⌝ }
 {
     let mut j = from;
-    while j < to {
+    while j < end {
         let k = row[j] as usize;
         let both = capped(steps[k], to as u16);
         row[j] = larger(
@@ -316,33 +352,40 @@ fn close_short(
     }
 }
 
-// The row of an arc with the bases x and y (003: meld), in the place of its inner row. A short window is done in one pass; for a long one short loops over
-// whole rows are faster, and the next row is written too.
+// From so many entries on an arc is closed by short loops over whole rows.
+const LONG: usize = 40;
+
+// The row of an arc with the bases x and y (003: meld), in the place of its inner row; the entry for `to` stays. Few entries are done in one pass; for many
+// short loops over whole rows are faster, and the next row is written too.
 pub fn close_arc(
     p: &[u8],
     pm: &[u16],
     tables: &[u16],
     from: usize,
+    last: usize,
     to: usize,
     x: u8,
     y: u8,
     row: &mut [u16],
 )
     requires { ⌜ Window (now p) (now pm) from to ⌝ }
+    requires { ⌜ (from ≤ last) × (last ≤ to) ⌝ }
     requires { ⌜ Tables (now p) (now pm) (now tables) ⌝ }
     requires { ⌜ isLetter moleculeSide y ≡ true ⌝ }
     requires { ⌜ 2 * (length (now p) + 1) ≤ length (now row) ⌝ }
-    requires { ⌜ ((j : ℕ) → from ≤ j → j ≤ to → (j ≤ nth (now row) j) × (nth (now row) j ≤ to)) ⌝ }
-    ensures { λ _. ⌜ Remade (λ j. arcAt (matches (now (p .entry)) x) (matches (now (p .entry)) y) (nth (now (pm .entry))) to (nth (now (row .entry)) j) (nth (now (row .entry)) (j + 1)) j) (now (row .entry)) (now (row .exit)) from to ⌝ }
+    requires { ⌜ ((j : ℕ) → from ≤ j → j ≤ last → (j ≤ nth (now row) j) × (nth (now row) j ≤ to)) ⌝ }
+    ensures { λ _. ⌜ Remade (λ j. arcAt (matches (now (p .entry)) x) (matches (now (p .entry)) y) (nth (now (pm .entry))) to
+        (nth (now (row .entry)) j) (nth (now (row .entry)) (j + 1)) j) (now (row .entry)) (now (row .exit)) from (min (last + 1) to) ⌝ }
 {
     let w = p.len() + 1;
     let at = tables::steps_at(p.len(), y);
+    let end = end_of(last, to);
     let steps = &tables[at..];
-    if to < from + 40 {
-        close_short(p, pm, tables, steps, from, to, x, y, row);
+    if end < from + LONG {
+        close_short(p, pm, tables, steps, from, end, to, x, y, row);
         return;
     }
-    over(p, pm, tables, from, to, x, y, w, row);
-    step(steps, from, to, row);
-    raise(from, to, w, row);
+    over(p, pm, tables, from, end, to, x, y, w, row);
+    step(steps, from, end, row);
+    raise(from, end, to, w, row);
 }

@@ -1,6 +1,7 @@
 // An embedding of the longest prefix: the walk over the molecule that also writes the places. Down a path of longest arcs rows are wanted from the outside
 // in, but come from the inside out: the row inside a middle arc of the path, the kept arc, stays while what lies outside of that arc is placed. `kept` is
 // its left end, or q.len() where there is none.
+use arcs::bounds;
 use placing::path;
 use placing::path::Span;
 use placing::take;
@@ -12,9 +13,8 @@ ghost use lib.ListN.{length};
 ghost use Rattle.lists.specs.Vocabulary.{nth};
 ghost use Rattle.embedding.specs.Row.{Best, Reach};
 ghost use Rattle.embedding.specs.Embedding.{lettersFit};
-ghost use Rattle.rows.specs.Rows.{Tables};
 ghost use Rattle.refusals.specs.Rules.{workSize};
-ghost use Rattle.arcs.specs.Arcs.{Setting, Sealed};
+ghost use Rattle.arcs.specs.Arcs.{Setting, Sealed, AllStarts};
 ghost use Rattle.placing.specs.Placing.{Laid, KeptAround, OnPath, Levels, ArcLevels, LaidBut, FromArc, AtArc};
 
 // Writes the places of from.. as far as the motif up to `to` is taken by lo..hi, and gives how far that is.
@@ -36,7 +36,7 @@ fn place(
     requires { ⌜ Sealed (now qm) lo hi ⌝ }
     requires { ⌜ to ≤ length (now places) ⌝ }
     requires { ⌜ ArcLevels (length (now p) + 1) (now qm) lo hi (length (now work)) ⌝ }
-    requires { ⌜ Tables (now p) (now pm) (now tables) ⌝ }
+    requires { ⌜ AllStarts (now p) (now pm) (length (now q)) (now tables) ⌝ }
     ensures { λ k. ⌜ Best (lettersFit (now (p .entry)) (now (q .entry))) (nth (now (pm .entry))) (nth (now (qm .entry))) to from k lo hi ⌝ }
     ensures { λ k. ⌜ Laid (now (p .entry)) (now (pm .entry)) (now (q .entry)) (now (qm .entry)) from k lo hi (now (places .entry)) (now (places .exit)) ⌝ }
 {
@@ -75,7 +75,7 @@ fn place_arc(
     requires { ⌜ (from < to) × (to ≤ length (now places)) ⌝ }
     requires { ⌜ (l < r) × ((r < length (now q)) × (nth (now qm) l ≡ r)) ⌝ }
     requires { ⌜ Levels (length (now p) + 1) (r - (l + 1)) (r - (l + 1)) (length (now work)) ⌝ }
-    requires { ⌜ Tables (now p) (now pm) (now tables) ⌝ }
+    requires { ⌜ AllStarts (now p) (now pm) (length (now q)) (now tables) ⌝ }
     ensures { λ k. ⌜ Best (lettersFit (now (p .entry)) (now (q .entry))) (nth (now (pm .entry))) (nth (now (qm .entry))) to from k l (r + 1) ⌝ }
     ensures { λ k. ⌜ Laid (now (p .entry)) (now (pm .entry)) (now (q .entry)) (now (qm .entry)) from k l (r + 1) (now (places .entry)) (now (places .exit)) ⌝ }
 {
@@ -243,7 +243,7 @@ fn descend(
     requires { ⌜ KeptAround (now p) (now pm) (now q) (now qm) from to kept (now work) ⌝ }
     requires { ⌜ to ≤ length (now places) ⌝ }
     requires { ⌜ Levels (length (now p) + 1) (hi - lo) (hi - lo - (nth (now qm) kept - kept)) (length (now work)) ⌝ }
-    requires { ⌜ Tables (now p) (now pm) (now tables) ⌝ }
+    requires { ⌜ AllStarts (now p) (now pm) (length (now q)) (now tables) ⌝ }
     ensures { λ b. ⌜ LaidBut (now (p .entry)) (now (pm .entry)) (now (q .entry)) (now (qm .entry)) from to lo hi (b .from) (b .to) (kept + 1) (nth (now (qm .entry)) kept) (now (places .entry)) (now (places .exit)) ⌝ }
 {
     let none = Span {
@@ -276,15 +276,16 @@ fn place_all_lent(
     requires { ⌜ Setting (now p) (now pm) (now q) (now qm) 0 (length (now p)) ⌝ }
     requires { ⌜ length (now p) ≤ length (now places) ⌝ }
     requires { ⌜ workSize (length (now p)) (length (now q)) ≤ length (now work) ⌝ }
-    requires { ⌜ 5 * (length (now p) + 1) ≤ length (now tables) ⌝ }
+    requires { ⌜ 5 * (length (now p) + 1) + length (now q) < length (now tables) ⌝ }
     ensures { λ k. ⌜ Best (lettersFit (now (p .entry)) (now (q .entry))) (nth (now (pm .entry))) (nth (now (qm .entry))) (length (now (p .entry))) 0 k 0 (length (now (q .entry))) ⌝ }
     ensures { λ k. ⌜ Laid (now (p .entry)) (now (pm .entry)) (now (q .entry)) (now (qm .entry)) 0 k 0 (length (now (q .entry))) (now (places .entry)) (now (places .exit)) ⌝ }
 {
     tables::fill(p, pm, tables);
+    bounds::all_starts(p, pm, q.len(), tables);
     place(p, pm, tables, q, qm, 0, p.len(), 0, q.len(), places, work)
 }
 
-// As `place_all`, for a short motif: its tables take little room.
+// As `place_all`, for short strands: their tables take little room.
 fn place_all_short(
     p: &[u8],
     pm: &[u16],
@@ -296,12 +297,11 @@ fn place_all_short(
     requires { ⌜ Setting (now p) (now pm) (now q) (now qm) 0 (length (now p)) ⌝ }
     requires { ⌜ length (now p) ≤ length (now places) ⌝ }
     requires { ⌜ workSize (length (now p)) (length (now q)) ≤ length (now work) ⌝ }
-    requires { ⌜ length (now p) ≤ 120 ⌝ }
+    requires { ⌜ (length (now p) ≤ 120) × (length (now q) ≤ 160) ⌝ }
     ensures { λ k. ⌜ Best (lettersFit (now (p .entry)) (now (q .entry))) (nth (now (pm .entry))) (nth (now (qm .entry))) (length (now (p .entry))) 0 k 0 (length (now (q .entry))) ⌝ }
     ensures { λ k. ⌜ Laid (now (p .entry)) (now (pm .entry)) (now (q .entry)) (now (qm .entry)) 0 k 0 (length (now (q .entry))) (now (places .entry)) (now (places .exit)) ⌝ }
 {
-    // five rows of 121 entries
-    let mut tables = [0u16; 605];
+    let mut tables = [0u16; tables::SHORT_SIZE];
     place_all_lent(p, pm, q, qm, places, work, &mut tables)
 }
 
@@ -320,10 +320,11 @@ pub fn place_all(
     ensures { λ k. ⌜ Best (lettersFit (now (p .entry)) (now (q .entry))) (nth (now (pm .entry))) (nth (now (qm .entry))) (length (now (p .entry))) 0 k 0 (length (now (q .entry))) ⌝ }
     ensures { λ k. ⌜ Laid (now (p .entry)) (now (pm .entry)) (now (q .entry)) (now (qm .entry)) 0 k 0 (length (now (q .entry))) (now (places .entry)) (now (places .exit)) ⌝ }
 {
-    if p.len() <= 120 {
-        return place_all_short(p, pm, q, qm, places, work);
+    if p.len() <= tables::SHORT_MOTIF {
+        if q.len() <= tables::SHORT_MOLECULE {
+            return place_all_short(p, pm, q, qm, places, work);
+        }
     }
-    // five rows of 4,097 entries
-    let mut tables = [0u16; 20485];
+    let mut tables = [0u16; tables::LONG_SIZE];
     place_all_lent(p, pm, q, qm, places, work, &mut tables)
 }

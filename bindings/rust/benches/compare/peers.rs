@@ -6,15 +6,26 @@ mod c {
     type Matcher = unsafe extern "C" fn(*const u8, *const u16, usize, *const u8, *const u16, usize, *mut u16) -> usize;
     pub const MATCHERS: [Matcher; 2] = [rows_length, windows_length];
 
+    /// A motif with what a search works out of it, which only C looks into.
+    #[repr(C)]
+    pub struct Motif {
+        opaque: [u8; 0],
+    }
+
+    type Embeds = unsafe extern "C" fn(*mut Motif, *const u8, *const u16, usize, *mut u16) -> std::ffi::c_int;
+    pub const SEARCHES: [Embeds; 2] = [rows_embeds, windows_embeds];
+
     unsafe extern "C" {
         fn rows_length(p: *const u8, pm: *const u16, m: usize, q: *const u8, qm: *const u16, n: usize, work: *mut u16) -> usize;
         fn windows_length(p: *const u8, pm: *const u16, m: usize, q: *const u8, qm: *const u16, n: usize, work: *mut u16) -> usize;
+        fn rows_embeds(motif: *mut Motif, q: *const u8, qm: *const u16, n: usize, work: *mut u16) -> std::ffi::c_int;
+        fn windows_embeds(motif: *mut Motif, q: *const u8, qm: *const u16, n: usize, work: *mut u16) -> std::ffi::c_int;
         pub fn table_show(p: *const u8, pm: *const u16, m: usize, q: *const u8, qm: *const u16, n: usize, rows: *mut u16, places: *mut u16) -> usize;
         pub fn peer_strand_ok(bases: *const u8, mates: *const u16, n: usize) -> std::ffi::c_int;
         pub fn peer_unsound_molecule(catalog: *const u8, blocks: usize) -> usize;
         pub fn peer_unsound_entry(cache: *const u8, blocks: usize) -> usize;
         pub fn peer_query(
-            length: Matcher,
+            embeds: Embeds,
             catalog: *const u8,
             blocks: usize,
             cache: *mut u8,
@@ -114,7 +125,7 @@ pub unsafe fn query(by: By, catalog: &[u8], cache: &mut [u8], p: Strand, work: &
     // all that the peer asks; it searches only where the catalog is sound.
     let count = unsafe {
         c::peer_query(
-            c::MATCHERS[by as usize],
+            c::SEARCHES[by as usize],
             catalog.as_ptr(),
             blocks,
             cache.as_mut_ptr(),

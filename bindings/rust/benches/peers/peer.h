@@ -12,6 +12,23 @@ typedef size_t peer_matcher(const uint8_t *p, const uint16_t *pm, size_t m, cons
 // By document 003's rows (rows.c), and by the library's own algorithm (windows.c).
 peer_matcher rows_length, windows_length;
 
+// A motif for a search of many molecules. Of its tables (the letters of its mates, for each letter the row of an unbonded base) and of the bounds of the
+// molecule at hand only windows.c makes use.
+enum { PEER_MOST = 4096 };
+typedef struct {
+    const uint8_t *p;
+    const uint16_t *pm;
+    int m;
+    uint8_t partner[PEER_MOST];
+    uint16_t steps[4 * (PEER_MOST + 1)], bounds[PEER_MOST + 1];
+} peer_motif;
+
+void peer_prepare(peer_motif *motif, const uint8_t *p, const uint16_t *pm, size_t m);
+
+// Whether the motif embeds in the molecule.
+typedef int peer_embeds(peer_motif *motif, const uint8_t *q, const uint16_t *qm, size_t n, uint16_t *work);
+peer_embeds rows_embeds, windows_embeds;
+
 // The left end of the longest arc directly in lo..hi, or hi. It stands here so that both matchers may have it inline.
 static inline int peer_heaviest(const uint16_t *qm, int lo, int hi) {
     int best = hi, size = 0;
@@ -35,9 +52,9 @@ size_t peer_unsound_entry(const uint8_t *cache, size_t blocks);
 // Writes the checksum of a block.
 void peer_put_checksum(uint8_t *block);
 
-// A query (query.c): the soundness pass over catalog and cache, the search by `length` of each held molecule that the cache does not know, the hits, and
+// A query (query.c): the soundness pass over catalog and cache, the search by `embeds` of each held molecule that the cache does not know, the hits, and
 // the entry written to the motif's slot. Gives the count of hits, or -1 where a block of the catalog is unsound.
-long peer_query(peer_matcher *length, const uint8_t *catalog, size_t blocks, uint8_t *cache, size_t slots, const uint8_t *p, const uint16_t *pm, size_t m,
+long peer_query(peer_embeds *embeds, const uint8_t *catalog, size_t blocks, uint8_t *cache, size_t slots, const uint8_t *p, const uint16_t *pm, size_t m,
                 uint16_t *work, uint16_t *hits, size_t *searched);
 
 // Show (show.c): the length, and the places of an embedding. `rows` has (n + 1) (m + 1) numbers, a row for each position of the molecule.

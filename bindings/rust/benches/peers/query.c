@@ -33,14 +33,14 @@ static void put_entry(uint8_t *entry, const uint8_t *p, const uint16_t *pm, int 
     peer_put_checksum(entry);
 }
 
-static int embeds(peer_matcher *length, const uint8_t *block, const uint8_t *p, const uint16_t *pm, size_t m, uint16_t *work) {
+static int block_embeds(peer_embeds *embeds, peer_motif *motif, const uint8_t *block, uint16_t *work) {
     uint16_t mates[MOLECULE];
     int n = block[1];
     for (int i = 0; i < n; i++) mates[i] = word(block + MATES + 2 * i);
-    return length(p, pm, m, block + BASES, mates, n, work) == m;
+    return embeds(motif, block + BASES, mates, n, work);
 }
 
-long peer_query(peer_matcher *length, const uint8_t *catalog, size_t blocks, uint8_t *cache, size_t slots, const uint8_t *p, const uint16_t *pm, size_t m,
+long peer_query(peer_embeds *embeds, const uint8_t *catalog, size_t blocks, uint8_t *cache, size_t slots, const uint8_t *p, const uint16_t *pm, size_t m,
                 uint16_t *work, uint16_t *hits, size_t *searched) {
     uint8_t held[MAP] = {0}, found[MAP] = {0};
     size_t key = 0, count = 0;
@@ -50,6 +50,8 @@ long peer_query(peer_matcher *length, const uint8_t *catalog, size_t blocks, uin
     for (size_t j = 0; j < m; j++) key += p[j] + pm[j];
     uint8_t *entry = cache + BLOCK * (key % slots);
     int same = keeps(entry, p, pm, m);
+    peer_motif motif;
+    peer_prepare(&motif, p, pm, m);
     *searched = 0;
     for (size_t d = 0; d < blocks; d++) {
         const uint8_t *block = catalog + BLOCK * d;
@@ -59,7 +61,7 @@ long peer_query(peer_matcher *length, const uint8_t *catalog, size_t blocks, uin
         if (same && bit(entry + SEARCHED, d)) {
             hit = bit(entry + HITS, d);
         } else {
-            hit = embeds(length, block, p, pm, m, work);
+            hit = block_embeds(embeds, &motif, block, work);
             ++*searched;
         }
         if (hit) {

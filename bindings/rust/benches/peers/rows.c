@@ -85,3 +85,7 @@ size_t rows_length(const uint8_t *p, const uint16_t *pm, size_t length, const ui
     }
     return row[0];
 }
+
+int rows_embeds(peer_motif *t, const uint8_t *q, const uint16_t *qm, size_t n, uint16_t *work) {
+    return rows_length(t->p, t->pm, t->m, q, qm, n, work) == (size_t)t->m;
+}

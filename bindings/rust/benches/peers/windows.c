@@ -1,21 +1,19 @@
 // The library's algorithm in plain C (crates/rows, crates/arcs and crates/matcher): tables of the motif (the letters of its mates, and for each letter the
-// row of an unbonded base), one accumulator for an arc, rows for a window of the motif, the heavy child first, arcs closed in passes, and the top of the
-// molecule walked from left to right.
+// row of an unbonded base), made at the first arc or once for a query; one accumulator for an arc, rows for the starts that a greedy match of letters can have
+// come to, the heavy child first, arcs closed in passes, and the top of the molecule walked from left to right; a query stops a walk that cannot succeed.
 #include "peer.h"
 
+// The rows are for the starts from `from` on in a window of the motif that ends at `to`, as the library's are, which show has for other windows too. A row of
+// LONG and more entries is closed in passes.
+enum { LONG = 40 };
 typedef struct {
     const uint8_t *p, *partner, *q;
-    const uint16_t *pm, *qm, *steps;
-    int m;
+    const uint16_t *pm, *qm, *steps, *bounds;
+    int m, from, to;
 } Pair;
 
-static int smaller(int a, int b) { return a < b ? a : b; }
 static uint16_t larger(uint16_t a, uint16_t b) { return a < b ? b : a; }
-
-// The row of an empty stretch.
-static void identity(uint16_t *row, int from, int to) {
-    for (int j = from; j <= to; j++) row[j] = j;
-}
+static uint16_t smaller(uint16_t a, uint16_t b) { return a < b ? a : b; }
 
 // The bodies of the vector loops are functions of values: the compiler may then load every value in each turn. c and k are the base and the mate of j,
 // d the base of k; `here` and `next` are the row's entries for j and j + 1.
@@ -30,121 +28,177 @@ static uint16_t over_entry(uint8_t c, uint8_t x, uint16_t k, uint16_t j, uint16_
 // The steps of the letter y: for each k where an unbonded base y takes the motif from k on.
 static const uint16_t *steps_of(const Pair *s, uint8_t y) { return s->steps + (y >> 1 & 3) * (s->m + 1); }
 
-// Puts the unbonded base b in front of the row's stretch.
-static void extend(const Pair *s, uint16_t *row, int from, int to, uint8_t b) {
-    const uint16_t *steps = steps_of(s, b);
-    for (int j = from; j < to; j++) row[j] = extend_entry(steps[j], j, row[j], row[j + 1]);
+// The end of the starts of a stretch that begins at base i: the entry for m is m in every row and is not written again.
+static int starts_end(const Pair *s, int i) { return s->bounds[i] < s->m ? s->bounds[i] + 1 : s->m; }
+
+// The row of an empty stretch at base i.
+static void identity(const Pair *s, uint16_t *row, int i) {
+    for (int j = s->from, last = s->bounds[i]; j <= last; j++) row[j] = j;
 }
 
-// Puts the stretch of the row `front` in front.
-static void combine(uint16_t *row, const uint16_t *front, int from, int to) {
-    for (int j = from; j <= to; j++) row[j] = row[front[j]];
+// The row of the unbonded base i.
+static void single(const Pair *s, uint16_t *row, int i) {
+    const uint16_t *steps = steps_of(s, s->q[i]);
+    for (int j = s->from, last = s->bounds[i]; j <= last; j++) row[j] = steps[j];
 }
 
-// Puts the stretch of the row `back` behind.
-static void combine_into(uint16_t *row, const uint16_t *back, int from, int to) {
-    for (int j = from; j <= to; j++) row[j] = back[row[j]];
+// Puts the unbonded base i in front of the row's stretch.
+static void extend(const Pair *s, uint16_t *row, int i) {
+    const uint16_t *steps = steps_of(s, s->q[i]);
+    for (int j = s->from, end = starts_end(s, i); j < end; j++) row[j] = extend_entry(steps[j], j, row[j], row[j + 1]);
 }
 
-// Where an unbonded base y takes the motif from k on.
-static int unit(const Pair *s, int to, int k, uint8_t y) { return k < to && s->pm[k] <= k && s->p[k] == y ? k + 1 : k; }
+// Puts the stretch of the row `front`, which begins at base i, in front.
+static void combine(const Pair *s, uint16_t *row, const uint16_t *front, int i) {
+    for (int j = s->from, last = s->bounds[i]; j <= last; j++) row[j] = row[front[j]];
+}
+
+// Puts the stretch of the row `back` behind the row's, which begins at base i.
+static void combine_into(const Pair *s, uint16_t *row, const uint16_t *back, int i) {
+    for (int j = s->from, last = s->bounds[i]; j <= last; j++) row[j] = back[row[j]];
+}
 
 // The entry for j of an arc with the letters x, y, from its inner row's entries for j and j + 1.
-static uint16_t arc_entry(const Pair *s, const uint16_t *steps, int to, int j, uint8_t x, uint8_t y, uint16_t here, uint16_t next) {
-    uint16_t best = smaller(steps[here], to);
+static uint16_t arc_entry(const Pair *s, const uint16_t *steps, int j, uint8_t x, uint8_t y, uint16_t here, uint16_t next) {
+    uint16_t best = smaller(steps[here], s->to);
     if (s->p[j] != x) return best;
     int k = s->pm[j];
     if (k <= j) return larger(best, next);
-    if (to <= k || s->partner[j] != y || next < k) return best;
+    if (s->to <= k || s->partner[j] != y || next < k) return best;
     return larger(best, k + 1);
 }
 
-// The row of an arc with the letters x, y, in the place of its inner row; the next row is written too.
-static void close_arc(const Pair *s, uint16_t *row, int from, int to, uint8_t x, uint8_t y) {
+// The row of the arc l, r, in the place of its inner row; the next row is written too.
+static void close_arc(const Pair *s, uint16_t *row, int l, int r) {
+    uint8_t x = s->q[l], y = s->q[r];
     const uint16_t *steps = steps_of(s, y);
-    if (to < from + 40) {
-        for (int j = from; j < to; j++) row[j] = arc_entry(s, steps, to, j, x, y, row[j], row[j + 1]);
+    int from = s->from, to = s->to, end = starts_end(s, l);
+    if (end < from + LONG) {
+        for (int j = from; j < end; j++) row[j] = arc_entry(s, steps, j, x, y, row[j], row[j + 1]);
         return;
     }
     const uint8_t *p = s->p, *partner = s->partner;
     const uint16_t *pm = s->pm;
     uint16_t *over = row + s->m + 1;
-    for (int j = from; j < to; j++) over[j] = over_entry(p[j], x, pm[j], j, to, partner[j], y, row[j + 1]);
-    for (int j = from; j < to; j++) row[j] = steps[row[j]];
-    for (int j = from; j < to; j++) row[j] = larger(smaller(row[j], to), over[j]);
+    for (int j = from; j < end; j++) over[j] = over_entry(p[j], x, pm[j], j, to, partner[j], y, row[j + 1]);
+    for (int j = from; j < end; j++) row[j] = steps[row[j]];
+    for (int j = from; j < end; j++) row[j] = larger(smaller(row[j], to), over[j]);
 }
 
-// Leaves the row of lo..hi, which has no arc, as the first row of work.
-static void flat_row(const Pair *s, int from, int to, int lo, int hi, uint16_t *work) {
-    if (hi <= lo) {
-        identity(work, from, to);
-        return;
-    }
-    const uint16_t *steps = steps_of(s, s->q[hi - 1]);
-    for (int j = from; j < to; j++) work[j] = steps[j];
-    work[to] = to;
-    for (int i = hi - 1; lo < i; i--) extend(s, work, from, to, s->q[i - 1]);
-}
-
-static void inner_row(const Pair *s, int from, int to, int l, int r, uint16_t *work);
+static void inner_row(const Pair *s, int l, int r, uint16_t *work);
 
 // Puts lo..hi, which no arc leaves, in front of the stretch whose row is the first of work.
-static void prepend(const Pair *s, int from, int to, int lo, int hi, uint16_t *work) {
+static void prepend(const Pair *s, int lo, int hi, uint16_t *work) {
     uint16_t *part = work + s->m + 1;
     for (int i = hi; lo < i;) {
         int k = i - 1, c = s->qm[k];
         if (c == k) {
-            extend(s, work, from, to, s->q[k]);
+            extend(s, work, k);
         } else {
-            inner_row(s, from, to, c, k, part);
-            close_arc(s, part, from, to, s->q[c], s->q[k]);
-            combine(work, part, from, to);
+            inner_row(s, c, k, part);
+            close_arc(s, part, c, k);
+            combine(s, work, part, c);
         }
         i = c;
     }
 }
 
+// Leaves the row of lo..hi, which has no arc, as the first row of work.
+static void flat_row(const Pair *s, int lo, int hi, uint16_t *work) {
+    if (hi <= lo) {
+        identity(s, work, lo);
+        return;
+    }
+    single(s, work, hi - 1);
+    for (int i = hi - 1; lo < i; i--) extend(s, work, i - 1);
+}
+
+// Leaves the row of lo..hi, which is not empty and no arc leaves, as the first row of work.
+static void stretch_row(const Pair *s, int lo, int hi, uint16_t *work) {
+    int r = hi - 1, l = s->qm[r];
+    if (l == r) {
+        single(s, work, r);
+    } else {
+        inner_row(s, l, r, work);
+        close_arc(s, work, l, r);
+    }
+    if (lo < l) prepend(s, lo, l, work);
+}
+
 // Leaves the row of l + 1..r, inside the arc l, r, as the first row of work.
-static void inner_row(const Pair *s, int from, int to, int l, int r, uint16_t *work) {
+static void inner_row(const Pair *s, int l, int r, uint16_t *work) {
     int heavy = peer_heaviest(s->qm, l + 1, r);
     if (r <= heavy) {
-        flat_row(s, from, to, l + 1, r, work);
+        flat_row(s, l + 1, r, work);
         return;
     }
     int e = s->qm[heavy];
-    inner_row(s, from, to, heavy, e, work);
-    close_arc(s, work, from, to, s->q[heavy], s->q[e]);
+    inner_row(s, heavy, e, work);
+    close_arc(s, work, heavy, e);
     if (e + 1 < r) {
         uint16_t *part = work + s->m + 1;
-        identity(part, from, to);
-        prepend(s, from, to, e + 1, r, part);
-        combine_into(work, part, from, to);
+        stretch_row(s, e + 1, r, part);
+        combine_into(s, work, part, heavy);
     }
-    if (l + 1 < heavy) prepend(s, from, to, l + 1, heavy, work);
+    if (l + 1 < heavy) prepend(s, l + 1, heavy, work);
 }
 
-size_t windows_length(const uint8_t *p, const uint16_t *pm, size_t m, const uint8_t *q, const uint16_t *qm, size_t length, uint16_t *work) {
-    uint8_t partner[4096];
-    uint16_t steps[4 * 4097];
-    Pair s = {p, partner, q, pm, qm, steps, m};
-    int cur = 0, n = length;
-    for (int j = 0; j < s.m; j++) partner[j] = p[pm[j]];
+void peer_prepare(peer_motif *t, const uint8_t *p, const uint16_t *pm, size_t m) {
+    t->p = p, t->pm = pm, t->m = m;
+    for (int j = 0; j < t->m; j++) t->partner[j] = p[pm[j]];
     for (int c = 0; c < 4; c++) {
         uint8_t y = "ACUG"[c];
-        uint16_t *row = steps + c * (s.m + 1);
-        for (int j = 0; j < s.m; j++) row[j] = unit_entry(p[j], y, pm[j], j);
-        row[s.m] = s.m;
+        uint16_t *row = t->steps + c * (t->m + 1);
+        for (int j = 0; j < t->m; j++) row[j] = unit_entry(p[j], y, pm[j], j);
+        row[t->m] = t->m;
     }
-    for (int i = 0; i < n && cur < s.m; i++) {
+}
+
+// The bounds of the bases from l to `end`, where the motif has come to `from` at l; gives that of `end`.
+static int fill_bounds(peer_motif *t, const uint8_t *q, int from, int l, int end) {
+    int bound = from, m = t->m;
+    for (int i = l; i < end; i++) {
+        t->bounds[i] = bound;
+        bound += bound < m && t->p[bound] == q[i];
+    }
+    return t->bounds[end] = bound;
+}
+
+// Where an unbonded base y takes the motif from k on.
+static int unit(const peer_motif *t, int k, uint8_t y) { return k < t->m && t->pm[k] <= k && t->p[k] == y ? k + 1 : k; }
+
+// How far the motif is taken by the molecule, from base i and position cur on; with `stop`, some number below m where the whole motif cannot be taken.
+static int walk(peer_motif *t, const uint8_t *q, const uint16_t *qm, int n, int i, int cur, uint16_t *work, int stop) {
+    Pair s = {t->p, t->partner, q, t->pm, qm, t->steps, t->bounds, t->m, 0, t->m};
+    int m = t->m;
+    for (; i < n && cur < m; i++) {
+        if (stop && n - i < m - cur) return cur;
         int r = qm[i];
         if (i < r) {
-            int to = smaller(s.m, cur + r + 1 - i);
-            inner_row(&s, cur, to, i, r, work);
-            cur = arc_entry(&s, steps_of(&s, q[r]), to, cur, q[i], q[r], work[cur], work[cur + 1]);
+            int most = fill_bounds(t, q, cur, i, r + 1);
+            if (stop && most + (n - r - 1) < m) return cur;
+            if (cur < most) {
+                s.from = cur;
+                inner_row(&s, i, r, work);
+                cur = arc_entry(&s, steps_of(&s, q[r]), cur, q[i], q[r], work[cur], work[cur + 1]);
+            }
         } else {
-            cur = unit(&s, s.m, cur, q[i]);
+            cur = unit(t, cur, q[i]);
         }
         i = r;
     }
     return cur;
 }
+
+// The tables are made at the first arc.
+size_t windows_length(const uint8_t *p, const uint16_t *pm, size_t m, const uint8_t *q, const uint16_t *qm, size_t length, uint16_t *work) {
+    peer_motif t;
+    int i = 0, cur = 0, n = length;
+    t.p = p, t.pm = pm, t.m = m;
+    for (; i < n && cur < t.m && qm[i] == i; i++) cur = unit(&t, cur, q[i]);
+    if (i == n || cur == t.m) return cur;
+    peer_prepare(&t, p, pm, m);
+    return walk(&t, q, qm, n, i, cur, work, 0);
+}
+
+int windows_embeds(peer_motif *t, const uint8_t *q, const uint16_t *qm, size_t n, uint16_t *work) { return walk(t, q, qm, n, 0, 0, work, 1) == t->m; }

@@ -40,21 +40,9 @@ enum-told c = search needs
 clean-all-requires : tie.Need-clean-all-requires
 clean-all-requires c κs = search needs
 
-slot-requires : tie.Need-slot-requires
-slot-requires c κs =
-    let at-clean-all = c .before .before in
-    let at-enum-told = at-clean-all .before .before in
-    let at-judge-query = at-enum-told .before .before in
-    let at-start = at-judge-query .before .before .before .before .before .before .before .before in
-    let f = ready.query-ready (at-start .args .catalog .now) (at-start .args .cache .now) (strandOf (at-start .args .p .now) (at-start .args .pm .now))
-    (length (at-start .args .work .now)) (length (at-start .args .hits .now))
-    (sym (at-judge-query .judge-query .ensures) ∙ at-enum-told .enum-told .given .1) in
-    (f .0 .motif .small, f .0 .motif .same, omega (arith, f .2, at-clean-all .clean-all .kept .0))
-
 answer-requires : tie.Need-answer-requires
 answer-requires c κs =
-    let at-slot = c .before .before .before in
-    let at-clean-all = at-slot .before .before .before in
+    let at-clean-all = c .before .before .before .before .before in
     let at-enum-told = at-clean-all .before .before in
     let at-judge-query = at-enum-told .before .before in
     let at-start = at-judge-query .before .before .before .before .before .before .before .before in
@@ -62,9 +50,8 @@ answer-requires c κs =
     (length (at-start .args .work .now)) (length (at-start .args .hits .now))
     (sym (at-judge-query .judge-query .ensures) ∙ at-enum-told .enum-told .given .1) in (
       f .0,
-      at-slot .slot .ensures .1,
-      call.slot-sound (at-start .args .cache .now) (at-clean-all .clean-all .last .0) (at-slot .slot .result) (at-clean-all .clean-all .ensures)
-          (omega (arith, at-slot .slot .ensures .1, at-clean-all .clean-all .kept .0)),
+      omega (arith, f .2, at-clean-all .clean-all .kept .0),
+      call.clean-sound (at-start .args .cache .now) (at-clean-all .clean-all .last .0) (at-clean-all .clean-all .ensures),
       f .1,
     )
 
@@ -80,18 +67,16 @@ same-length-4 c = search needs
 returns-2 : tie.Need-returns-2
 returns-2 c =
     let at-answer = c .before .before .before .before .before .before in
-    let at-slot = at-answer .before .before .before .before in
-    let at-clean-all = at-slot .before .before .before in
+    let at-clean-all = at-answer .before .before .before .before .before .before in
     let at-enum-told = at-clean-all .before .before in
     let at-judge-query = at-enum-told .before .before in
     let at-start = at-judge-query .before .before .before .before .before .before .before .before in (
       call.query-done embeds (at-start .args .catalog .now) (at-start .args .cache .now) (strandOf (at-start .args .p .now) (at-start .args .pm .now))
           (length (at-start .args .work .now)) (at-start .args .hits .now) (at-answer .answer .result) _ _ (at-clean-all .clean-all .last .0)
-          (at-slot .slot .result) (sym (at-judge-query .judge-query .ensures) ∙ at-enum-told .enum-told .given .1) (at-clean-all .clean-all .ensures)
-          (at-slot .slot .ensures .0) (at-answer .answer .ensures),
-      rule.work-accepted _ _ _ (sym (at-judge-query .judge-query .ensures) ∙ at-enum-told .enum-told .given .1) (at-answer .answer .kept .1 .1 .1 .1 .1 .0),
+          (sym (at-judge-query .judge-query .ensures) ∙ at-enum-told .enum-told .given .1) (at-clean-all .clean-all .ensures) (at-answer .answer .ensures),
+      rule.work-accepted _ _ _ (sym (at-judge-query .judge-query .ensures) ∙ at-enum-told .enum-told .given .1) (at-answer .answer .kept .1 .1 .1 .1 .0),
     )
 
 pub query-spec : {M : Type 1} → statement M
-query-spec = tie.close (tie.spec judge-query-requires enum-known-verdict same-length returns enum-told clean-all-requires slot-requires answer-requires
-    same-length-2 same-length-3 same-length-4 returns-2)
+query-spec = tie.close (tie.spec judge-query-requires enum-known-verdict same-length returns enum-told clean-all-requires answer-requires same-length-2
+    same-length-3 same-length-4 returns-2)

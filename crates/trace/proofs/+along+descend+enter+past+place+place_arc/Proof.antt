@@ -13,7 +13,8 @@ use Rattle.rows.proofs.Parts.{part-length, back-length}
 use Rattle.lists.specs.Vocabulary.{nth}
 use Rattle.arcs.proofs.Arcs.{inner-sealed, split-left, heavy-end}
 use Rattle.placing.specs.Placing.{Laid}
-use Rattle.placing.proofs.Top.{narrow, best-all, best-end, Walked, walked-none, walked-up, walked-in, walked-step, walked-unit}
+use Rattle.placing.specs.Placing.{Walked}
+use Rattle.placing.proofs.Top.{narrow, best-all, best-end, walked-none, walked-up, walked-in, walked-step, walked-unit}
 use Rattle.placing.proofs.TakeLaws.{laid-none, laid-join, laid-wide, laid-unit}
 use Rattle.placing.proofs.Descent.{but-end, but-take, but-all, but-kept, but-taken, but-rest, but-but, but-to, but-empty, but-filled, but-after}
 use Rattle.placing.proofs.Descent.{around-none}

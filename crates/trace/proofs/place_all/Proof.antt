@@ -6,9 +6,10 @@ use Rattle.trace.proofs.place_all.Tie as tie
 
 place-all-short-requires : tie.Need-place-all-short-requires
 place-all-short-requires c κs =
-    let at-if1 = c .before .before in
+    let at-if2 = c .before .before in
+    let at-if1 = at-if2 .before in
     let at-start = at-if1 .before .before .before .before .before .before .before in
-    (at-start .pre .0, (at-start .pre .1 .0, (at-start .pre .1 .1, at-if1 .if1 .taken)))
+    (at-start .pre .0, (at-start .pre .1 .0, (at-start .pre .1 .1, (at-if1 .if1 .taken, at-if2 .if2 .taken))))
 
 same-length : tie.Need-same-length
 same-length c = search needs
@@ -25,7 +26,7 @@ slice-aggregate-place-all-lent c = search needs
 place-all-lent-requires : tie.Need-place-all-lent-requires
 place-all-lent-requires c κs =
     let at-start = c .before .before .before .before .before .before .before .before .before .before in
-    (at-start .pre .0, (at-start .pre .1 .0, (at-start .pre .1 .1, omega (arith, at-start .pre .0 .window .small))))
+    (at-start .pre .0, (at-start .pre .1 .0, (at-start .pre .1 .1, omega (arith, at-start .pre .0 .window .small, at-start .pre .0 .short))))
 
 same-length-3 : tie.Need-same-length-3
 same-length-3 c = search needs

@@ -1,4 +1,4 @@
--- `trace::place_all_short` meets its contract: the array has room for the tables of 120 bases.
+-- `trace::place_all_short` meets its contract: the array has room for the tables of 120 bases and the bounds of 160.
 use native.Mathlib.Omega.{arith}
 use borrow.Author.Needs.{needs}
 use Rattle.trace.proofs.place_all_short.Statement.{statement}

@@ -4,6 +4,7 @@ use native.Mathlib.Omega.{arith}
 use lib.ListN.{length}
 use borrow.Author.Needs.{needs}
 use Rattle.arcs.proofs.Made.{cut-kept-row}
+use Rattle.arcs.proofs.BoundLaws.{starts-bounded, starts-row}
 use Rattle.placing.proofs.Descent.{room-rest, ready}
 use Rattle.placing.proofs.path.keep.Statement.{statement}
 use Rattle.placing.proofs.path.keep.Tie as tie
@@ -37,10 +38,14 @@ inner-row-requires c κs =
           room-rest _ _ _ _ (at-cut .cut .last .1 .1 .1 .0) (at-start .pre .0 .short) (at-start .pre .1 .1 .0 .1 .0)
               (omega (arith, at-start .pre .1 .1 .1 .1 .0, at-cut .cut .kept .1 .1 .1 .0)),
           (
-            at-start .pre .1 .1 .1 .1 .1,
-            cut-kept-row (length (at-start .args .p .now) + 1) (at-start .args .work .now) (at-cut .cut .last .1 .1 .1 .0) (at-start .pre .1 .1 .1 .0 .low)
-                (at-start .pre .1 .1 .1 .0 .high) (at-start .pre .1 .0) (omega (arith, at-start .pre .1 .1 .1 .1 .0, at-cut .cut .kept .1 .1 .1 .0))
-                (at-start .pre .1 .1 .1 .0 .first-row) (at-cut .cut .ensures),
+            at-start .pre .1 .1 .1 .1 .1 .motif,
+            (
+              starts-bounded (at-start .pre .1 .1 .1 .1 .1) (at-start .pre .0 .window .order) (at-start .pre .0 .window .ends) _ _
+                  (omega (arith, at-start .pre .1 .1 .0)) (omega (arith, at-start .pre .1 .1 .0)),
+              cut-kept-row (length (at-start .args .p .now) + 1) (at-start .args .work .now) (at-cut .cut .last .1 .1 .1 .0) (at-start .pre .1 .1 .1 .0 .low)
+                  (at-start .pre .1 .1 .1 .0 .high) (at-start .pre .1 .0) (omega (arith, at-start .pre .1 .1 .1 .1 .0, at-cut .cut .kept .1 .1 .1 .0))
+                  (at-start .pre .1 .1 .1 .0 .first-row) (at-cut .cut .ensures),
+            ),
           ),
         ),
       ),
@@ -55,7 +60,8 @@ returns c =
     let at-cut = at-inner-row .before .before .before .before in
     let at-start = at-cut .before .before .before .before .before .before .before .before in
     ready (at-inner-row .inner-row .last .1 .1 .1 .1 .1 .1 .1 .1 .1 .1 .0) (omega (arith, at-start .pre .1 .1 .1 .1 .0, at-cut .cut .kept .1 .1 .1 .0))
-    (at-cut .cut .ensures) (at-inner-row .inner-row .ensures)
+    (at-cut .cut .ensures)
+    (starts-row (at-start .pre .1 .1 .1 .1 .1) (at-start .pre .0 .window .ends) (omega (arith, at-start .pre .1 .1 .0)) (at-inner-row .inner-row .ensures))
 
 pub keep-spec : {M : Type 1} → statement M
 keep-spec = tie.close (tie.spec add-w cut-requires mul-rest sub-rest part-rest-start part-rest-end inner-row-requires same-length returns)

@@ -3,6 +3,7 @@ use Prim.Native.Nat.{_-_}
 use native.Mathlib.Omega.{arith}
 use borrow.Author.Needs.{needs}
 use Rattle.arcs.proofs.Made.{no-kept-row}
+use Rattle.arcs.proofs.BoundLaws.{starts-bounded, starts-row}
 use Rattle.arcs.proofs.Arcs.{room-any}
 use Rattle.placing.proofs.Top.{window-low, window-high, window-of}
 use Rattle.placing.proofs.Descent.{taken-at}
@@ -29,7 +30,28 @@ inner-row-requires c κs =
           (at-start .pre .1 .1 .0 .1 .1),
       (
         at-start .pre .1 .1 .0,
-        (room-any (omega (arith, at-start .pre .0 .short, at-start .pre .1 .1 .0)) (at-start .pre .1 .1 .1 .0), (at-start .pre .1 .1 .1 .1, no-kept-row _)),
+        (
+          room-any (omega (arith, at-start .pre .0 .short, at-start .pre .1 .1 .0)) (at-start .pre .1 .1 .1 .0),
+          (
+            at-start .pre .1 .1 .1 .1 .motif,
+            (
+              starts-bounded (at-start .pre .1 .1 .1 .1)
+                  (omega (
+                    arith,
+                    window-low _ _ _ (at-start .pre .0) (at-start .pre .1 .0 .0) (at-smaller .smaller .ensures) (at-start .pre .1 .1 .0 .0)
+                        (at-start .pre .1 .1 .0 .1 .0) (at-start .pre .1 .1 .0 .1 .1),
+                  ))
+                  (omega (
+                    arith,
+                    window-high _ _ _ (at-start .pre .0) (at-start .pre .1 .0 .0) (at-smaller .smaller .ensures) (at-start .pre .1 .1 .0 .0)
+                        (at-start .pre .1 .1 .0 .1 .0) (at-start .pre .1 .1 .0 .1 .1),
+                    at-start .pre .0 .window .ends,
+                  )) _ _
+                  (omega (arith, at-start .pre .1 .1 .0)) (omega (arith, at-start .pre .1 .1 .0)),
+              no-kept-row _,
+            ),
+          ),
+        ),
       ),
     )
 
@@ -81,7 +103,7 @@ write-take-requires c κs =
             at-start .pre .1 .0 .1,
           ),
         ),
-        ((at-start .pre .1 .1 .0 .0, (at-start .pre .1 .1 .0 .1 .0, at-start .pre .0 .short)), at-start .pre .1 .1 .1 .1),
+        ((at-start .pre .1 .1 .0 .0, (at-start .pre .1 .1 .0 .1 .0, at-start .pre .0 .short)), at-start .pre .1 .1 .1 .1 .motif),
       ),
     )
 
@@ -98,7 +120,14 @@ returns c =
     let at-smaller = at-inner-row .before .before in
     let at-start = at-smaller .before .before .before .before .before .before .before .before in (
       taken-at _ _ _ _ (at-start .pre .0) (at-start .pre .1 .0 .0) (at-smaller .smaller .ensures) (at-start .pre .1 .1 .0 .0) (at-start .pre .1 .1 .0 .1 .0)
-          (at-start .pre .1 .1 .0 .1 .1) (at-inner-row .inner-row .ensures) (at-write-take .write-take .ensures .0),
+          (at-start .pre .1 .1 .0 .1 .1)
+          (starts-row (at-start .pre .1 .1 .1 .1) (omega (
+            arith,
+            window-high _ _ _ (at-start .pre .0) (at-start .pre .1 .0 .0) (at-smaller .smaller .ensures)
+                (at-start .pre .1 .1 .0 .0) (at-start .pre .1 .1 .0 .1 .0) (at-start .pre .1 .1 .0 .1 .1),
+            at-start .pre .0 .window .ends,
+          ))
+          (omega (arith, at-start .pre .1 .1 .0)) (at-inner-row .inner-row .ensures)) (at-write-take .write-take .ensures .0),
       at-write-take .write-take .ensures .1,
     )
 

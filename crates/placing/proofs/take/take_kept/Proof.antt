@@ -41,7 +41,10 @@ write-take-requires : tie.Need-write-take-requires
 write-take-requires c κs =
     let at-start = c .before .before .before .before .before .before .before .before .before .before .before .before .before .before in (
       (at-start .pre .0 .window .same, (at-start .pre .0 .window .ends, omega (arith, at-start .pre .0 .window .ends, at-start .pre .0 .window .small))),
-      (at-start .pre .1 .1 .0, ((at-start .pre .1 .1 .1 .0 .0, (at-start .pre .1 .1 .1 .0 .1 .0, at-start .pre .0 .short)), at-start .pre .1 .1 .1 .1 .1 .1)),
+      (
+        at-start .pre .1 .1 .0,
+        ((at-start .pre .1 .1 .1 .0 .0, (at-start .pre .1 .1 .1 .0 .1 .0, at-start .pre .0 .short)), at-start .pre .1 .1 .1 .1 .1 .1 .motif),
+      ),
     )
 
 same-length : tie.Need-same-length

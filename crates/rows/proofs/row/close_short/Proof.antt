@@ -13,11 +13,11 @@ use Rattle.rows.proofs.row.close_short.Statement.{statement}
 use Rattle.rows.proofs.row.close_short.Tie as tie
 
 abbrev Inv-loop : tie.InvT-loop
-Inv-loop p pm tables steps from to x y row₀ j₀ row j = (from ≤ j) × (j ≤ to)
+Inv-loop p pm tables steps from end to x y row₀ j₀ row j = (from ≤ j) × (j ≤ end)
     × Written (λ k. max (min (nth steps (nth row₀ k)) to) (overAt (matches p x) (matches p y) (nth pm) to (nth row₀ (k + 1)) k)) row₀ row from j
 
 abbrev μ-loop : tie.MeasureT-loop
-μ-loop p pm tables steps from to x y row₀ j₀ row j = to - j
+μ-loop p pm tables steps from end to x y row₀ j₀ row j = end - j
 
 loop-holds : tie.Need-loop-holds Inv-loop μ-loop
 loop-holds c = (omega arith, omega arith, pass-none _ _ _)
@@ -30,36 +30,30 @@ slice-read-k c = omega (arith, c .before .before .loop .inv .2 .long)
 
 cast-k : tie.Need-cast-k Inv-loop μ-loop
 cast-k c =
-    let at-loop = c .before .before in
+    let at-loop-test = c .before in
+    let at-loop = at-loop-test .before in
     let at-start = at-loop .before .before .before .before .before .before in
-    omega (
-      arith,
-      passes.short-index (matches (at-start .args .p .now) (at-start .args .x)) (matches (at-start .args .p .now) (at-start .args .y))
-          (nth (at-start .args .pm .now)) _ (at-start .args .steps .now) _ _ _ _ (at-loop .loop .inv .2) (at-loop .loop .inv .0) (at-loop .loop .inv .1)
-          (at-start .pre .1 .1 .1 .1),
-    )
+    omega (arith, passes.index-up-to _ _ _ _ _ _ _ (at-loop .loop .inv .2) (at-loop .loop .inv .0) (at-loop-test .loop-test .taken) (at-start .pre .1 .1 .1 .1))
 
 mul-capped : tie.Need-mul-capped Inv-loop μ-loop
 mul-capped c =
-    let at-loop = c .before .before in
+    let at-loop-test = c .before in
+    let at-loop = at-loop-test .before in
     let at-start = at-loop .before .before .before .before .before .before in
     omega (
       arith,
-      passes.short-index (matches (at-start .args .p .now) (at-start .args .x)) (matches (at-start .args .p .now) (at-start .args .y))
-          (nth (at-start .args .pm .now)) _ (at-start .args .steps .now) _ _ _ _ (at-loop .loop .inv .2) (at-loop .loop .inv .0) (at-loop .loop .inv .1)
-          (at-start .pre .1 .1 .1 .1),
+      passes.index-up-to _ _ _ _ _ _ _ (at-loop .loop .inv .2) (at-loop .loop .inv .0) (at-loop-test .loop-test .taken) (at-start .pre .1 .1 .1 .1),
       at-start .pre .1 .1 .0 .long,
     )
 
 shared-slice-read-capped : tie.Need-shared-slice-read-capped Inv-loop μ-loop
 shared-slice-read-capped c =
-    let at-loop = c .before .before .before in
+    let at-loop-test = c .before .before in
+    let at-loop = at-loop-test .before in
     let at-start = at-loop .before .before .before .before .before .before in
     omega (
       arith,
-      passes.short-index (matches (at-start .args .p .now) (at-start .args .x)) (matches (at-start .args .p .now) (at-start .args .y))
-          (nth (at-start .args .pm .now)) _ (at-start .args .steps .now) _ _ _ _ (at-loop .loop .inv .2) (at-loop .loop .inv .0) (at-loop .loop .inv .1)
-          (at-start .pre .1 .1 .1 .1),
+      passes.index-up-to _ _ _ _ _ _ _ (at-loop .loop .inv .2) (at-loop .loop .inv .0) (at-loop-test .loop-test .taken) (at-start .pre .1 .1 .1 .1),
       at-start .pre .1 .1 .0 .long,
     )
 
@@ -68,16 +62,14 @@ cast-capped c = omega arith
 
 capped-requires : tie.Need-capped-requires Inv-loop μ-loop
 capped-requires c κs =
-    let at-loop = c .before .before .before in
+    let at-loop-test = c .before .before in
+    let at-loop = at-loop-test .before in
     let at-start = at-loop .before .before .before .before .before .before in
     omega (
       arith,
-      passes.short-index (matches (at-start .args .p .now) (at-start .args .x)) (matches (at-start .args .p .now) (at-start .args .y))
-          (nth (at-start .args .pm .now)) _ (at-start .args .steps .now) _ _ _ _ (at-loop .loop .inv .2) (at-loop .loop .inv .0) (at-loop .loop .inv .1)
-          (at-start .pre .1 .1 .1 .1),
-      at-start .pre .1 .1 .0 .high _ (passes.short-index (matches (at-start .args .p .now) (at-start .args .x))
-          (matches (at-start .args .p .now) (at-start .args .y)) (nth (at-start .args .pm .now)) _ (at-start .args .steps .now) _ _ _ _ (at-loop .loop .inv .2)
-          (at-loop .loop .inv .0) (at-loop .loop .inv .1) (at-start .pre .1 .1 .1 .1)),
+      passes.index-up-to _ _ _ _ _ _ _ (at-loop .loop .inv .2) (at-loop .loop .inv .0) (at-loop-test .loop-test .taken) (at-start .pre .1 .1 .1 .1),
+      at-start .pre .1 .1 .0 .high _
+          (passes.index-up-to _ _ _ _ _ _ _ (at-loop .loop .inv .2) (at-loop .loop .inv .0) (at-loop-test .loop-test .taken) (at-start .pre .1 .1 .1 .1)),
     )
 
 shared-slice-read-over-entry : tie.Need-shared-slice-read-over-entry Inv-loop μ-loop
@@ -152,7 +144,7 @@ loop-again c =
       pass-set _ _ _ _ _ _ (at-loop .loop .inv .2) (at-loop .loop .inv .0) (omega arith) (passes.short-step
           (matches (at-start .args .p .now) (at-start .args .x)) (matches (at-start .args .p .now) (at-start .args .y)) (nth (at-start .args .pm .now))
           (at-start .args .to) (at-start .args .steps .now) (at-start .args .row .now) (at-loop .loop .row) (at-start .args .from) (at-loop .loop .j)
-          (at-loop .loop .inv .2) _ _ _ (lettersMatch _ _) (at-loop-test .loop-test .taken) (at-capped .capped .ensures)
+          (at-loop .loop .inv .2) _ _ _ (lettersMatch _ _) (omega (arith, at-loop-test .loop-test .taken)) (at-capped .capped .ensures)
           (ap (λ (b : ℕ). lettersMatch b (at-start .args .y)) (at-start .pre .1 .0 .letter (at-loop .loop .j) (omega arith)))
           (at-over-entry .over-entry .ensures) (c .larger .ensures)),
     )

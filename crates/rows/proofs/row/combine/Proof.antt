@@ -2,31 +2,32 @@
 -- written: the first row's entry for j stands at j or later, and its value is j or more.
 use mathlib.Core.Path.{_≡_}
 use mathlib.Core.List.{List}
-use Prim.Native.Nat.{ℕ, _+_, _-_, _≤_}
+use Prim.Native.Nat.{ℕ, _+_, _-_, _≤_, _<_}
 use native.Mathlib.Omega.{arith}
+use lib.ListN.{length}
 use Rattle.lists.specs.Vocabulary.{nth}
 use Rattle.rows.specs.Rows.{Written}
 use Rattle.rows.proofs.Pass.{pass-none, pass-set, pass-end}
 use Rattle.rows.proofs.row.combine.Statement.{statement}
 use Rattle.rows.proofs.row.combine.Tie as tie
 
-module _ (row₀ row : List ℕ) (from to first then j : ℕ) (lo : from ≤ j) (hi : j ≤ to)
-    (r : (j : ℕ) → from ≤ j → j ≤ to → (j ≤ nth row₀ (first + j)) × (nth row₀ (first + j) ≤ to))
+module _ (row₀ row : List ℕ) (from last first then j : ℕ) (lo : from ≤ j) (hi : j ≤ last)
+    (r : (j : ℕ) → from ≤ j → j ≤ last → (j ≤ nth row₀ (first + j)) × (then + nth row₀ (first + j) < length row₀))
     (w : Written (λ j. nth row₀ (then + nth row₀ (first + j))) row₀ row from j) where
   index : nth row (first + j) ≡ nth row₀ (first + j)
   index = w .past (first + j) (omega arith)
 
-  index-high : nth row (first + j) ≤ to
+  index-high : then + nth row (first + j) < length row₀
   index-high = omega (arith, index, r j lo hi)
 
   entry : nth row (then + nth row (first + j)) ≡ nth row₀ (then + nth row₀ (first + j))
   entry = rw index (w .past (then + nth row₀ (first + j)) (omega (arith, r j lo hi)))
 
 abbrev Inv-loop : tie.InvT-loop
-Inv-loop from to first then row₀ j₀ row j = (from ≤ j) × (j ≤ to + 1) × Written (λ k. nth row₀ (then + nth row₀ (first + k))) row₀ row from j
+Inv-loop from last first then row₀ j₀ row j = (from ≤ j) × (j ≤ last + 1) × Written (λ k. nth row₀ (then + nth row₀ (first + k))) row₀ row from j
 
 abbrev μ-loop : tie.MeasureT-loop
-μ-loop from to first then row₀ j₀ row j = to + 1 - j
+μ-loop from last first then row₀ j₀ row j = last + 1 - j
 
 loop-holds : tie.Need-loop-holds Inv-loop μ-loop
 loop-holds c = (omega arith, omega arith, pass-none _ _ _)

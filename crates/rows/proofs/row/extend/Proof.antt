@@ -4,7 +4,7 @@ use Prim.Native.Nat.{ℕ}
 use native.Mathlib.Omega.{arith}
 use mathlib.Core.Path.{ap}
 use Rattle.lists.specs.Vocabulary.{nth}
-use Rattle.rows.proofs.Pass.{pass-as}
+use Rattle.rows.proofs.Pass.{pass-as, pass-end}
 use Rattle.rows.proofs.TableLaws as tables
 use Rattle.rows.proofs.Parts.{part}
 use Rattle.rows.proofs.row.extend.Statement.{statement}
@@ -12,6 +12,9 @@ use Rattle.rows.proofs.row.extend.Tie as tie
 
 steps-at-requires : tie.Need-steps-at-requires
 steps-at-requires c κs = search needs
+
+end-of-requires : tie.Need-end-of-requires
+end-of-requires c κs = search needs
 
 mul-extend-by : tie.Need-mul-extend-by
 mul-extend-by c = search needs
@@ -27,10 +30,10 @@ part-extend-by-end c = search needs
 
 extend-by-requires : tie.Need-extend-by-requires
 extend-by-requires c κs =
-    let at-steps-at = c .before .before in
+    let at-steps-at = c .before .before .before in
     let at-start = at-steps-at .before .before .before .before .before in (
       (omega arith, (omega arith, omega arith)),
-      tables.steps-of _ _ _ _ _ _ (at-start .pre .1 .0) (at-start .pre .1 .1 .0) (at-steps-at .steps-at .ensures .0) (at-start .pre .0 .ends),
+      tables.steps-of _ _ _ _ _ _ (at-start .pre .1 .1 .0) (at-start .pre .1 .1 .1 .0) (at-steps-at .steps-at .ensures .0) (omega arith),
     )
 
 same-length : tie.Need-same-length
@@ -39,11 +42,14 @@ same-length c = search needs
 returns : tie.Need-returns
 returns c =
     let at-extend-by = c .before .before in
-    let at-steps-at = at-extend-by .before .before .before in
+    let at-end-of = at-extend-by .before .before .before in
+    let at-steps-at = at-end-of .before in
     let at-start = at-steps-at .before .before .before .before .before in
-    pass-as (λ (j : ℕ). nth (at-start .args .row .now) (nth (part (at-steps-at .steps-at .result) (at-start .args .tables .now)) j)) _ _ _ _ _
-    (at-extend-by .extend-by .ensures) (λ k h. ap (nth (at-start .args .row .now))
-    (tables.step-unit _ _ _ _ _ _ (at-start .pre .1 .0) (at-start .pre .1 .1 .0) (at-steps-at .steps-at .ensures .0) (at-start .pre .0 .ends) k h))
+    pass-end _ _ _ _ _ _ (pass-as (λ (j : ℕ). nth (at-start .args .row .now) (nth (part (at-steps-at .steps-at .result) (at-start .args .tables .now)) j)) _ _ _
+    _ _ (at-extend-by .extend-by .ensures) (λ k h. ap (nth (at-start .args .row .now)) (tables.step-unit _ _ _ _ _ _ (at-start .pre .1 .1 .0)
+    (at-start .pre .1 .1 .1 .0) (at-steps-at .steps-at .ensures .0) (at-start .pre .0 .ends) k (omega (arith, at-end-of .end-of .ensures)))))
+    (omega (arith, at-end-of .end-of .ensures)) (omega (arith, at-end-of .end-of .ensures))
 
 pub extend-spec : {M : Type 1} → statement M
-extend-spec = tie.close (tie.spec steps-at-requires mul-extend-by sub-extend-by part-extend-by-start part-extend-by-end extend-by-requires same-length returns)
+extend-spec = tie.close (tie.spec steps-at-requires end-of-requires mul-extend-by sub-extend-by part-extend-by-start part-extend-by-end extend-by-requires
+    same-length returns)

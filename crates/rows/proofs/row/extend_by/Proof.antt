@@ -11,10 +11,10 @@ use Rattle.rows.proofs.row.extend_by.Statement.{statement}
 use Rattle.rows.proofs.row.extend_by.Tie as tie
 
 abbrev Inv-loop : tie.InvT-loop
-Inv-loop steps from to row₀ j₀ row j = (from ≤ j) × (j ≤ to) × Written (λ k. nth row₀ (nth steps k)) row₀ row from j
+Inv-loop steps from end row₀ j₀ row j = (from ≤ j) × (j ≤ end) × Written (λ k. nth row₀ (nth steps k)) row₀ row from j
 
 abbrev μ-loop : tie.MeasureT-loop
-μ-loop steps from to row₀ j₀ row j = to - j
+μ-loop steps from end row₀ j₀ row j = end - j
 
 loop-holds : tie.Need-loop-holds Inv-loop μ-loop
 loop-holds c = (omega arith, omega arith, pass-none _ _ _)

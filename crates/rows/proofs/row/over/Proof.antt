@@ -14,11 +14,11 @@ use Rattle.rows.proofs.row.over.Statement.{statement}
 use Rattle.rows.proofs.row.over.Tie as tie
 
 abbrev Inv-loop : tie.InvT-loop
-Inv-loop p pm tables from to x y at row₀ j₀ row j = (from ≤ j) × (j ≤ to)
+Inv-loop p pm tables from end to x y at row₀ j₀ row j = (from ≤ j) × (j ≤ end)
     × Written (λ k. overAt (matches p x) (matches p y) (nth pm) to (nth row₀ (k - at + 1)) (k - at)) row₀ row (at + from) (at + j)
 
 abbrev μ-loop : tie.MeasureT-loop
-μ-loop p pm tables from to x y at row₀ j₀ row j = to - j
+μ-loop p pm tables from end to x y at row₀ j₀ row j = end - j
 
 loop-holds : tie.Need-loop-holds Inv-loop μ-loop
 loop-holds c = (omega arith, omega arith, pass-none _ _ _)
@@ -91,7 +91,7 @@ loop-again c =
       omega arith,
       omega arith,
       passes.set-at _ _ _ _ _ _ _ (at-loop .loop .inv .2) (at-loop .loop .inv .0) (omega (arith, at-loop-test .loop-test .taken)) (passes.over-step _ _ _ _ _ _
-          _ _ _ _ (at-loop .loop .inv .2) (at-loop-test .loop-test .taken) (omega arith) _
+          _ _ _ _ (at-loop .loop .inv .2) (omega (arith, at-loop-test .loop-test .taken)) (omega arith) _
           (ap (λ (b : ℕ). lettersMatch b (at-start .args .y)) (at-start .pre .1 .0 .letter _ (omega arith))) (c .over-entry .ensures)),
     )
 

@@ -10,10 +10,10 @@ use Rattle.rows.proofs.row.raise.Statement.{statement}
 use Rattle.rows.proofs.row.raise.Tie as tie
 
 abbrev Inv-loop : tie.InvT-loop
-Inv-loop from to at row₀ j₀ row j = (from ≤ j) × (j ≤ to) × Written (λ k. max (min (nth row₀ k) to) (nth row₀ (at + k))) row₀ row from j
+Inv-loop from end to at row₀ j₀ row j = (from ≤ j) × (j ≤ end) × Written (λ k. max (min (nth row₀ k) to) (nth row₀ (at + k))) row₀ row from j
 
 abbrev μ-loop : tie.MeasureT-loop
-μ-loop from to at row₀ j₀ row j = to - j
+μ-loop from end to at row₀ j₀ row j = end - j
 
 loop-holds : tie.Need-loop-holds Inv-loop μ-loop
 loop-holds c = (omega arith, omega arith, pass-none _ _ _)

@@ -9,10 +9,10 @@ use Rattle.rows.proofs.row.step.Statement.{statement}
 use Rattle.rows.proofs.row.step.Tie as tie
 
 abbrev Inv-loop : tie.InvT-loop
-Inv-loop steps from to row₀ j₀ row j = (from ≤ j) × (j ≤ to) × Written (λ k. nth steps (nth row₀ k)) row₀ row from j
+Inv-loop steps from end row₀ j₀ row j = (from ≤ j) × (j ≤ end) × Written (λ k. nth steps (nth row₀ k)) row₀ row from j
 
 abbrev μ-loop : tie.MeasureT-loop
-μ-loop steps from to row₀ j₀ row j = to - j
+μ-loop steps from end row₀ j₀ row j = end - j
 
 loop-holds : tie.Need-loop-holds Inv-loop μ-loop
 loop-holds c = (omega arith, omega arith, pass-none _ _ _)
@@ -25,31 +25,32 @@ slice-read-k c = omega (arith, c .before .before .loop .inv .2 .long)
 
 cast-k : tie.Need-cast-k Inv-loop μ-loop
 cast-k c =
-    let at-loop = c .before .before in
+    let at-loop-test = c .before in
+    let at-loop = at-loop-test .before in
     let at-start = at-loop .before in
     omega (
       arith,
-      passes.step-index (at-start .args .steps .now) _ _ _ _ _ (at-loop .loop .inv .2) (at-loop .loop .inv .0) (at-loop .loop .inv .1) (at-start .pre .1 .1),
+      passes.index-before _ _ _ _ _ _ _ (at-loop .loop .inv .2) (at-loop .loop .inv .0) (at-loop-test .loop-test .taken) (at-start .pre .1),
     )
 
 mul-row : tie.Need-mul-row Inv-loop μ-loop
 mul-row c =
-    let at-loop = c .before .before in
+    let at-loop-test = c .before in
+    let at-loop = at-loop-test .before in
     let at-start = at-loop .before in
     omega (
       arith,
-      passes.step-index (at-start .args .steps .now) _ _ _ _ _ (at-loop .loop .inv .2) (at-loop .loop .inv .0) (at-loop .loop .inv .1) (at-start .pre .1 .1),
-      at-start .pre .1 .0 .long,
+      passes.index-before _ _ _ _ _ _ _ (at-loop .loop .inv .2) (at-loop .loop .inv .0) (at-loop-test .loop-test .taken) (at-start .pre .1),
     )
 
 shared-slice-read-row : tie.Need-shared-slice-read-row Inv-loop μ-loop
 shared-slice-read-row c =
-    let at-loop = c .before .before .before in
+    let at-loop-test = c .before .before in
+    let at-loop = at-loop-test .before in
     let at-start = at-loop .before in
     omega (
       arith,
-      passes.step-index (at-start .args .steps .now) _ _ _ _ _ (at-loop .loop .inv .2) (at-loop .loop .inv .0) (at-loop .loop .inv .1) (at-start .pre .1 .1),
-      at-start .pre .1 .0 .long,
+      passes.index-before _ _ _ _ _ _ _ (at-loop .loop .inv .2) (at-loop .loop .inv .0) (at-loop-test .loop-test .taken) (at-start .pre .1),
     )
 
 mul-row-2 : tie.Need-mul-row-2 Inv-loop μ-loop
@@ -70,8 +71,8 @@ loop-again c =
     let at-start = at-loop .before in (
       omega arith,
       omega arith,
-      pass-set _ _ _ _ _ _ (at-loop .loop .inv .2) (at-loop .loop .inv .0) (omega arith) (passes.step-step (at-start .args .steps .now) _ _ _ _ _
-          (at-loop .loop .inv .2) (at-loop .loop .inv .0) (at-loop .loop .inv .1) (at-start .pre .1 .1)),
+      pass-set _ _ _ _ _ _ (at-loop .loop .inv .2) (at-loop .loop .inv .0) (omega arith)
+          (passes.step-step _ (at-start .args .steps .now) _ _ _ _ (at-loop .loop .inv .2)),
     )
 
 same-length : tie.Need-same-length Inv-loop μ-loop
