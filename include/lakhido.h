@@ -29,7 +29,7 @@ extern "C" {
 #endif
 
 /* The version of this file and of the library. */
-#define LAKHIDO_VERSION "0.1.0"
+#define LAKHIDO_VERSION "0.2.0"
 
 /* Lengths of strands: 1 to LAKHIDO_MOST bases for check, length, show and verify; 1 to LAKHIDO_MOLECULE_MOST for a molecule of the catalog;
  * 1 to LAKHIDO_MOTIF_MOST for the motif of a query. */
@@ -76,22 +76,30 @@ enum lakhido_refusal {
 /* The side of a refusal. */
 enum lakhido_side { LAKHIDO_MOTIF = 0, LAKHIDO_MOLECULE = 1, LAKHIDO_NEITHER = 2 };
 
-/* What a call answers. Refused: refusal, side and place, and 0 in `value` and `searched`. Accepted: 0 in refusal, side and place, and in
- * `value` and `searched` what the call says; 0 where it says nothing. */
+/* What a call answers. Refused: refusal, side and place, and 0 in the other fields. Accepted: 0 in refusal, side and place, and in the other
+ * fields what the call says; 0 where it says nothing.
+ *
+ * `arcs` and `depth` are the molecule's, never the motif's, in check, length, show, verify (where `value` is 1 and where it is 0) and add; remove
+ * and query have 0 there. `arcs` is how many arcs the molecule has, `depth` how deep they lie: the largest number of arcs of which each lies
+ * inside the one before. One arc has depth 1, arcs side by side are as deep as the deepest of them, and without arcs the depth is 0. */
 typedef struct lakhido_answer {
     size_t refusal;
     size_t side;
     size_t place;
     size_t value;
     size_t searched;
+    size_t arcs;
+    size_t depth;
 } lakhido_answer;
 
 /* Accepts a nested molecule of 1 to LAKHIDO_MOST bases.
+ * arcs, depth: those of the molecule.
  * Refused by: 1 to 7 of the molecule. */
 lakhido_answer lakhido_check(const uint8_t *bases, size_t bases_length, const uint16_t *mates, size_t mates_length);
 
 /* value: the length L of the longest closed prefix of the motif that embeds in the molecule. (Closed: no arc of the motif has one end in the
  * prefix and one outside.) It is the motif's length exactly when the motif embeds.
+ * arcs, depth: those of the molecule.
  * An accepted call leaves anything in `work`.
  * Refused by: 1 to 7 of the motif, 1 to 7 of the molecule, 8. */
 lakhido_answer lakhido_length(const uint8_t *motif_bases, size_t motif_bases_length, const uint16_t *motif_mates, size_t motif_mates_length,
@@ -100,6 +108,7 @@ lakhido_answer lakhido_length(const uint8_t *motif_bases, size_t motif_bases_len
 
 /* value: L, as lakhido_length. Writes the position of each of the prefix's L bases in an embedding to the first L entries of `places`, and
  * keeps the later ones. `places` has at least as many entries as the motif has bases.
+ * arcs, depth: those of the molecule.
  * An accepted call leaves anything in `work`.
  * Refused by: 1 to 7 of the motif, 1 to 7 of the molecule, 9, 8. */
 lakhido_answer lakhido_show(const uint8_t *motif_bases, size_t motif_bases_length, const uint16_t *motif_mates, size_t motif_mates_length,
@@ -108,12 +117,14 @@ lakhido_answer lakhido_show(const uint8_t *motif_bases, size_t motif_bases_lengt
 
 /* value: 1 where `places` is an embedding of the whole motif in the molecule, else 0. `places` has as many entries as the motif has bases, each
  * any number: a place past the molecule's end gives 0 and is not refused.
+ * arcs, depth: those of the molecule, whatever `value` is.
  * Refused by: 1 to 7 of the motif, 1 to 7 of the molecule, 9. */
 lakhido_answer lakhido_verify(const uint8_t *motif_bases, size_t motif_bases_length, const uint16_t *motif_mates, size_t motif_mates_length,
                               const uint8_t *bases, size_t bases_length, const uint16_t *mates, size_t mates_length, const uint16_t *places,
                               size_t places_length);
 
 /* Writes a molecule of 1 to LAKHIDO_MOLECULE_MOST bases to block `number` of the catalog, and zeroes every unsound block of the cache.
+ * arcs, depth: those of the molecule.
  * Refused by: 10, 11, 12, 13, then 1 to 7 of the molecule. */
 lakhido_answer lakhido_add(uint8_t *catalog, size_t catalog_length, uint8_t *cache, size_t cache_length, size_t number, const uint8_t *bases,
                            size_t bases_length, const uint16_t *mates, size_t mates_length);

@@ -1,16 +1,16 @@
 """For tests alone: the lines that catalog_test reads, and what it must write. `tools/verify-cases` writes the files.
 
 The columns of a line are described in crates/catalog_test/src/main.rt. The answers of the cases are written here by hand, from the table of
-refusals and its order; those of random calls come from the reference model of `Random`. `Model` must give the same answers, and says what
-bytes and hits a call leaves.
+refusals and its order, and for an add from 02, (i); those of random calls come from the reference model of `Random`. `Model` must give the
+same answers, and says what bytes and hits a call leaves.
 """
 import collections
 import functools
 
 import lakhido_model
-from lakhido_model import (BLOCK, CHECKSUM_AT, ENTRY, HITS_AT, LONGEST_MOLECULE, LONGEST_MOTIF, MOLECULE, MOST_BLOCKS, MOST_SLOTS, SEARCHED_AT,
+from lakhido_model import (BLOCK, CHECKSUM_AT, ENTRY, FOLDED, HITS_AT, LONGEST_MOLECULE, LONGEST_MOTIF, MOLECULE, MOST_BLOCKS, MOST_SLOTS, SEARCHED_AT,
                            decode, encode, forget, has_bit, key, seal, set_bit, work_size)
-from testing_crate import ROW, after, found, is_refused, refused, total
+from testing_crate import ROW, after, folded, found, is_refused, refused, total
 
 LARGEST = 9999999  # the field that means the largest number of all
 CACHE = (MOST_BLOCKS + 1) * BLOCK  # where the cache begins in the buffer of the test program
@@ -34,14 +34,17 @@ def count(kind, answer):
         COUNTS['searches'] += answer % 10000
     else:
         COUNTS['accepted'] += 1
+        COUNTS['arcs'] += answer // 10000 % 10000
+        COUNTS['depths'] += answer % 10000
 
 
 def group(name):
     """Ends a group: its line, and what the test program writes of its counts."""
     say('G %02d %s' % (len(name), name))
     rows = sorted(row for row in COUNTS if isinstance(row, int))
-    TOLD.append('%s: wrong 0; adds and removes %d, queries %d with hits %d and searches %d; bytes set %d; refused by row%s\n' % (
-        name, *(COUNTS[k] for k in ('accepted', 'queries', 'hits', 'searches', 'bytes')), ''.join(' %d:%d' % (row, COUNTS[row]) for row in rows)))
+    told = ('accepted', 'arcs', 'depths', 'queries', 'hits', 'searches', 'bytes')
+    TOLD.append('%s: wrong 0; adds and removes %d with arcs %d and depths %d, queries %d with hits %d and searches %d; bytes set %d; refused by row%s\n' % (
+        name, *(COUNTS[k] for k in told), ''.join(' %d:%d' % (row, COUNTS[row]) for row in rows)))
     COUNTS.clear()
 
 
@@ -66,6 +69,7 @@ def strand_refusal(bases, mates, side, longest):
 
 embeds = functools.cache(lakhido_model.embeds)
 sound = functools.cache(lakhido_model.sound)
+fold = functools.cache(lakhido_model.fold)
 
 
 class Model:
@@ -147,6 +151,7 @@ class Model:
             self.tidy(kind, d, cache // BLOCK)
             if kind == 'A':
                 self.put(d, encode(MOLECULE, bases, mates))
+                v = folded(*fold(tuple(mates)))
             elif kind == 'R':
                 self.put(d, bytes(BLOCK))
             else:
@@ -189,7 +194,7 @@ class World:
         MODEL.__init__()
         line('N')
 
-    def add(self, d, bases, mates, answer=0, note='', cat=None, cache=None):
+    def add(self, d, bases, mates, answer, note='', cat=None, cache=None):
         line('A', d, self.cat if cat is None else cat, self.cache if cache is None else cache, answer=answer, bases=bases, mates=mates, note=note)
 
     def remove(self, d, answer=0, note='', cat=None, cache=None):
@@ -239,7 +244,7 @@ def buffers(call):
 
 def rows_of_add():
     w = World(2, 1)
-    w.add(0, 'A', '0', note='0 is held, 1 is not')
+    w.add(0, 'A', '0', folded(0, 0), '0 is held, 1 is not')
     w.query('A', '0', found(1, 1), 'an entry in the cache')
     buffers(lambda answer, note, **lens: w.add(1, 'GC', '10', answer, note, **lens))
     w.add(2, 'GC', '10', refused(12, 2), 'row 12')
@@ -261,7 +266,7 @@ def rows_of_add():
 def rows_of_remove():
     w = World(2, 1)
     w.remove(0, refused(14, 2), 'row 14, zeroed')
-    w.add(0, 'A', '0')
+    w.add(0, 'A', '0', folded(0, 0))
     w.query('A', '0', found(1, 1), 'an entry in the cache')
     buffers(lambda answer, note, **lens: w.remove(0, answer, note, **lens))
     w.remove(1, refused(14, 2), 'row 14')
@@ -277,7 +282,7 @@ def rows_of_remove():
 
 def rows_of_query():
     w = World(2, 1)
-    w.add(0, 'A', '0')
+    w.add(0, 'A', '0', folded(0, 0))
     w.query('A', '0', found(1, 1), 'an entry in the cache')
     buffers(lambda answer, note, **lens: w.query('A', '0', answer, note, **lens))
     strands(lambda bases, mates, answer, note: w.query(bases, mates, answer, note), 0, 121)
@@ -302,7 +307,7 @@ def unsound_blocks():
                        (32, 65, 'base 4'),
                        (187, 1, 'base 159'), (188, 9, 'a mate too large'), (188, 1, 'not mutual'), (196, 1, 'mate 4'), (507, 1, 'byte 507')):
         w = World(2, 1)
-        w.add(1, 'ACGU', '3210')
+        w.add(1, 'ACGU', '3210', folded(2, 2))
         set_byte('U', BLOCK + i, v, note)
         w.query('A', '0', refused(11, 2, 1), note)
         w.remove(1, refused(11, 2, 1), note)
@@ -313,9 +318,25 @@ def unsound_blocks():
 def hairpins(slots):
     """Two blocks, with GAC under 0 and GGC under 1, each with its ends bonded."""
     w = World(2, slots)
-    w.add(0, 'GAC', '210')
-    w.add(1, 'GGC', '210')
+    w.add(0, 'GAC', '210', folded(1, 1))
+    w.add(1, 'GGC', '210', folded(1, 1))
     return w
+
+
+def folds():
+    """What add answers: the arcs and the depth of its molecule, whatever is held and asked."""
+    w = World(8, 1)
+    for d, (bases, mates, arcs, depth) in enumerate(FOLDED):
+        w.add(d, bases, ''.join(map(str, mates)), folded(arcs, depth))
+    w.add(4, 'ACGUACGUACGU', 'ba3254769810', folded(6, 3), 'a stem of two around four arcs side by side')
+    w.add(5, 'ACGUACGUACGUA', '1032965874cba', folded(6, 2), 'arcs side by side, one of them around two')
+    w.add(6, 'A', '=159', folded(79, 79), '79 arcs around a base')
+    w.query('GC', '10', found(3, 7))
+    w.add(7, 'ACGUACGUACGUA', 'cba9876543210', folded(6, 6), 'six arcs around a base')
+    w.add(7, 'GAC', '210', refused(13, 2))
+    w.remove(0)
+    w.add(0, 'GGCC', '3210', folded(2, 2), 'another molecule under the number')
+    group('arcs and depths')
 
 
 def story():
@@ -333,12 +354,12 @@ def used_again():
     w = hairpins(1)
     w.query('GC', '10', found(2, 2))
     w.remove(0)
-    w.add(0, 'A', '0', note='number 0 again, no query between')
+    w.add(0, 'A', '0', folded(0, 0), 'number 0 again, no query between')
     w.query('GC', '10', found(1, 1), '0 is searched, and no hit')
     w.query('GC', '10', found(1, 0))
     w.remove(0)
     w.add(2, 'GAC', '210', refused(12, 2), 'a refused call between')
-    w.add(0, 'GAC', '210')
+    w.add(0, 'GAC', '210', folded(1, 1))
     w.query('GC', '10', found(2, 1), '0 is searched, and a hit')
     w.remove(1)
     w.remove(0)
@@ -364,7 +385,7 @@ def altered():
         w.remove(0)
         w.query('GC', '10', found(1, 1), 'remove emptied the block')
         set_byte('S', CACHE + BLOCK + i, v, note)
-        w.add(0, 'GAC', '210')
+        w.add(0, 'GAC', '210', folded(1, 1))
         w.query('GC', '10', found(2, 2), 'add emptied the block')
     group('one byte altered')
 
@@ -400,7 +421,7 @@ def foreign():
     set_byte('F', CACHE + SEARCHED_AT, 255)
     set_byte('F', CACHE + HITS_AT, 255)
     w.remove(1, note='takes 1 out, and leaves 2 to 7')
-    w.add(1, 'A', '0')
+    w.add(1, 'A', '0', folded(0, 0))
     w.query('GC', '10', found(1, 1), '1 is searched')
     set_byte('F', CACHE + ENTRY.bases_at, 67, 'the motif CC')
     w.query('GC', '10', found(1, 2), 'another motif')
@@ -413,8 +434,8 @@ def foreign():
 def other_slots():
     """The same cache as one slot and as two: an entry may lie in a slot that is not its key's. Keys: AGC 206, GC 139."""
     w = World(2, 2)
-    w.add(0, 'GAC', '210')
-    w.add(1, 'AGAC', '0321')
+    w.add(0, 'GAC', '210', folded(1, 1))
+    w.add(1, 'AGAC', '0321', folded(1, 1))
     w.query('AGC', '021', found(1, 2), 'slot 0 of 2')
     w.query('GC', '10', found(2, 2), 'slot 1 of 2')
     w.query('AGC', '021', found(1, 0), 'slot 0 of 1', cache=512)
@@ -423,15 +444,15 @@ def other_slots():
     w.query('AGC', '021', found(1, 2), 'slot 0 of 2 has GC')
     w.remove(0, note='only from the first block', cache=512)
     w.query('GC', '10', found(1, 0), 'slot 1 of 2')
-    w.add(0, 'A', '0', note='before the second block learns that 0 went', cache=512)
+    w.add(0, 'A', '0', folded(0, 0), 'before the second block learns that 0 went', cache=512)
     w.query('GC', '10', found(1, 1), 'slot 1 of 2 has no bit 0: not held then')
     group('entries in other slots')
 
 
 def long_strands():
     w = World(3, 1)
-    w.add(0, 'A', '=160', note='80 arcs')
-    w.add(1, 'ACGU', '-160', note='no bonds')
+    w.add(0, 'A', '=160', folded(80, 80), '80 arcs, each in the one before')
+    w.add(1, 'ACGU', '-160', folded(0, 0), 'no bonds')
     w.add(2, 'A', '-161', refused(3, 1))
     w.query('A', '=120', found(1, 2), '60 arcs')
     w.query('A', '=120', found(1, 0))
@@ -442,13 +463,13 @@ def long_strands():
     w.query('A', '=121', refused(3, 0))
     w.query('A', '-161', refused(3, 0))
     w.query('UA', '-079', found(1, 2), 'every second and third base')
-    w.add(2, 'A', '-119')
+    w.add(2, 'A', '-119', folded(0, 0))
     w.query('A', '-120', refused(9, 2), hits=2)
     w.remove(0)
     w.remove(1)
     w.query('A', '-120', found(0, 1), '119 are too few')
     w.query('A', '-119', found(1, 1))
-    w.add(0, 'A', '-120')
+    w.add(0, 'A', '-120', folded(0, 0))
     w.query('A', '-120', found(1, 2))
     group('long strands')
 
@@ -456,7 +477,7 @@ def long_strands():
 def largest_buffers():
     w = World(512, 64)
     for d in range(512):
-        w.add(d, 'GAC', '210')
+        w.add(d, 'GAC', '210', folded(1, 1))
     w.add(511, 'A', '0', refused(13, 2))
     w.add(512, 'A', '0', refused(12, 2))
     w.query('GC', '10', refused(9, 2), hits=511)
@@ -467,7 +488,7 @@ def largest_buffers():
     w.query('A', '0', found(512, 512))
     w.remove(511)
     w.query('GC', '10', found(511, 0))
-    w.add(511, 'A', '0')
+    w.add(511, 'A', '0', folded(0, 0))
     w.query('GC', '10', found(511, 1))
     set_byte('S', CACHE + BLOCK * (139 % 64) + 400, 1)
     w.query('A', '0', found(512, 1), 'another slot stays')
@@ -551,7 +572,7 @@ class Random(World):
         self.tidy()
         if kind == 'A':
             self.held[d] = bases, mates
-            return 0
+            return folded(*fold(tuple(mates)))
         del self.held[d]
         for entry in filter(None, self.entries):
             entry[1].discard(d)
@@ -643,7 +664,7 @@ def histories():
 
 
 def files():
-    for part in (rows_of_add, rows_of_remove, rows_of_query, unsound_blocks, story, used_again, altered, unsound_entries, foreign, other_slots, long_strands,
-                 largest_buffers, random_molecules, histories):
+    for part in (rows_of_add, rows_of_remove, rows_of_query, unsound_blocks, folds, story, used_again, altered, unsound_entries, foreign,
+                 other_slots, long_strands, largest_buffers, random_molecules, histories):
         part()
     return {'crates/catalog_test/stdin': ''.join(LINES), 'crates/catalog_test/stdout': ''.join(TOLD)}

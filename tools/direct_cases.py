@@ -6,7 +6,7 @@ import collections
 import itertools
 import os
 
-from lakhido_model import LETTERS, LONGEST, LONGEST_MOTIF, is_embedding, strand_refusal
+from lakhido_model import LETTERS, LONGEST, LONGEST_MOTIF, fold, is_embedding, strand_refusal
 from testing_crate import after, bond
 
 CRATES = os.path.join(os.path.dirname(os.path.abspath(__file__)), '..', 'crates')
@@ -27,6 +27,11 @@ def told(row, side, place):
     return ' refused %d %d %d' % (row, side, place)
 
 
+def with_fold(mates):
+    """What an accepted call says of its molecule."""
+    return ' with arcs %d and depth %d' % fold(mates)
+
+
 def pair_refusal(p, q):
     """The refusal of a motif and a molecule, or None."""
     return next(((row, side, place) for side, s in enumerate((p, q)) for row, place in filter(None, [strand_refusal(*s)])), None)
@@ -34,9 +39,14 @@ def pair_refusal(p, q):
 
 # ---- strand_test
 
-def checked(strand, side, longest, least=1):
+def checked_motif(strand, longest, least=1):
     refusal = strand_refusal(*strand, longest, least)
-    return told(refusal[0], side, refusal[1]) if refusal else ' accepted'
+    return told(refusal[0], 0, refusal[1]) if refusal else ' accepted'
+
+
+def checked_molecule(strand):
+    refusal = strand_refusal(*strand)
+    return told(refusal[0], 1, refusal[1]) if refusal else ' accepted' + with_fold(strand[1])
 
 
 def checked_pair(p, q):
@@ -45,7 +55,7 @@ def checked_pair(p, q):
 
 
 def checked_both(strand):
-    return ' molecule%s, motif%s' % (checked(strand, 1, LONGEST), checked(strand, 0, LONGEST_MOTIF))
+    return ' molecule%s, motif%s' % (checked_molecule(strand), checked_motif(strand, LONGEST_MOTIF))
 
 
 ONE = 'A', [0]
@@ -53,13 +63,13 @@ ONE = 'A', [0]
 
 def small(line):
     strand = line[2:12].split(' ')[0], numbers(line[13:23])
-    return {'s': lambda: checked_both(strand), 'l': lambda: checked(strand, 0, int(line[25]), int(line[24])), 'p': lambda: checked_pair(strand, ONE),
+    return {'s': lambda: checked_both(strand), 'l': lambda: checked_motif(strand, int(line[25]), int(line[24])), 'p': lambda: checked_pair(strand, ONE),
             'q': lambda: checked_pair(ONE, strand), 'w': lambda: checked_pair(strand, strand)}[line[0]]()
 
 
 def form(which, n, i):
-    """The mate of i among n bases: unbonded (0), nested (1), each arc crossing each (2)."""
-    return (i, n - 1 - i, i + n // 2 if i < n // 2 else i - n // 2)[which]
+    """The mate of i among n bases: unbonded (0), nested (1), each arc crossing each (2), arcs side by side (3)."""
+    return (i, n - 1 - i, i + n // 2 if i < n // 2 else i - n // 2, i + 1 - i % 2 * 2)[which]
 
 
 def long(line, bases, mates):
@@ -107,7 +117,7 @@ def alter(kind, x, mates):
 
 
 def family(name, kind, times):
-    rows = collections.Counter()
+    rows, folds = collections.Counter(), []
     for i in range(times):
         x = after(i + 99)
         n = 5 if kind == 1 else up_to(40 if kind else 4, x)
@@ -117,7 +127,10 @@ def family(name, kind, times):
             mates = mates[:up_to(n, x // 5 // 16)]
         for refusal in (strand_refusal(bases, mates), strand_refusal(bases, mates, 30, up_to(3, x // 7))):
             rows[refusal[0] if refusal else 0] += 1
-    return '%s: compared %d, disagreements 0, accepted and by row %s\n' % (name, 2 * times, ' '.join(str(rows[row]) for row in range(8)))
+        if not strand_refusal(bases, mates):
+            folds.append(fold(mates))
+    return '%s: compared %d, disagreements 0, accepted and by row %s; arcs %d, depths %d\n' % (
+        name, 2 * times, ' '.join(str(rows[row]) for row in range(8)), *map(sum, zip(*folds)))
 
 
 def strand_test():
@@ -135,7 +148,7 @@ def strand_test():
 
 def verified(p, q, places):
     refusal = pair_refusal(p, q) or ((9, 2, 0) if len(places) != len(p[0]) else None)
-    return told(*refusal) if refusal else ' yes' if is_embedding(*p, *q, places) else ' no'
+    return told(*refusal) if refusal else (' yes' if is_embedding(*p, *q, places) else ' no') + with_fold(q[1])
 
 
 def nested(x, letters, n):
@@ -153,12 +166,14 @@ def nested(x, letters, n):
 
 
 def all_lists(letters, pairs=50, m=4, n=7):
-    x, yes = 12345, 0
+    x, yes, folds = 12345, 0, []
     for _ in range(pairs):
         p, x = nested(x, letters, m)
         q, x = nested(x, letters, n)
         yes += sum(is_embedding(*p, *q, places) for places in itertools.combinations(range(n), m))
-    return 'all lists, %d letter%s: wrong 0 yes %d\n' % (letters, 's' if letters > 1 else '', yes)
+        folds.append(fold(q[1]))
+    return 'all lists, %d letter%s: wrong 0 yes %d arcs %d depths %d\n' % (
+        letters, 's' if letters > 1 else '', yes, *((n + 1) ** m * sum(numbers) for numbers in zip(*folds)))
 
 
 def embedding_test():

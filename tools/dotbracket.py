@@ -1,5 +1,5 @@
 #!/usr/bin/env python3
-"""Turns dot-bracket text, as RNA tools write it, into blocks of the catalog or of a motif, and back.
+"""Turns dot-bracket text, as RNA tools write it, into blocks of the catalog or of a motif, and back; lists molecules.
 
 This is a convenience for people. It is not part of what is proved: the screen program judges every block by itself.
 The tool checks each block that it writes or reads by the rules of a molecule block.
@@ -16,10 +16,11 @@ Blocks hold no names: decoded molecules are named by their number.
 Errors in a text are given as FILE:LINE:COLUMN, both counted from 1.
 """
 import argparse
+import itertools
 import random
 import sys
 
-from lakhido_model import (BLOCK, LETTERS, LONGEST_MOLECULE, LONGEST_MOTIF, MOLECULE, MOST_BLOCKS, MOST_SCREENED, decode, encode, fault,
+from lakhido_model import (BLOCK, LETTERS, LONGEST_MOLECULE, LONGEST_MOTIF, MOLECULE, MOST_BLOCKS, MOST_SCREENED, decode, encode, fault, fold,
                            random_strand)
 
 EMPTY_NAME = '(empty)'
@@ -95,14 +96,16 @@ def molecule(lines, header, name):
     return bases, mates_of(structure, lambda i: '%s:%d:%d' % (name, second, indent + i + 1))
 
 
+def from_text(text, name):
+    """The molecules of a text, as (header line number, name, bases, mates); an empty block has no bases."""
+    return [(header, title, *(('', []) if title == EMPTY_NAME and not lines else molecule(lines, header, name)))
+            for header, title, lines in records(text, name)]
+
+
 def blocks_of(text, name):
     """The blocks of a text, each checked by the rules and by decoding it again."""
     blocks = []
-    for header, title, lines in records(text, name):
-        if title == EMPTY_NAME and not lines:
-            bases, mates = '', []
-        else:
-            bases, mates = molecule(lines, header, name)
+    for header, _, bases, mates in from_text(text, name):
         block = block_of(bases, mates)
         wrong = fault(MOLECULE, block)
         if wrong or decode(MOLECULE, block) != (bases, mates):
@@ -111,23 +114,43 @@ def blocks_of(text, name):
     return blocks
 
 
-def text_of(data, name, screen=False):
-    """The text of the blocks, each checked by the rules. With `screen` the first block is a motif."""
+def from_blocks(data, name, screen=False):
+    """Name, bases and mates of each block, which is checked by the rules; an empty block has no bases. With `screen` the first block is a motif."""
     if not data or len(data) % BLOCK != 0:
         raise Bad('%s: %d bytes are not whole blocks of %d' % (name, len(data), BLOCK))
-    out = []
+    found = []
     for d in range(len(data) // BLOCK):
         block = data[BLOCK * d:BLOCK * (d + 1)]
         wrong = fault(MOLECULE, block)
         if wrong:
             raise Bad('%s: block %d, byte %d: %s' % (name, d, wrong[0], wrong[1]))
-        bases, mates = decode(MOLECULE, block)
-        if not bases:
-            out.append('>' + EMPTY_NAME + '\n')
-            continue
-        title = 'motif' if screen and d == 0 else 'molecule %d' % (d - 1 if screen else d)
-        out.append('>%s\n%s\n%s\n' % (title, bases, structure_of(mates)))
-    return ''.join(out)
+        found.append(('motif' if screen and d == 0 else 'molecule %d' % (d - 1 if screen else d), *decode(MOLECULE, block)))
+    return found
+
+
+def text_of(data, name, screen=False):
+    """The text of the blocks."""
+    return ''.join('>%s\n%s\n%s\n' % (title, bases, structure_of(mates)) if bases else '>%s\n' % EMPTY_NAME
+                   for title, bases, mates in from_blocks(data, name, screen))
+
+
+# ---- the list of molecules
+
+LIST = """Lists the molecules of a text or, with --blocks or --screen, of a file of blocks: first a line of the columns' names, then a
+line for each molecule, the columns parted by tabs. Length is the number of bases, arcs that of bonds, and depth the largest number of arcs
+of which each lies inside the one before. A text has names; in blocks the name is `molecule` and the number. Empty blocks are left out.
+What is equal by the column that sorts keeps the order of the file."""
+COLUMNS = 'name', 'length', 'arcs', 'depth'
+
+
+def listed(molecules, by='number', reverse=False):
+    """A head, and a line for each molecule that has bases, given as (name, bases, mates): its columns parted by tabs, which the names lose."""
+    rows = [(title.replace('\t', ' '), len(bases), *fold(mates)) for title, bases, mates in molecules if bases]
+    if by != 'number':
+        rows.sort(key=lambda row: row[COLUMNS.index(by)], reverse=reverse)
+    elif reverse:
+        rows.reverse()
+    return ''.join('\t'.join(map(str, row)) + '\n' for row in (COLUMNS, *rows))
 
 
 def some_blocks(text, name, most, what):
@@ -158,6 +181,26 @@ def expect_error(text, start):
         assert str(error).startswith(start), (text, str(error), start)
     else:
         raise AssertionError('no error: %r' % text)
+
+
+def test_list():
+    rng = random.Random(2)
+    for _ in range(300):
+        bases, mates = random_strand(rng, LONGEST_MOLECULE)
+        structure = structure_of(mates)
+        open_arcs = itertools.accumulate((mark == '(') - (mark == ')') for mark in structure)
+        row = listed([('x', bases, mates)]).split('\n')[1]
+        assert row == 'x\t%d\t%d\t%d' % (len(bases), structure.count('('), max(open_arcs)), (structure, row)
+    text = '>two\tarcs\nGCGC\n()()\n>(empty)\n>deep\nGGACC\n((.))\n>one\nGAC\n(.)\n'
+    lines = ['name\tlength\tarcs\tdepth', 'two arcs\t4\t2\t1', 'deep\t5\t2\t2', 'one\t3\t1\t1']
+    rows = [row[1:] for row in from_text(text, 'T')]
+    for by, reverse, order in (('number', False, [1, 2, 3]), ('number', True, [3, 2, 1]), ('name', False, [2, 3, 1]), ('length', False, [3, 1, 2]),
+                               ('arcs', False, [3, 1, 2]), ('arcs', True, [1, 2, 3]), ('depth', False, [1, 3, 2]), ('depth', True, [2, 1, 3])):
+        assert listed(rows, by, reverse) == ''.join(lines[i] + '\n' for i in [0] + order), (by, reverse)
+    data = b''.join(blocks_of(text, 'T'))
+    assert listed(from_blocks(data, 'B')).split('\n')[1:3] == ['molecule 0\t4\t2\t1', 'molecule 2\t5\t2\t2']
+    assert listed(from_blocks(data, 'B', screen=True)).split('\n')[1:3] == ['motif\t4\t2\t1', 'molecule 1\t5\t2\t2']
+    assert listed([]) == listed([('x', '', [])]) == lines[0] + '\n'
 
 
 def self_test():
@@ -195,6 +238,7 @@ def self_test():
             assert str(error).startswith(start), (str(error), start)
         else:
             raise AssertionError((motif, catalog))
+    test_list()
 
 
 # ---- commands
@@ -210,6 +254,11 @@ def read_text(path):
         raise Bad('%s:%d:%d: not an ASCII character' % (path, line, column))
 
 
+def read_blocks(path):
+    with open(path, 'rb') as file:
+        return file.read()
+
+
 def write(path, data):
     if path == '-':
         sys.stdout.buffer.write(data)
@@ -218,11 +267,7 @@ def write(path, data):
             file.write(data)
 
 
-def run(words):
-    if words == ['--self-test']:
-        self_test()
-        print('self-test: ok')
-        return
+def parse(words):
     parser = argparse.ArgumentParser(description=__doc__, formatter_class=argparse.RawDescriptionHelpFormatter)
     parser.add_argument('--self-test', action='store_true', help='test this tool and stop')
     commands = parser.add_subparsers(dest='command', required=True)
@@ -234,15 +279,38 @@ def run(words):
     three = commands.add_parser('screen-input', help='the input of the screen program: a motif, then a catalog')
     three.add_argument('motif')
     three.add_argument('catalog')
-    for command in (one, two, three):
+    four = commands.add_parser('list', help='a line for each molecule: name, length, arcs, depth', description=LIST)
+    four.add_argument('file')
+    form = four.add_mutually_exclusive_group()
+    form.add_argument('--blocks', action='store_true', help='the file has blocks, not text')
+    form.add_argument('--screen', action='store_true', help='the file has blocks, and the first is a motif')
+    four.add_argument('--by', choices=('number', *COLUMNS), default='number', help='what sorts the lines (else the number, which is the place in the file)')
+    four.add_argument('--reverse', action='store_true', help='falling, not rising')
+    for command in (one, two, three, four):
         command.add_argument('-o', '--output', default='-', help='where to write (else standard output)')
-    args = parser.parse_args(words)
+    return parser.parse_args(words)
+
+
+def molecules_of(args):
+    """The molecules of the file that `list` is given."""
+    if args.blocks or args.screen:
+        return from_blocks(read_blocks(args.file), args.file, args.screen)
+    return [row[1:] for row in from_text(read_text(args.file), args.file)]
+
+
+def run(words):
+    if words == ['--self-test']:
+        self_test()
+        print('self-test: ok')
+        return
+    args = parse(words)
     if args.command == 'encode':
         blocks = some_blocks(read_text(args.text), args.text, MOST_BLOCKS, 'a catalog has 1 to %d' % MOST_BLOCKS)
         write(args.output, b''.join(blocks))
     elif args.command == 'decode':
-        with open(args.blocks, 'rb') as file:
-            write(args.output, text_of(file.read(), args.blocks, args.screen).encode('ascii'))
+        write(args.output, text_of(read_blocks(args.blocks), args.blocks, args.screen).encode('ascii'))
+    elif args.command == 'list':
+        write(args.output, listed(molecules_of(args), args.by, args.reverse).encode('ascii'))
     else:
         write(args.output, motif_and_catalog(read_text(args.motif), args.motif, read_text(args.catalog), args.catalog))
 

@@ -1,8 +1,9 @@
 #!/usr/bin/env python3
-"""Document 01 in plain Python, for the scripts beside it: strands and their refusals, embeddings, blocks. It shares nothing with the library.
+"""Document 01, and request (i) of 02, in plain Python, for the scripts beside it: strands, their refusals and folds, embeddings, blocks. It shares
+nothing with the library.
 
 A strand is its bases, a text with a character for each byte, and its mates, a list of numbers. `--self-test` holds the search to the
-definition of an embedding, and blocks to the rules.
+definition of an embedding, the depth to that of 02, and blocks to the rules.
 """
 import collections
 import itertools
@@ -56,6 +57,46 @@ REFUSED = (
     ('A', [1], 5, 0),
     ('AC', [1, 1], 6, 0),
     ('ACGU', [2, 3, 0, 1], 7, 1),
+)
+
+
+def arcs(mates):
+    """The arcs, each with its left and its right end."""
+    return [(i, j) for i, j in enumerate(mates) if i < j]
+
+
+def inside(arc, other):
+    """Whether an arc lies inside another."""
+    return other[0] < arc[0] and arc[1] < other[1]
+
+
+def depth(mates):
+    """02, (i): the largest number of arcs of which each lies inside the one before, and 0 without arcs. A longest such list that begins with an arc goes
+    on with a longest that begins with an arc inside it; arcs inside are shorter, and so come first."""
+    lists = {}
+    for arc in sorted(arcs(mates), key=lambda arc: arc[1] - arc[0]):
+        lists[arc] = 1 + max((n for other, n in lists.items() if inside(other, arc)), default=0)
+    return max(lists.values(), default=0)
+
+
+def fold(mates):
+    """02, (i): the number of arcs, and the depth."""
+    return len(arcs(mates)), depth(mates)
+
+
+def depth_by_definition(mates):
+    """The same as `depth`, over all lists of arcs: for the self-test. In a list of which each lies inside the one before the left ends rise."""
+    all_arcs = arcs(mates)
+    return max(k for k in range(len(all_arcs) + 1)
+               if any(all(inside(b, a) for a, b in zip(v, v[1:])) for v in itertools.combinations(all_arcs, k)))
+
+
+# Strands with their number of arcs and their depth: an arc, an arc inside another, two side by side, none.
+FOLDED = (
+    ('GAC', [2, 1, 0], 1, 1),
+    ('GGCC', [3, 2, 1, 0], 2, 2),
+    ('GCGC', [1, 0, 3, 2], 2, 1),
+    ('GAC', [0, 1, 2], 0, 0),
 )
 
 
@@ -291,6 +332,14 @@ def self_test():
     assert min(lengths.values()) > 800, lengths
     for bases, mates, row, place in REFUSED:
         assert strand_refusal(bases, mates) == (row, place) and (row < 5 or not nested(mates))
+    for bases, mates, *told in FOLDED:
+        assert strand_refusal(bases, mates) is None and fold(mates) == tuple(told), mates
+    folds = set()
+    for _ in range(2000):
+        mates = random_strand(rng, 20)[1]
+        assert depth(mates) == depth_by_definition(mates), mates
+        folds.add(fold(mates))
+    assert len(folds) > 20, folds
     assert checksum(encode(MOLECULE, 'A', [0])) == 1888 and key('GC', [1, 0]) == key('GC', [0, 1]) == 139
     for form in FORMS.values():
         assert sound(form, bytes(BLOCK)) and decode(form, bytes(BLOCK)) == ('', [])

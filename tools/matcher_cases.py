@@ -1,14 +1,14 @@
 """For tests alone: the lines that matcher_test reads, and what it must write. `tools/verify-cases` writes the files.
 
-What a line has is said in crates/matcher_test/src/main.rt. Lengths and refusals are those of `lakhido_model`. Strands by rule are made as in
-matcher_test (`strands`).
+What a line has is said in crates/matcher_test/src/main.rt. Lengths, refusals and folds are those of `lakhido_model`. Strands by rule are made as
+in matcher_test (`strands`).
 """
 import collections
 import functools
 import itertools
 
 import lakhido_model
-from lakhido_model import LETTERS, LONGEST, SETTLED, strand_refusal, work_size
+from lakhido_model import FOLDED, LETTERS, LONGEST, SETTLED, strand_refusal, work_size
 
 WIDTH = 112
 NAME = 46
@@ -63,6 +63,10 @@ def written(bases, mates):
     return Strand(bases, values, '%-10s %-10s' % (bases, mates))
 
 
+def written_as(bases, mates):
+    return written(bases, ''.join(map(str, mates)))
+
+
 def by_rule(shape, n, seed, letters, mates=None):
     count = n if mates is None else mates
     bases = ''.join((LETTERS + 'X')[number(seed, i) % letters] for i in range(n))
@@ -98,6 +102,11 @@ def longest(p, q):
     return lakhido_model.longest(p.bases, p.mates, q.bases, q.mates)
 
 
+@functools.cache
+def fold_of(s):
+    return lakhido_model.fold(s.mates)
+
+
 # The lines.
 
 SHAPES = ('no arcs', 'stem', 'comb', 'balanced', 'fold', 'stems')
@@ -129,22 +138,27 @@ def put(text):
 
 
 def line(calls, p, q, places, work, row, side, n, name):
-    put('%s %-24s %-24s %6d %6d%2d %d %6d %s' % (calls, p.field, q.field, places, work, row, side, n, name))
+    arcs, depth = fold_of(q) if calls != 'r' and row == 0 else (0, 0)
+    put('%s %-24s %-24s %6d %6d%2d %d %6d %4d %4d %s' % (calls, p.field, q.field, places, work, row, side, n, arcs, depth, name))
 
 
-def count(calls, p, row, n):
-    """Calls that are refused by a row, or for row 0 answer the length n."""
+def count(calls, p, q, row, n):
+    """Calls that are refused by a row, or for row 0 answer the length n and the fold of q."""
     COUNTS['calls'] += calls
     COUNTS['refused'] += calls * (row > 0)
     COUNTS['whole'] += calls * (row == 0 and n == len(p.bases))
     COUNTS['empty'] += calls * (row == 0 and n == 0)
+    if row == 0:
+        arcs, depth = fold_of(q)
+        COUNTS['arcs'] += calls * arcs
+        COUNTS['depths'] += calls * depth
 
 
 def case(p, q, places, work, name):
     """A line for both calls, or one for each if they answer differently."""
     wants = {call: refused(call, p, q, places, work) or (0, 0, longest(p, q)) for call in 'ls'}
     for row, _, n in wants.values():
-        count(1, p, row, n)
+        count(1, p, q, row, n)
     if wants['l'] == wants['s']:
         wants = {'b': wants['l']}
     for calls, want in wants.items():
@@ -159,7 +173,7 @@ def rounds(times, motif, molecule, name):
     line('r', p, q, len(p.bases), room(p, q), 0, 0, times, name)
     for i in range(times):
         p, q = pair(i)
-        count(2, p, 0, lakhido_model.longest(p.bases, p.mates, q.bases, q.mates))
+        count(2, p, q, 0, lakhido_model.longest(p.bases, p.mates, q.bases, q.mates))
 
 
 def exact(p, q, name):
@@ -169,17 +183,28 @@ def exact(p, q, name):
 def group(name):
     assert len(name) <= NAME, name
     put('= ' + name)
-    TOLD.append('%-*s: calls %d, refused %d, whole motif %d, no prefix %d, wrong 0\n'
-                % (NAME, name, *(COUNTS[k] for k in ('calls', 'refused', 'whole', 'empty'))))
+    TOLD.append('%-*s: calls %d, refused %d, whole motif %d, no prefix %d, arcs %d, depths %d, wrong 0\n'
+                % (NAME, name, *(COUNTS[k] for k in ('calls', 'refused', 'whole', 'empty', 'arcs', 'depths'))))
     COUNTS.clear()
 
 
 def settled():
     for row, (p, pm, q, qm, length) in enumerate(SETTLED, 1):
-        motif, molecule = (written(bases, ''.join(map(str, mates))) for bases, mates in ((p, pm), (q, qm)))
+        motif, molecule = written_as(p, pm), written_as(q, qm)
         assert longest(motif, molecule) == length
         exact(motif, molecule, 'row %d' % row)
     group('settled examples')
+
+
+def folds():
+    """Motif and molecule with other numbers of arcs or other depths; molecules of each shape and of the greatest length."""
+    strands = [(written_as(bases, mates), told) for bases, mates, *told in FOLDED]
+    for (p, told), (q, other) in itertools.permutations(strands, 2):
+        assert fold_of(q) == tuple(other)
+        exact(p, q, 'P %d %d, Q %d %d' % (*told, *other))
+    for shape in range(6):
+        exact(written('GC', '10'), by_rule(shape, LONGEST, 18, 4), 'an arc in ' + SHAPES[shape])
+    group('arcs and depths')
 
 
 def refusals():
@@ -209,7 +234,7 @@ def rooms():
         p, q = by_rule(4, m, 5, 1), by_rule(4, n, 6, 1)
         size = room(p, q)
         for work in (0, size - 1, size, size + 4):
-            case(p, q, m, work, 'places exact, work %+d' % (work - size))
+            case(p, q, m, work, 'all places, work %+d' % (work - size))
         for work in (size - 1, size):
             for places in sorted({0, m - 1, m + 3}):
                 case(p, q, places, work, 'places %+d, work %+d' % (places - m, work - size))
@@ -248,6 +273,6 @@ def long_pairs():
 
 
 def files():
-    for part in (settled, refusals, rooms, random_pairs, long_pairs):
+    for part in (settled, folds, refusals, rooms, random_pairs, long_pairs):
         part()
     return {'crates/matcher_test/stdin': ''.join(LINES), 'crates/matcher_test/stdout': ''.join(TOLD)}

@@ -27,6 +27,16 @@ def is_refused(answer):
     return ROW <= answer < 100 * ROW
 
 
+def two(a, b):
+    """Two numbers."""
+    return TWO + a * 10000 + b
+
+
 def found(count, searched):
     """An accepted query."""
-    return TWO + count * 10000 + searched
+    return two(count, searched)
+
+
+def folded(arcs, depth):
+    """An accepted add."""
+    return two(arcs, depth)

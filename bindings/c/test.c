@@ -1,4 +1,4 @@
-/* Calls each function of the library on document 01's small examples, and prints ok. */
+/* Calls each function of the library on document 01's small examples and some of the arcs and depth of a molecule, and prints ok. */
 #include "lakhido.h"
 
 #include <stdio.h>
@@ -12,10 +12,16 @@ static uint8_t catalog[2 * LAKHIDO_BLOCK], cache[LAKHIDO_BLOCK + 1];
 static uint16_t places[4], hits[3], work[LAKHIDO_QUERY_WORK(LAKHIDO_MOTIF_MOST)];
 static int failed;
 
-static void is(int line, lakhido_answer a, size_t refusal, size_t side, size_t place, size_t value, size_t searched) {
-    if (a.refusal == refusal && a.side == side && a.place == place && a.value == value && a.searched == searched) return;
+static int equal(lakhido_answer a, lakhido_answer b) {
+    return a.refusal == b.refusal && a.side == b.side && a.place == b.place && a.value == b.value && a.searched == b.searched && a.arcs == b.arcs &&
+           a.depth == b.depth;
+}
+
+static void is(int line, lakhido_answer a, lakhido_answer expected) {
+    if (equal(a, expected)) return;
     failed = 1;
-    printf("line %d: refusal %zu side %zu place %zu value %zu searched %zu\n", line, a.refusal, a.side, a.place, a.value, a.searched);
+    printf("line %d: refusal %zu side %zu place %zu value %zu searched %zu arcs %zu depth %zu\n", line, a.refusal, a.side, a.place, a.value, a.searched,
+           a.arcs, a.depth);
 }
 
 static void holds(int line, int fact) {
@@ -24,17 +30,23 @@ static void holds(int line, int fact) {
     printf("line %d: not so\n", line);
 }
 
-#define ACCEPTED(call, value, searched) is(__LINE__, call, LAKHIDO_ACCEPTED, 0, 0, value, searched)
-#define REFUSED(call, number, side, place) is(__LINE__, call, number, side, place, 0, 0)
+/* An accepted call with a value and the number searched; one with a value and the molecule's arcs and depth; a refused one. Every other field is 0. */
+#define ACCEPTED(call, v, s) is(__LINE__, call, (lakhido_answer){.refusal = LAKHIDO_ACCEPTED, .value = v, .searched = s})
+#define FOLDED(call, v, a, d) is(__LINE__, call, (lakhido_answer){.refusal = LAKHIDO_ACCEPTED, .value = v, .arcs = a, .depth = d})
+#define REFUSED(call, number, s, p) is(__LINE__, call, (lakhido_answer){.refusal = number, .side = s, .place = p})
 #define HOLDS(fact) holds(__LINE__, fact)
 
 #define WORK(m, n) work, LAKHIDO_WORK(m, n)
 #define CATALOG catalog, sizeof catalog
 #define CACHE cache, LAKHIDO_BLOCK
 #define QUERY_WORK work, LAKHIDO_QUERY_WORK(2)
+#define THREE_ARCS BASES("GGCGCC"), MATES(5, 2, 1, 4, 3, 0)
 
 static void strands(void) {
-    ACCEPTED(lakhido_check(BASES("GAC"), MATES(2, 1, 0)), 0, 0);
+    FOLDED(lakhido_check(BASES("GAC"), MATES(2, 1, 0)), 0, 1, 1);
+    FOLDED(lakhido_check(BASES("GGCC"), MATES(3, 2, 1, 0)), 0, 2, 2);
+    FOLDED(lakhido_check(BASES("GCGC"), MATES(1, 0, 3, 2)), 0, 2, 1);
+    FOLDED(lakhido_check(BASES("GAC"), MATES(0, 1, 2)), 0, 0, 0);
     REFUSED(lakhido_check(BASES("AC"), MATES(0)), LAKHIDO_UNEQUAL_LENGTHS, LAKHIDO_MOLECULE, 0);
     REFUSED(lakhido_check(NONE, NONE), LAKHIDO_NO_BASES, LAKHIDO_MOLECULE, 0);
     REFUSED(lakhido_check(BASES("AXC"), MATES(0, 1, 2)), LAKHIDO_BAD_LETTER, LAKHIDO_MOLECULE, 1);
@@ -44,28 +56,41 @@ static void strands(void) {
 }
 
 static void direct_calls(void) {
-    ACCEPTED(lakhido_length(BASES("GC"), MATES(1, 0), BASES("GAC"), MATES(2, 1, 0), WORK(2, 3)), 2, 0);
-    ACCEPTED(lakhido_length(BASES("GC"), MATES(0, 1), BASES("GAC"), MATES(2, 1, 0), WORK(2, 3)), 1, 0);
-    ACCEPTED(lakhido_length(BASES("GC"), MATES(1, 0), BASES("GC"), MATES(0, 1), WORK(2, 2)), 0, 0);
-    ACCEPTED(lakhido_length(BASES("A"), MATES(0), BASES("A"), MATES(0), work, 136), 1, 0);
+    FOLDED(lakhido_length(BASES("GC"), MATES(1, 0), BASES("GAC"), MATES(2, 1, 0), WORK(2, 3)), 2, 1, 1);
+    FOLDED(lakhido_length(BASES("GC"), MATES(0, 1), BASES("GAC"), MATES(2, 1, 0), WORK(2, 3)), 1, 1, 1);
+    FOLDED(lakhido_length(BASES("GC"), MATES(1, 0), BASES("GC"), MATES(0, 1), WORK(2, 2)), 0, 0, 0);
+    FOLDED(lakhido_length(BASES("A"), MATES(0), BASES("A"), MATES(0), work, 136), 1, 0, 0);
     REFUSED(lakhido_length(BASES("A"), MATES(0), BASES("A"), MATES(0), work, 135), LAKHIDO_WORK_TOO_SHORT, LAKHIDO_NEITHER, 0);
     REFUSED(lakhido_length(BASES("AX"), MATES(0, 1), BASES("A"), MATES(0), NONE), LAKHIDO_BAD_LETTER, LAKHIDO_MOTIF, 1);
 
     memset(places, 255, sizeof places);
-    ACCEPTED(lakhido_show(BASES("AGC"), MATES(0, 2, 1), BASES("AGAC"), MATES(0, 3, 2, 1), places, 4, WORK(3, 4)), 3, 0);
+    FOLDED(lakhido_show(BASES("AGC"), MATES(0, 2, 1), BASES("AGAC"), MATES(0, 3, 2, 1), places, 4, WORK(3, 4)), 3, 1, 1);
     HOLDS(places[0] == 0 && places[1] == 1 && places[2] == 3 && places[3] == 65535);
     REFUSED(lakhido_show(BASES("GC"), MATES(1, 0), BASES("GAC"), MATES(2, 1, 0), places, 1, WORK(2, 3)), LAKHIDO_WRONG_SLICE, LAKHIDO_NEITHER, 0);
 
-    ACCEPTED(lakhido_verify(BASES("GC"), MATES(1, 0), BASES("GAC"), MATES(2, 1, 0), MATES(0, 2)), 1, 0);
-    ACCEPTED(lakhido_verify(BASES("GC"), MATES(1, 0), BASES("GAC"), MATES(2, 1, 0), MATES(0, 3)), 0, 0);
+    FOLDED(lakhido_verify(BASES("GC"), MATES(1, 0), BASES("GAC"), MATES(2, 1, 0), MATES(0, 2)), 1, 1, 1);
+    FOLDED(lakhido_verify(BASES("GC"), MATES(1, 0), BASES("GAC"), MATES(2, 1, 0), MATES(0, 3)), 0, 1, 1);
     REFUSED(lakhido_verify(BASES("GC"), MATES(1, 0), BASES("GAC"), MATES(2, 1, 0), MATES(0)), LAKHIDO_WRONG_SLICE, LAKHIDO_NEITHER, 0);
+}
+
+/* Three arcs have depth 2 here; the motifs have one arc, or none. */
+static void arcs_and_depth_of_the_molecule_not_of_the_motif(void) {
+    FOLDED(lakhido_check(THREE_ARCS), 0, 3, 2);
+    FOLDED(lakhido_length(BASES("GC"), MATES(1, 0), THREE_ARCS, WORK(2, 6)), 2, 3, 2);
+    FOLDED(lakhido_show(BASES("GC"), MATES(1, 0), THREE_ARCS, places, 4, WORK(2, 6)), 2, 3, 2);
+    FOLDED(lakhido_verify(BASES("GC"), MATES(1, 0), THREE_ARCS, MATES(0, 5)), 1, 3, 2);
+    FOLDED(lakhido_verify(BASES("GC"), MATES(1, 0), THREE_ARCS, MATES(0, 4)), 0, 3, 2);
+    FOLDED(lakhido_verify(BASES("GC"), MATES(0, 1), THREE_ARCS, MATES(0, 4)), 1, 3, 2);
+    FOLDED(lakhido_verify(THREE_ARCS, BASES("GC"), MATES(1, 0), MATES(0, 1, 2, 3, 4, 5)), 0, 1, 1);
+    FOLDED(lakhido_add(CATALOG, CACHE, 0, THREE_ARCS), 0, 3, 2);
+    ACCEPTED(lakhido_remove(CATALOG, CACHE, 0), 0, 0);
 }
 
 /* Document 01's story of two molecules and one slot. */
 static void story(void) {
     REFUSED(lakhido_remove(CATALOG, CACHE, 0), LAKHIDO_NOT_HELD, LAKHIDO_NEITHER, 0);
-    ACCEPTED(lakhido_add(CATALOG, CACHE, 0, BASES("GAC"), MATES(2, 1, 0)), 0, 0);
-    ACCEPTED(lakhido_add(CATALOG, CACHE, 1, BASES("GGC"), MATES(2, 1, 0)), 0, 0);
+    FOLDED(lakhido_add(CATALOG, CACHE, 0, BASES("GAC"), MATES(2, 1, 0)), 0, 1, 1);
+    FOLDED(lakhido_add(CATALOG, CACHE, 1, BASES("GGC"), MATES(2, 1, 0)), 0, 1, 1);
     REFUSED(lakhido_add(CATALOG, CACHE, 0, BASES("GAC"), MATES(2, 1, 0)), LAKHIDO_ALREADY_HELD, LAKHIDO_NEITHER, 0);
     REFUSED(lakhido_add(CATALOG, CACHE, 2, BASES("GAC"), MATES(2, 1, 0)), LAKHIDO_NUMBER_TOO_LARGE, LAKHIDO_NEITHER, 0);
     hits[2] = 7;
@@ -91,6 +116,7 @@ static void refused_buffers(void) {
 int main(void) {
     strands();
     direct_calls();
+    arcs_and_depth_of_the_molecule_not_of_the_motif();
     story();
     refused_buffers();
     if (!failed) puts("ok");

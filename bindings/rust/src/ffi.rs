@@ -6,8 +6,9 @@
 //! - any bytes and any 16-bit numbers are values of `u8` and `u16`, so whatever a call writes leaves the slices valid;
 //! - the functions take every content and length, keep no pointer, do not unwind and have no state.
 //!
-//! That the library does what the header says is proved in the repository. `tools/verify-interface` holds the declarations here to the Rattle source, and the functions
-//! below, whose parameters have its names, to the order of its parameters; it is no proof. The tests make all calls.
+//! That the library does what the header says is proved in the repository. `tools/verify-interface` holds the declarations here to the Rattle source,
+//! and the functions below, whose parameters have its names, to the order of its parameters; it is no proof. The tests make all calls, and hold the layout
+//! of [`Answer`] to that of C.
 
 /// `lakhido_answer`: refusal 0 means accepted.
 #[repr(C)]
@@ -18,6 +19,8 @@ pub struct Answer {
     pub place: usize,
     pub value: usize,
     pub searched: usize,
+    pub arcs: usize,
+    pub depth: usize,
 }
 
 mod c {
@@ -172,3 +175,6 @@ pub fn query(catalog: &[u8], cache: &mut [u8], p: &[u8], pm: &[u16], work: &mut 
         )
     }
 }
+
+#[cfg(test)]
+mod layout;

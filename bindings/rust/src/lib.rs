@@ -16,17 +16,21 @@
 //! let hairpin = Strand::new(b"GAC", &[2, 1, 0]);
 //! let motif = Strand::new(b"GC", &[1, 0]);
 //!
+//! // How many arcs the hairpin has, and how deep they lie one inside the other.
+//! let fold = lakhido::check(hairpin)?;
+//! assert_eq!((fold.arcs, fold.depth), (1, 1));
+//!
 //! // How much of the motif embeds, and where.
 //! let mut work = vec![0; lakhido::work_size(2, 3)];
 //! let mut places = [0; 2];
-//! assert_eq!(lakhido::show(motif, hairpin, &mut places, &mut work)?, 2);
+//! assert_eq!(lakhido::show(motif, hairpin, &mut places, &mut work)?.length, 2);
 //! assert_eq!(places, [0, 2]);
-//! assert!(lakhido::verify(motif, hairpin, &places)?);
+//! assert!(lakhido::verify(motif, hairpin, &places)?.embeds);
 //!
 //! // A catalog of two blocks and a cache of one; both begin as zeros.
 //! let mut catalog = vec![0; 2 * BLOCK];
 //! let mut cache = vec![0; BLOCK];
-//! lakhido::add(&mut catalog, &mut cache, 1, hairpin)?;
+//! assert_eq!(lakhido::add(&mut catalog, &mut cache, 1, hairpin)?, fold);
 //!
 //! let mut work = vec![0; lakhido::query_work_size(2)];
 //! let mut hits = [0; 2];
@@ -53,6 +57,7 @@
 mod ffi;
 mod refusal;
 
+use ffi::Answer;
 pub use refusal::{Reason, Refusal, Side};
 
 /// The most bases of a strand for [`check`], [`length`], [`show`] and [`verify`].
@@ -96,6 +101,34 @@ impl<'a> Strand<'a> {
     }
 }
 
+/// The fold of a molecule, as [`check`] and [`add`] answer it; [`length`], [`show`] and [`verify`] hand on that of their molecule, never that of the motif.
+#[derive(Clone, Copy, PartialEq, Eq, Debug)]
+pub struct Fold {
+    /// How many arcs the molecule has.
+    pub arcs: usize,
+    /// How deep they lie: the largest number of arcs of which each lies inside the one before. One arc has depth 1, arcs side by side are as deep as the
+    /// deepest of them, and without arcs the depth is 0.
+    pub depth: usize,
+}
+
+/// What [`length`] and [`show`] found.
+#[derive(Clone, Copy, PartialEq, Eq, Debug)]
+pub struct Matched {
+    /// The length of the longest closed prefix of the motif that embeds in the molecule.
+    pub length: usize,
+    /// The fold of the molecule.
+    pub fold: Fold,
+}
+
+/// What [`verify`] found.
+#[derive(Clone, Copy, PartialEq, Eq, Debug)]
+pub struct Verified {
+    /// Whether the places are an embedding of the whole motif in the molecule.
+    pub embeds: bool,
+    /// The fold of the molecule, whether the places are an embedding or not.
+    pub fold: Fold,
+}
+
 /// What [`query`] found. The hits stand at the start of the lent slice.
 #[derive(Clone, Copy, PartialEq, Eq, Debug)]
 pub struct Found {
@@ -105,47 +138,55 @@ pub struct Found {
     pub searched: usize,
 }
 
-/// Accepts a nested molecule of 1 to [`MOST`] bases.
+/// The fold that an accepted call answers.
+fn fold_of(answer: Answer) -> Fold {
+    Fold { arcs: answer.arcs, depth: answer.depth }
+}
+
+/// The answer of [`length`] and [`show`].
+fn matched(answer: Answer) -> Result<Matched, Refusal> {
+    refusal::accepted(answer).map(|answer| Matched { length: answer.value, fold: fold_of(answer) })
+}
+
+/// Accepts a nested molecule of 1 to [`MOST`] bases, and gives its fold.
 ///
 /// Refused by the reasons 1 to 7 with [`Side::Molecule`].
-pub fn check(molecule: Strand) -> Result<(), Refusal> {
-    refusal::accepted(ffi::check(molecule.bases, molecule.mates)).map(|_| ())
+pub fn check(molecule: Strand) -> Result<Fold, Refusal> {
+    refusal::accepted(ffi::check(molecule.bases, molecule.mates)).map(fold_of)
 }
 
 /// The length of the longest closed prefix of the motif that embeds in the molecule: the motif's length exactly when the motif embeds. A prefix is closed
-/// when no arc has one end in it and one outside.
+/// when no arc has one end in it and one outside. With it the fold of the molecule.
 ///
 /// `work` has at least [`work_size`] entries; what it holds before is of no matter, and what it holds after an accepted call is free.
 ///
 /// Refused by the reasons 1 to 7 of the motif, 1 to 7 of the molecule, 8.
-pub fn length(motif: Strand, molecule: Strand, work: &mut [u16]) -> Result<usize, Refusal> {
-    let answer = ffi::length(motif.bases, motif.mates, molecule.bases, molecule.mates, work);
-    Ok(refusal::accepted(answer)?.value)
+pub fn length(motif: Strand, molecule: Strand, work: &mut [u16]) -> Result<Matched, Refusal> {
+    matched(ffi::length(motif.bases, motif.mates, molecule.bases, molecule.mates, work))
 }
 
 /// As [`length`], and writes the places of an embedding of that prefix to the start of `places`, keeping the later entries. `places` has at
 /// least as many entries as the motif has bases. `work` is as for [`length`].
 ///
 /// Refused by the reasons 1 to 7 of the motif, 1 to 7 of the molecule, 9, 8.
-pub fn show(motif: Strand, molecule: Strand, places: &mut [u16], work: &mut [u16]) -> Result<usize, Refusal> {
-    let answer = ffi::show(motif.bases, motif.mates, molecule.bases, molecule.mates, places, work);
-    Ok(refusal::accepted(answer)?.value)
+pub fn show(motif: Strand, molecule: Strand, places: &mut [u16], work: &mut [u16]) -> Result<Matched, Refusal> {
+    matched(ffi::show(motif.bases, motif.mates, molecule.bases, molecule.mates, places, work))
 }
 
-/// Whether `places` is an embedding of the whole motif in the molecule. `places` has as many entries as the motif has bases; a place past the
-/// molecule's end gives `false` and is not refused.
+/// Whether `places` is an embedding of the whole motif in the molecule, and with it the fold of the molecule. `places` has as many entries as the motif has
+/// bases; a place past the molecule's end is no embedding and is not refused.
 ///
 /// Refused by the reasons 1 to 7 of the motif, 1 to 7 of the molecule, 9.
-pub fn verify(motif: Strand, molecule: Strand, places: &[u16]) -> Result<bool, Refusal> {
-    let answer = ffi::verify(motif.bases, motif.mates, molecule.bases, molecule.mates, places);
-    Ok(refusal::accepted(answer)?.value != 0)
+pub fn verify(motif: Strand, molecule: Strand, places: &[u16]) -> Result<Verified, Refusal> {
+    let answer = refusal::accepted(ffi::verify(motif.bases, motif.mates, molecule.bases, molecule.mates, places))?;
+    Ok(Verified { embeds: answer.value != 0, fold: fold_of(answer) })
 }
 
-/// Writes a molecule of 1 to [`MOLECULE_MOST`] bases to block `number` of the catalog, and zeroes every unsound block of the cache.
+/// Writes a molecule of 1 to [`MOLECULE_MOST`] bases to block `number` of the catalog, zeroes every unsound block of the cache, and gives the molecule's fold.
 ///
 /// Refused by the reasons 10, 11, 12, 13, then 1 to 7 of the molecule.
-pub fn add(catalog: &mut [u8], cache: &mut [u8], number: usize, molecule: Strand) -> Result<(), Refusal> {
-    refusal::accepted(ffi::add(catalog, cache, number, molecule.bases, molecule.mates)).map(|_| ())
+pub fn add(catalog: &mut [u8], cache: &mut [u8], number: usize, molecule: Strand) -> Result<Fold, Refusal> {
+    refusal::accepted(ffi::add(catalog, cache, number, molecule.bases, molecule.mates)).map(fold_of)
 }
 
 /// Zeroes block `number` of the catalog and every unsound block of the cache, and takes the number out of every cache entry.

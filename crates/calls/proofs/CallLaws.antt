@@ -6,28 +6,33 @@ use mathlib.Core.Bool.{Bool, true, false, not, _&&_, _||_, or-false}
 use mathlib.Core.List.{List, _++_}
 use lib.ListN.{length, drop}
 use Rattle.lists.specs.Vocabulary.{choose, select}
+use Rattle.strand.specs.declared.Fold.{Fold}
+use Rattle.strand.specs.Folds.{foldOf, IsFold}
 use Rattle.strand.specs.Strands.{Strand, sameStrand}
+use Rattle.strand.proofs.FoldLaws.{fold-is, fold-only}
 use Rattle.lists.proofs.ListLaws.{choose-yes, choose-no}
-use Rattle.refusals.proofs.RuleLaws.{by-accepted}
-use Rattle.refusals.specs.declared.Verdict.the-variants.{Accepted}
+use Rattle.refusals.proofs.RuleLaws.{by-accepted, by-refused}
+use Rattle.refusals.specs.declared.Verdict.{Verdict}
+use Rattle.refusals.specs.declared.Verdict.the-variants.{Accepted, Refused}
 use Rattle.block.specs.Content.{blockSize, emptyBlock, encodeMolecule, encodeEntry, keepsMotif, searchedIn, hitIn}
 use Rattle.block.specs.Block.{blockOf, soundEntry, cleaned, forgot, blockCount, eachBlock, putBlock}
 use Rattle.block.proofs.ContentLaws.{length-cleaned}
 use Rattle.buffer.proofs.BlockLaws.{block-each, length-each, length-block}
+use Rattle.calls.specs.declared.Added.{Added}
 use Rattle.calls.specs.declared.Added.the-variants.{Stored}
 use Rattle.calls.specs.declared.Removed.the-variants.{Cleared}
 use Rattle.calls.specs.declared.Queried.{Queried}
 use Rattle.calls.specs.declared.Queried.the-variants.{Hits}
 use Rattle.calls.specs.Buffers.{mostCatalogBlocks, motifVerdict, held, moleculeAt, slotOf, cleanCache}
-use Rattle.calls.specs.Calls.{effect, addVerdict, addOutcome, removeVerdict, removeOutcome, queried, queryVerdict, isKnown, queryAccepted}
-use Rattle.calls.specs.Calls.{toSearch, isHit, queryOutcome}
+use Rattle.calls.specs.Calls.{Effect, effect, addVerdict, addOutcome, removeVerdict, removeOutcome, queried, queryVerdict, isKnown, queryAccepted}
+use Rattle.calls.specs.Calls.{AddSays, toSearch, isHit, queryOutcome}
 use Rattle.calls.specs.Statements.{AllSound}
 use Rattle.calls.proofs.BlockUse as leaf
 use Rattle.calls.proofs.ReadingLaws.{cleaned-sound}
 
 -- Two effects with the same parts are the same.
-updated-eq : {A : Type 0} {r : A} {a a′ b b′ : List ℕ} → a ≡ a′ → b ≡ b′ → effect r a b ≡ effect r a′ b′
-updated-eq {r = r} x y = λ i. record { answer = r; catalog = x i; cache = y i }
+updated-eq : {A : Type 0} {r r′ : A} {a a′ b b′ : List ℕ} → r ≡ r′ → a ≡ a′ → b ≡ b′ → effect r a b ≡ effect r′ a′ b′
+updated-eq z x y = λ i. record { answer = z i; catalog = x i; cache = y i }
 
 queried-eq : {r r′ : Queried} {a a′ b b′ : List ℕ} → r ≡ r′ → a ≡ a′ → b ≡ b′ → queried r a b ≡ queried r′ a′ b′
 queried-eq z x y = λ i. record { answer = z i; cache = x i; hits = y i }
@@ -36,15 +41,33 @@ queried-eq z x y = λ i. record { answer = z i; cache = x i; hits = y i }
 
 module _ (catalog cache : List ℕ) (d : ℕ) (q : Strand) where
   pub add-does : addVerdict catalog cache d q ≡ Accepted
-      → addOutcome catalog cache d q ≡ effect Stored (putBlock d (encodeMolecule q) catalog) (cleanCache cache)
+      → addOutcome catalog cache d q ≡ effect (Stored (foldOf (q .mates))) (putBlock d (encodeMolecule q) catalog) (cleanCache cache)
   unfolding addOutcome
   add-does e = by-accepted (addVerdict catalog cache d q) _ _ e
 
-  -- x and y are what the writers left
-  pub add-done : (x y : List ℕ) → addVerdict catalog cache d q ≡ Accepted → x ≡ putBlock d (encodeMolecule q) catalog → y ≡ eachBlock cleaned cache
-      → effect Stored x y ≡ addOutcome catalog cache d q
+  -- x and y are what the writers left, f is what the walk over the mates counted
+  pub add-done : (f : Fold) (x y : List ℕ) → addVerdict catalog cache d q ≡ Accepted → f ≡ foldOf (q .mates)
+      → x ≡ putBlock d (encodeMolecule q) catalog → y ≡ eachBlock cleaned cache → effect (Stored f) x y ≡ addOutcome catalog cache d q
   unfolding cleanCache
-  add-done x y e ex ey = updated-eq ex ey ∙ sym (add-does e)
+  add-done f x y e ef ex ey = updated-eq (ap (λ g. Stored g) ef) ex ey ∙ sym (add-does e)
+
+  -- The answer is a fold exactly where the call is accepted, and then the molecule's.
+  pub add-says : AddSays catalog cache d q (addOutcome catalog cache d q .answer)
+  unfolding addOutcome
+  add-says f = (
+    told (addVerdict catalog cache d q) refl,
+    (λ h. ap (λ (x : Effect Added). x .answer) (add-does (h .0)) ∙ ap (λ g. Stored g) (sym (fold-only (q .mates) f (h .1)))),
+  )
+    where
+      told : (v : Verdict) → addVerdict catalog cache d q ≡ v → addOutcome catalog cache d q .answer ≡ Stored f
+          → (addVerdict catalog cache d q ≡ Accepted) × IsFold (q .mates) f
+      told (Refused r) e a =
+          let z = sym (ap (λ (x : Effect Added). x .answer) (by-refused (addVerdict catalog cache d q) _ _ r e)) ∙ a in
+          absurd (let y : _≡_ {A = ℕ} 0 1 = cc in omega arith)
+      told Accepted e a =
+          let z = sym (ap (λ (x : Effect Added). x .answer) (add-does e)) ∙ a in
+          let same : foldOf (q .mates) ≡ f = cc in
+          (e, rw same at (fold-is (q .mates)))
 
 -- Remove
 
@@ -57,7 +80,7 @@ module _ (catalog cache : List ℕ) (d : ℕ) where
   pub remove-done : (x y z : List ℕ) → removeVerdict catalog cache d ≡ Accepted → x ≡ putBlock d emptyBlock catalog → y ≡ eachBlock cleaned cache
       → z ≡ eachBlock (forgot d) y → effect Cleared x z ≡ removeOutcome catalog cache d
   unfolding cleanCache
-  remove-done x y z e ex ey ez = updated-eq ex (ez ∙ ap (eachBlock (forgot d)) ey) ∙ sym (remove-does e)
+  remove-done x y z e ex ey ez = updated-eq refl ex (ez ∙ ap (eachBlock (forgot d)) ey) ∙ sym (remove-does e)
 
 -- Query
 

@@ -34,6 +34,7 @@ use Rattle.calls.specs.Calls.{effect, addVerdict, addOutcome, removeVerd
 use Rattle.calls.specs.Calls.{queryAccepted, queryOutcome, found, queryResult}
 use Rattle.calls.specs.Statements.{AllSound, OnlyAt, AddLeaves, RemoveLeaves, QueryLeaves, slotIn, entryFor, Claims}
 use Rattle.calls.proofs.Accepting.{add-accepts, remove-accepts, query-accepts}
+use Rattle.calls.proofs.CallLaws.{add-says}
 use Rattle.calls.proofs.Refusing.{add-refuses, add-keeps, remove-refuses, remove-keeps, query-refuses, query-keeps}
 use Rattle.calls.proofs.BlockUse as leaf
 use Rattle.calls.proofs.ReadingLaws as read
@@ -309,6 +310,7 @@ claims embeds =
       add-accepted = add-accepted;
       remove-accepted = remove-accepted;
       query-accepted = query-accepted embeds;
+      add-says = add-says;
       add-accepts = add-accepts;
       remove-accepts = remove-accepts;
       query-accepts = query-accepts;

@@ -5,6 +5,7 @@ use mathlib.Core.Path.{_≡_, refl}
 use mathlib.Core.Bool.{Bool}
 use mathlib.Core.List.{List}
 use lib.ListN.{length}
+use Rattle.strand.specs.Folds.{foldOf}
 use Rattle.strand.specs.Strands.{Strand, leastMotif, leastMolecule}
 use Rattle.refusals.specs.Rules.{motifSide, moleculeSide, noSide, refuseIf, Refuses, Keeps}
 use Rattle.refusals.proofs.Refusing.{Numbering, call-number, if-numbered, lowest-numbered, none-numbered, first-numbered, work-numbered, refuses-by}
@@ -65,7 +66,7 @@ query-numbered catalog cache p work room =
 -- ---- the calls
 
 module _ (catalog cache : List ℕ) (d : ℕ) (q : Strand) where
-  apart-add : (r : Refusal) → Stored ≡ NotAdded r → ⊥
+  apart-add : (r : Refusal) → Stored (foldOf (q .mates)) ≡ NotAdded r → ⊥
   apart-add r h = let z : _≡_ {A = ℕ} 0 1 = cc in omega arith
 
   pub add-refuses : Refuses (addVerdict catalog cache d q) NotAdded (addOutcome catalog cache d q .answer)

@@ -8,6 +8,8 @@ use mathlib.Core.Bool.{Bool, true, false, not, _&&_}
 use lib.ListN.{length, drop, take}
 use lib.Dec.{leb, ltb}
 use Rattle.lists.specs.Vocabulary.{choose, select}
+use Rattle.strand.specs.declared.Fold.{Fold}
+use Rattle.strand.specs.Folds.{foldOf, IsFold}
 use Rattle.strand.specs.Strands.{Strand, Proper, leastMotif, leastMolecule}
 use Rattle.refusals.specs.Rules.{motifSide, moleculeSide, noSide, wrongSlice, numberTooLarge, alreadyHeld, notHeld, first, refuseIf, byVerdict, workSize}
 use Rattle.block.specs.Block.{blockOf, forgot, blockCount, eachBlock, putBlock}
@@ -50,12 +52,16 @@ queryRules buffers B p work room = first (buffers ∷ motifVerdict p ∷ refuseI
 unfoldable pub addVerdict : List ℕ → List ℕ → ℕ → Strand → Verdict
 addVerdict catalog cache d q = addRules (buffersVerdict catalog cache) (blockCount catalog) (held catalog) d q
 
--- It writes block d. A refusal leaves both buffers as they are.
+-- It writes block d. 02, (i): "Add hands both on in its own answer", the number of arcs and the depth. A refusal leaves both buffers as they are.
 unfoldable pub addOutcome : List ℕ → List ℕ → ℕ → Strand → Effect Added
 addOutcome catalog cache d q =
     byVerdict (addVerdict catalog cache d q)
     (λ r. effect (NotAdded r) catalog cache)
-    (effect Stored (putBlock d (encodeMolecule q) catalog) (cleanCache cache))
+    (effect (Stored (foldOf (q .mates))) (putBlock d (encodeMolecule q) catalog) (cleanCache cache))
+
+-- Its answer r is Stored with f exactly when the call is accepted and f is the fold of the molecule.
+abbrev pub AddSays : List ℕ → List ℕ → ℕ → Strand → Added → Type 0
+AddSays catalog cache d q r = (f : Fold) → (r ≡ Stored f) ↔ ((addVerdict catalog cache d q ≡ Accepted) × IsFold (q .mates) f)
 
 -- Remove (d).
 unfoldable pub removeVerdict : List ℕ → List ℕ → ℕ → Verdict
@@ -135,7 +141,7 @@ module _ (embeds : Strand → Strand → Bool) where
 pub data Result : Type 0 where
   -- number, side and place of a refusal
   refused : ℕ → ℕ → ℕ → Result
-  -- an accepted add or remove
+  -- an accepted add, whose fold is not compared, or remove
   done : Result
   -- an accepted query: the count, the hit list at the start of its slice, the searched number
   found : ℕ → List ℕ → ℕ → Result
@@ -145,7 +151,7 @@ unfoldable pub refusedBy : Refusal → Result
 refusedBy r = refused (r .number) (r .side) (r .place)
 
 unfoldable pub addResult : Added → Result
-addResult Stored = done
+addResult (Stored f) = done
 addResult (NotAdded r) = refusedBy r
 
 unfoldable pub removeResult : Removed → Result

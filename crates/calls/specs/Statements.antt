@@ -5,6 +5,7 @@ use mathlib.Core.List.{List}
 use mathlib.Core.Bool.{Bool, true, false, _&&_}
 use lib.ListN.{length, take, drop}
 use Rattle.lists.specs.Vocabulary.{select}
+use Rattle.strand.specs.Folds.{foldOf}
 use Rattle.strand.specs.Strands.{Strand}
 use Rattle.octets.specs.Octets.{Bytes, mapBits}
 use Rattle.block.specs.Block.{blockOf, soundMolecule, soundEntry, cleaned, forgot, blockCount}
@@ -18,7 +19,7 @@ use Rattle.calls.specs.declared.Removed.the-variants.{Cleared, Refused a
 use Rattle.calls.specs.declared.Queried.the-variants.{Hits, Refused as NotQueried}
 use Rattle.calls.specs.Buffers.{held, moleculeAt, slotOf, cleanCache}
 use Rattle.calls.specs.Calls.{Effect, addVerdict, addOutcome, removeVerdict, removeOutcome, QueryEffect, queryVerdict, toSearch}
-use Rattle.calls.specs.Calls.{isHit, queryOutcome, QueryAccepts, AddAccepts, RemoveAccepts}
+use Rattle.calls.specs.Calls.{isHit, queryOutcome, QueryAccepts, AddAccepts, AddSays, RemoveAccepts}
 
 -- Every block of the cache is sound.
 abbrev pub AllSound : List ℕ → Type 0
@@ -40,7 +41,8 @@ pub record EachIs (f : List ℕ → List ℕ) (before after : List ℕ) : Type 0
 
 -- What an accepted add leaves.
 pub record AddLeaves (catalog cache : List ℕ) (d : ℕ) (q : Strand) (after : Effect Added) : Type 0 where
-  pub answer : after .answer ≡ Stored
+  -- the number of arcs and the depth of the molecule
+  pub answer : after .answer ≡ Stored (foldOf (q .mates))
   -- block d is sound and holds the molecule; every other block stays
   pub block-sound : soundMolecule (blockOf d (after .catalog)) ≡ true
   pub is-held : held (after .catalog) d ≡ true
@@ -97,6 +99,8 @@ pub record Claims (embeds : Strand → Strand → Bool) : Type 0 where
   pub query-accepted : (catalog cache : List ℕ) (p : Strand) (work : ℕ) (hits : List ℕ) → queryVerdict catalog cache p work (length hits) ≡ Accepted
       → QueryLeaves catalog cache (slotIn cache p) p hits (isHit embeds catalog (entryFor cache p) p) (toSearch catalog (entryFor cache p) p)
       (queryOutcome embeds catalog cache p work hits)
+  -- what add answers, as a proposition
+  pub add-says : (catalog cache : List ℕ) (d : ℕ) (q : Strand) → AddSays catalog cache d q (addOutcome catalog cache d q .answer)
   -- a call is accepted exactly where no rule applies
   pub add-accepts : (catalog cache : List ℕ) (d : ℕ) (q : Strand) → AddAccepts catalog cache d q
   pub remove-accepts : (catalog cache : List ℕ) (d : ℕ) → RemoveAccepts catalog cache d

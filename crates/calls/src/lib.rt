@@ -1,8 +1,8 @@
 // What add, remove and query answer and leave, for all inputs: the answers here, all else in specs/. Crate catalog has the code.
 
-// The answer of add.
+// The answer of add: the molecule is stored, and this is its fold.
 pub enum Added {
-    Stored,
+    Stored(strand::Fold),
     Refused(refusals::Refusal),
 }
 

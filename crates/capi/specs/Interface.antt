@@ -2,6 +2,7 @@
 use Prim.Native.Nat.{ℕ}
 use mathlib.Core.List.{List}
 use Rattle.refusals.specs.declared.Refusal.{Refusal}
+use Rattle.strand.specs.declared.Fold.{Fold}
 use Rattle.strand.specs.declared.Checked.{Checked}
 use Rattle.strand.specs.declared.Checked.the-variants as checked
 use Rattle.embedding.specs.declared.Verified.{Verified}
@@ -18,42 +19,46 @@ use Rattle.calls.specs.Calls.{Effect, effect, QueryEffect}
 use Rattle.capi.specs.declared.Answer.{Answer}
 
 -- An accepted call: refusal number 0, and what the call says.
-abbrev pub accepted : ℕ → ℕ → Answer
-accepted value searched = record { refusal = 0; side = 0; place = 0; value = value; searched = searched }
+abbrev pub accepted : ℕ → ℕ → Fold → Answer
+accepted value searched f = record { refusal = 0; side = 0; place = 0; value = value; searched = searched; arcs = f .arcs; depth = f .depth }
 
--- A refused call: 01's number, side and place.
+-- Remove and query say nothing of a fold: zeros.
+abbrev pub noFold : Fold
+noFold = record { arcs = 0; depth = 0 }
+
+-- A refused call: 01's number, side and place, else zeros.
 abbrev pub refused : Refusal → Answer
-refused x = record { refusal = x .number; side = x .side; place = x .place; value = 0; searched = 0 }
+refused x = record { refusal = x .number; side = x .side; place = x .place; value = 0; searched = 0; arcs = 0; depth = 0 }
 
--- Check.
+-- Check: the fold of the molecule.
 unfoldable pub checkInC : Checked → Answer
-checkInC checked.Nested = accepted 0 0
+checkInC (checked.Nested f) = accepted 0 0 f
 checkInC (checked.Refused x) = refused x
 
--- Length and show: the length of the prefix.
+-- Length and show: the length of the prefix, and the fold of the molecule.
 unfoldable pub matchInC : Matched → Answer
-matchInC (matched.Prefix L) = accepted L 0
+matchInC (matched.Prefix L f) = accepted L 0 f
 matchInC (matched.Refused x) = refused x
 
--- Verify: 1 for yes, 0 for no.
+-- Verify: 1 for yes, 0 for no, and the fold of the molecule.
 unfoldable pub verifyInC : Verified → Answer
-verifyInC verified.Yes = accepted 1 0
-verifyInC verified.No = accepted 0 0
+verifyInC (verified.Yes f) = accepted 1 0 f
+verifyInC (verified.No f) = accepted 0 0 f
 verifyInC (verified.Refused x) = refused x
 
--- Add.
+-- Add: the fold of the molecule.
 unfoldable pub addInC : Added → Answer
-addInC added.Stored = accepted 0 0
+addInC (added.Stored f) = accepted 0 0 f
 addInC (added.Refused x) = refused x
 
 -- Remove.
 unfoldable pub removeInC : Removed → Answer
-removeInC removed.Cleared = accepted 0 0
+removeInC removed.Cleared = accepted 0 0 noFold
 removeInC (removed.Refused x) = refused x
 
 -- Query: the count of hits, and how many molecules were searched.
 unfoldable pub queryInC : Queried → Answer
-queryInC (queried.Hits count searched) = accepted count searched
+queryInC (queried.Hits count searched) = accepted count searched noFold
 queryInC (queried.Refused x) = refused x
 
 -- The effect of add or remove as C sees it: the struct in place of the answer, and both buffers afterwards.

@@ -6,12 +6,13 @@ use embedding::Verified;
 use matcher::Matched;
 use refusals::Refusal;
 use strand::Checked;
+use strand::Fold;
 ghost use mathlib.Core.Path.{_≡_};
-ghost use Rattle.capi.specs.Interface.{accepted, refused, checkInC, matchInC, verifyInC, addInC, removeInC, queryInC};
+ghost use Rattle.capi.specs.Interface.{accepted, refused, noFold, checkInC, matchInC, verifyInC, addInC, removeInC, queryInC};
 
 // An accepted call, and a refused one.
-fn accept(value: usize, searched: usize) -> crate::Answer
-    ensures { λ r. ⌜ r ≡ accepted value searched ⌝ }
+fn accept(value: usize, searched: usize, fold: Fold) -> crate::Answer
+    ensures { λ r. ⌜ r ≡ accepted value searched fold ⌝ }
 {
     crate::Answer {
         refusal: 0,
@@ -19,7 +20,16 @@ fn accept(value: usize, searched: usize) -> crate::Answer
         place: 0,
         value,
         searched,
+        arcs: fold.arcs,
+        depth: fold.depth,
     }
+}
+
+// Remove and query say nothing of a fold: zeros.
+fn no_fold() -> Fold
+    ensures { λ r. ⌜ r ≡ noFold ⌝ }
+{
+    Fold { arcs: 0, depth: 0 }
 }
 
 fn refuse(x: Refusal) -> crate::Answer
@@ -31,6 +41,8 @@ fn refuse(x: Refusal) -> crate::Answer
         place: x.place,
         value: 0,
         searched: 0,
+        arcs: 0,
+        depth: 0,
     }
 }
 
@@ -38,17 +50,17 @@ fn refuse(x: Refusal) -> crate::Answer
 pub fn tell_check(a: Checked) -> crate::Answer
     ensures { λ r. ⌜ r ≡ checkInC a ⌝ }
 {
-    if let Checked::Refused(x) = a {
-        return refuse(x);
+    match a {
+        Checked::Nested(fold) => accept(0, 0, fold),
+        Checked::Refused(x) => refuse(x),
     }
-    accept(0, 0)
 }
 
 pub fn tell_match(a: Matched) -> crate::Answer
     ensures { λ r. ⌜ r ≡ matchInC a ⌝ }
 {
     match a {
-        Matched::Prefix(n) => accept(n, 0),
+        Matched::Prefix { length, fold } => accept(length, 0, fold),
         Matched::Refused(x) => refuse(x),
     }
 }
@@ -57,8 +69,8 @@ pub fn tell_verify(a: Verified) -> crate::Answer
     ensures { λ r. ⌜ r ≡ verifyInC a ⌝ }
 {
     match a {
-        Verified::Yes => accept(1, 0),
-        Verified::No => accept(0, 0),
+        Verified::Yes(fold) => accept(1, 0, fold),
+        Verified::No(fold) => accept(0, 0, fold),
         Verified::Refused(x) => refuse(x),
     }
 }
@@ -66,10 +78,10 @@ pub fn tell_verify(a: Verified) -> crate::Answer
 pub fn tell_add(a: Added) -> crate::Answer
     ensures { λ r. ⌜ r ≡ addInC a ⌝ }
 {
-    if let Added::Refused(x) = a {
-        return refuse(x);
+    match a {
+        Added::Stored(fold) => accept(0, 0, fold),
+        Added::Refused(x) => refuse(x),
     }
-    accept(0, 0)
 }
 
 pub fn tell_remove(a: Removed) -> crate::Answer
@@ -78,14 +90,14 @@ pub fn tell_remove(a: Removed) -> crate::Answer
     if let Removed::Refused(x) = a {
         return refuse(x);
     }
-    accept(0, 0)
+    accept(0, 0, no_fold())
 }
 
 pub fn tell_query(a: Queried) -> crate::Answer
     ensures { λ r. ⌜ r ≡ queryInC a ⌝ }
 {
     match a {
-        Queried::Hits { count, searched } => accept(count, searched),
+        Queried::Hits { count, searched } => accept(count, searched, no_fold()),
         Queried::Refused(x) => refuse(x),
     }
 }

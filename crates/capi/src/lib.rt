@@ -10,7 +10,8 @@ ghost use Rattle.matcher.specs.Answers.{lengthVerdict, lengthAnswer, showVerdic
 ghost use Rattle.calls.specs.Calls.{effect, addOutcome, removeOutcome, queryVerdict, queryOutcome};
 ghost use Rattle.capi.specs.Interface.{checkInC, matchInC, verifyInC, addInC, removeInC, effectInC, queriedInC, queryEffectInC};
 
-// The answer of every call. Refused: number, side and place, else zeros. Accepted: refusal 0, and what the call says in `value` and `searched`.
+// The answer of every call. Refused: number, side and place, else zeros. Accepted: refusal 0, and in `value` and `searched` what the call says; `arcs` and
+// `depth` are the molecule's in check, length, show, verify and add; else 0.
 #[repr(C)]
 pub struct Answer {
     pub refusal: usize,
@@ -18,6 +19,8 @@ pub struct Answer {
     pub place: usize,
     pub value: usize,
     pub searched: usize,
+    pub arcs: usize,
+    pub depth: usize,
 }
 
 #[no_mangle]

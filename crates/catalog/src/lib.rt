@@ -9,7 +9,7 @@ pub use calls::Added;
 pub use calls::Queried;
 pub use calls::Removed;
 
-// The call add: writes the molecule under number d.
+// The call add: writes the molecule under number d, and answers its fold.
 pub fn add(catalog: &mut [u8], cache: &mut [u8], d: usize, bases: &[u8], mates: &[u16]) -> Added
     ensures { λ r. ⌜ effect r (now (catalog .exit)) (now (cache .exit))
         ≡ addOutcome (now (catalog .entry)) (now (cache .entry)) d (strandOf (now (bases .entry)) (now (mates .entry))) ⌝ }
@@ -20,7 +20,7 @@ pub fn add(catalog: &mut [u8], cache: &mut [u8], d: usize, bases: &[u8], mates: 
     }
     buffer::clean_all(cache);
     buffer::put_molecule(catalog, d, bases, mates);
-    Added::Stored
+    Added::Stored(strand::depth::fold_of(mates))
 }
 
 // The call remove: takes number d out of the catalog and of every cache entry.

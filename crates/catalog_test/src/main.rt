@@ -8,8 +8,8 @@
 // of the bases are written, the others repeat them (two digits), 74 how many bases there are and 78 how many mates (three), 82 the sum of catalog
 // and cache, 93 that of the hits (ten). Letters: `A` add, `R` remove, `Q` query. `N` empties the buffer. `S` sets byte d of the buffer to the value of
 // column 23, `B` too, uncounted. `G` ends a group: its counts are written behind its name, which stands in column 5, its length in column 2.
-// Remarks begin with `#`. The answer is a number of `testing::answer`: 0 for an accepted add or remove, a refusal, or for an accepted query two
-// numbers, the count and how many molecules were searched.
+// Remarks begin with `#`. The answer is a number of `testing::answer`: a refusal; for an accepted add two numbers, the arcs of its molecule and the
+// depth; 0 for an accepted remove; for an accepted query two numbers, the count and how many molecules were searched.
 mod lines;
 mod requests;
 mod tell;
@@ -54,7 +54,7 @@ fn step(line: &[u8], s: &mut [u8], counts: &mut [u16]) {
     if kind == b'G' {
         return tell::report(line, counts);
     }
-    tell::count(counts, act(line, kind, s));
+    tell::count(counts, kind, act(line, kind, s));
 }
 
 // The lines of the input, 99,999 at most.
@@ -71,13 +71,13 @@ fn all(line: &mut [u8], s: &mut [u8], counts: &mut [u16]) {
 
 // The buffer has 513 blocks of the catalog and 65 of the cache, one more than a call may have. A reference to an array is borrowed as a slice at no
 // cost, where the array itself would be spelled out by the prover.
-fn run(line: &mut [u8; 104], s: &mut [u8; 295936], counts: &mut [u16; 105]) {
+fn run(line: &mut [u8; 104], s: &mut [u8; 295936], counts: &mut [u16; 107]) {
     all(line, s, counts);
 }
 
 fn main() {
     let mut line = [0u8; 104];
     let mut s = [0u8; 295936];
-    let mut counts = [0u16; 105];
+    let mut counts = [0u16; 107];
     run(&mut line, &mut s, &mut counts);
 }

@@ -23,7 +23,7 @@ fn refusal(r: refusals::Refusal) -> usize {
 
 fn added(a: Added) -> usize {
     match a {
-        Added::Stored => 0,
+        Added::Stored(fold) => answer::two(fold.arcs, fold.depth),
         Added::Refused(r) => refusal(r),
     }
 }

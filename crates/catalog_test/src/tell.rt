@@ -23,6 +23,10 @@ const HITS: usize = 103;
 
 const SEARCHES: usize = 104;
 
+const ARCS: usize = 105;
+
+const DEPTHS: usize = 106;
+
 // The number of a byte that was set, which is no answer.
 const BYTE_SET: usize = 10000000002;
 
@@ -39,12 +43,26 @@ fn tally(counts: &mut [u16], k: usize, n: usize) {
 
 fn count_query(counts: &mut [u16], r: usize) {
     tally(counts, QUERIES, 1);
-    tally(counts, HITS, r / 10000);
-    tally(counts, SEARCHES, r);
+    tally(counts, HITS, answer::first_of(r));
+    tally(counts, SEARCHES, answer::second_of(r));
 }
 
-// Counts what is no query's answer.
-pub fn count(counts: &mut [u16], r: usize) {
+fn count_add(counts: &mut [u16], r: usize) {
+    tally(counts, ACCEPTED, 1);
+    tally(counts, ARCS, answer::first_of(r));
+    tally(counts, DEPTHS, answer::second_of(r));
+}
+
+// Counts the two numbers of an accepted add or query.
+fn count_two(counts: &mut [u16], kind: u8, r: usize) {
+    if kind == b'A' {
+        return count_add(counts, r);
+    }
+    count_query(counts, r);
+}
+
+// Counts the answer of a call of some kind, or what is no answer.
+pub fn count(counts: &mut [u16], kind: u8, r: usize) {
     if r == NOTHING {
         return;
     }
@@ -58,7 +76,7 @@ pub fn count(counts: &mut [u16], r: usize) {
     if k < ROWS {
         return tally(counts, k, 1);
     }
-    count_query(counts, r);
+    count_two(counts, kind, r);
 }
 
 // Writes a text and a count, and counts anew.
@@ -84,6 +102,12 @@ fn write_rows(counts: &mut [u16]) {
     }
 }
 
+fn write_updates(counts: &mut [u16]) {
+    write(counts, b"; adds and removes ", ACCEPTED);
+    write(counts, b" with arcs ", ARCS);
+    write(counts, b" and depths ", DEPTHS);
+}
+
 fn write_queries(counts: &mut [u16]) {
     write(counts, b", queries ", QUERIES);
     write(counts, b" with hits ", HITS);
@@ -94,7 +118,7 @@ fn write_queries(counts: &mut [u16]) {
 pub fn report(line: &[u8], counts: &mut [u16]) {
     say(part(line, 5, number(line, 2, 2)));
     write(counts, b": wrong ", WRONGS);
-    write(counts, b"; adds and removes ", ACCEPTED);
+    write_updates(counts);
     write_queries(counts);
     write(counts, b"; bytes set ", BYTES);
     say(b"; refused by row");

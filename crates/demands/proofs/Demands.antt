@@ -17,6 +17,7 @@ any-input =
       add = calls.claims embeds .add-refuses;
       remove = calls.claims embeds .remove-refuses;
       query = calls.claims embeds .query-refuses;
+      check-accepts = strand.claims .check-accepts;
       length-accepts = matcher.claims .length-accepts;
       show-accepts = matcher.claims .show-accepts;
       verify-accepts = embedding.claims .verify-accepts;
@@ -36,6 +37,7 @@ right-answer =
       show = matcher.claims .show-says;
       whole = matcher.claims .length-whole;
       verify = embedding.claims .verify-says;
+      add = calls.claims embeds .add-says;
     }
 
 every-history : EveryHistory

@@ -1,12 +1,12 @@
 -- The three demands on the library; `demands`, in proofs/Demands, proves them of the definitions that the contracts cite: xVerdict is the table's word on call
 -- x, xAnswer and xOutcome what x answers and leaves. Meets.antt says the same of the calls themselves, and alone has what no definition gives: the places that
 -- show writes, and the work slices (1.10, 2.5). p, pm are the bases and mates of the motif P, q, qm those of the molecule Q; in add and query q and p are whole
--- strands. The screen program has its own statements (crate screening), document 01's examples theirs (crate examples).
+-- strands. The screen program has its own statements (crate screening), the examples theirs (crate examples).
 use Prim.Native.Nat.{ℕ}
 use mathlib.Core.List.{List}
 use lib.ListN.{length as len}
 use Rattle.refusals.specs.Rules.{Refuses, Keeps}
-use Rattle.strand.specs.Strands.{Strand, checkVerdict, checkAnswer, CheckSays}
+use Rattle.strand.specs.Strands.{Strand, checkVerdict, checkAnswer, CheckAccepts, CheckSays}
 use Rattle.strand.specs.declared.Checked.the-variants as checks
 use Rattle.embedding.specs.Embedding.{EmbedsIn}
 use Rattle.embedding.specs.Longest.{verifyVerdict, verifyAnswer, VerifySays, VerifyAccepts, embeds}
@@ -17,7 +17,7 @@ use Rattle.calls.specs.declared.Added.the-variants as adds
 use Rattle.calls.specs.declared.Removed.the-variants as removes
 use Rattle.calls.specs.declared.Queried.the-variants as queries
 use Rattle.calls.specs.Calls.{addVerdict, addOutcome, removeVerdict, removeOutcome, queryVerdict, queryOutcome, AddAccepts, RemoveAccepts}
-use Rattle.calls.specs.Calls.{QueryAccepts}
+use Rattle.calls.specs.Calls.{AddSays, QueryAccepts}
 use Rattle.history.specs.History.{SomeRun, SameRefusals, Decides, RunTheorem}
 
 -- Demand 1, any input: whichever buffers a caller hands over, a call gives an answer or a numbered refusal, and a refusal changes no byte.
@@ -32,7 +32,8 @@ pub record AnyInput : Type 0 where
   pub remove : (catalog cache : List ℕ) (d : ℕ) → Refuses (removeVerdict catalog cache d) removes.Refused (removeOutcome catalog cache d .answer)
   pub query : (catalog cache : List ℕ) (p : Strand) (work : ℕ) (hits : List ℕ)
       → Refuses (queryVerdict catalog cache p work (len hits)) queries.Refused (queryOutcome embeds catalog cache p work hits .answer)
-  -- 1.8: a call is accepted exactly where no row of the table applies (check: 2.1)
+  -- 1.8: a call is accepted exactly where no row of the table applies
+  pub check-accepts : (bases mates : List ℕ) → CheckAccepts bases mates
   pub length-accepts : (p pm q qm : List ℕ) (work : ℕ) → LengthAccepts p pm q qm work
   pub show-accepts : (p pm q qm : List ℕ) (places work : ℕ) → ShowAccepts p pm q qm places work
   pub verify-accepts : (p pm q qm v : List ℕ) → VerifyAccepts p pm q qm v
@@ -51,15 +52,17 @@ pub record AnyInput : Type 0 where
 
 -- Demand 2, the right answer. (2.5, in Meets: the first L places that show leaves are an embedding of that prefix, and later ones keep their values.)
 pub record RightAnswer : Type 0 where
-  -- 2.1: check accepts a nested molecule and nothing else
+  -- 2.1: check accepts a nested molecule and nothing else, and answers the number of its arcs and its depth
   pub check : (bases mates : List ℕ) → CheckSays bases mates (checkAnswer bases mates)
-  -- 2.2: length and show answer the length of the longest closed prefix of P that embeds in Q
+  -- 2.2: length and show answer the length of the longest closed prefix of P that embeds in Q, and the number of arcs and the depth of Q
   pub length : (p pm q qm : List ℕ) (work : ℕ) → PrefixSays (lengthVerdict p pm q qm work) p pm q qm (lengthAnswer p pm q qm work)
   pub show : (p pm q qm : List ℕ) (places work : ℕ) → PrefixSays (showVerdict p pm q qm places work) p pm q qm (showAnswer p pm q qm places work)
   -- 2.3: it is the length of P exactly when P embeds in Q
   pub whole : (p pm q qm : List ℕ) (work : ℕ) → WholeSays (lengthVerdict p pm q qm work) p pm q qm (lengthAnswer p pm q qm work)
-  -- 2.4: verify says yes exactly to embeddings of the whole P
+  -- 2.4: verify says yes exactly to embeddings of the whole P, and with yes and no the number of arcs and the depth of Q
   pub verify : (p pm q qm v : List ℕ) → VerifySays p pm q qm v (verifyAnswer p pm q qm v)
+  -- 2.6: an accepted add answers the number of arcs and the depth of its molecule
+  pub add : (catalog cache : List ℕ) (d : ℕ) (q : Strand) → AddSays catalog cache d q (addOutcome catalog cache d q .answer)
 
 -- Demand 3, every history of add, remove and query.
 pub record EveryHistory : Type 0 where

@@ -23,7 +23,7 @@ use Rattle.calls.specs.declared.Removed.the-variants as removes
 use Rattle.calls.specs.declared.Queried.{Queried}
 use Rattle.calls.specs.declared.Queried.the-variants as queries
 use Rattle.calls.specs.Calls.{effect, addVerdict, addOutcome, removeVerdict, removeOutcome, queried, queryVerdict, queryOutcome, addResult, removeResult}
-use Rattle.calls.specs.Calls.{queryResult}
+use Rattle.calls.specs.Calls.{queryResult, AddSays}
 use Rattle.history.specs.Model.{add, remove, query}
 use Rattle.history.specs.History.{buffersOf, IsStep}
 
@@ -51,11 +51,12 @@ pub record VerifyMeets (p pm q qm v : List ℕ) (r : Verified) : Type 0 where
   pub refuses : Refuses (verifyVerdict p pm q qm v) verifies.Refused r
   pub says : VerifySays p pm q qm v r
 
--- 1.5, 1.9; the step `runAdd` of a run
+-- 1.5, 1.9, 2.6; the step `runAdd` of a run
 pub record AddMeets (catalog cache : List ℕ) (d : ℕ) (q : Strand) (r : Added) (catalog′ cache′ : List ℕ) : Type 0 where
   pub outcome : effect r catalog′ cache′ ≡ addOutcome catalog cache d q
   pub refuses : Refuses (addVerdict catalog cache d q) adds.Refused r
   pub keeps : Keeps adds.Refused r catalog cache catalog′ cache′
+  pub says : AddSays catalog cache d q r
   pub step : IsStep embeds (buffersOf catalog cache) (add d q) (addResult r) (buffersOf catalog′ cache′)
 
 -- 1.6, 1.9; the step `runRemove`

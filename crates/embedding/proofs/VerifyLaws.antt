@@ -1,5 +1,5 @@
 -- The refusals and the answers of verify, case by case.
-use Prim.Native.Nat.{ℕ}
+use Prim.Native.Nat.{ℕ, _≤_}
 use mathlib.Core.Path.{_≡_, refl, sym, ap, _∙_}
 use mathlib.Core.Bool.{Bool, true, false, not, true≢false}
 use mathlib.Core.List.{List}
@@ -10,15 +10,18 @@ use Rattle.refusals.specs.declared.Refusal.{Refusal}
 use Rattle.refusals.specs.declared.Verdict.{Verdict}
 use Rattle.refusals.specs.declared.Verdict.the-variants as verdict
 use Rattle.lists.specs.Vocabulary.{nth, choose}
-use Rattle.strand.specs.Strands.{lettersMatch, Inside, pairVerdict}
+use Rattle.strand.specs.declared.Fold.{Fold}
+use Rattle.strand.specs.Folds.{foldOf, IsFold}
+use Rattle.strand.specs.Strands.{lettersMatch, Inside, Nested, greatestLength, pairVerdict}
 use Rattle.refusals.specs.Rules.{noSide, refusal, Refuses}
 use Rattle.lists.proofs.ListLaws.{not-not, choose-yes, choose-no}
 use Rattle.refusals.proofs.RuleLaws.{first-one, first-pass, first-skip, first-stop, rule-yes, rule-no, rule-pass, by-refused, by-accepted}
 use Rattle.refusals.proofs.Refusing.{Numbering, call-number, if-numbered, none-numbered, first-numbered, refuses-by}
-use Rattle.strand.proofs.VerdictLaws.{pair-proper, proper-pair, pair-numbered}
+use Rattle.strand.proofs.FoldLaws.{fold-is, fold-only}
+use Rattle.strand.proofs.VerdictLaws.{pair-proper, proper-pair, proper-mates, pair-numbered}
+use Rattle.embedding.specs.declared.Verified.{Verified}
 use Rattle.embedding.specs.declared.Verified.the-variants.{Yes, No, Refused}
-use Rattle.embedding.specs.Embedding.{lettersFit, Emb}
-use Rattle.embedding.specs.Longest.{verified, verifyVerdict, verifyAnswer, VerifySays, VerifyAccepts}
+use Rattle.embedding.specs.Longest.{verified, verifyVerdict, verifyAnswer, EmbedsAt, VerifySays, VerifyAccepts}
 use Rattle.embedding.proofs.Answers.{not-true-is}
 use Rattle.embedding.proofs.Computed.{verified-iff}
 
@@ -53,35 +56,51 @@ module _ (p pm q qm v : List ℕ) where
       let s : length pm ≡ length p = P .motif .same in
       (accepted-count e, ((s, P .molecule .same), λ i h. omega (arith, P .motif .nested .inside i (omega arith))))
 
+  pub accepted-mates : verifyVerdict p pm q qm v ≡ verdict.Accepted → Nested (nth qm) (length qm) × (length qm ≤ greatestLength)
+  accepted-mates e = proper-mates (omega arith) (pair-proper p pm q qm (accepted-pair e) .molecule)
+
   -- The answers.
   pub answer-refused : (x : Refusal) → verifyVerdict p pm q qm v ≡ verdict.Refused x → Refused x ≡ verifyAnswer p pm q qm v
   answer-refused x e = sym (by-refused _ _ _ x e)
 
-  module _ (e : verifyVerdict p pm q qm v ≡ verdict.Accepted) where
-    pub answer-yes : Emb (lettersFit p q) (nth pm) (nth qm) 0 (length p) 0 (length q) (nth v) → Yes ≡ verifyAnswer p pm q qm v
-    answer-yes E = sym (by-accepted _ _ _ e ∙ choose-yes _ _ _ (verified-iff lettersMatch p pm q qm v .1 (accepted-count e, E)))
+  module _ (e : verifyVerdict p pm q qm v ≡ verdict.Accepted) {f : Fold} (same : f ≡ foldOf qm) where
+    pub answer-yes : EmbedsAt p pm q qm v → Yes f ≡ verifyAnswer p pm q qm v
+    answer-yes E =
+        ap (λ g. Yes g) same ∙ sym (by-accepted _ _ _ e ∙ choose-yes _ _ _ (verified-iff lettersMatch p pm q qm v .1 (accepted-count e, E)))
 
-    pub answer-no : (Emb (lettersFit p q) (nth pm) (nth qm) 0 (length p) 0 (length q) (nth v) → ⊥) → No ≡ verifyAnswer p pm q qm v
-    answer-no n = sym (by-accepted _ _ _ e ∙ choose-no _ _ _ (not-true-is _ (λ t. n (verified-iff lettersMatch p pm q qm v .0 t .1))))
+    pub answer-no : (EmbedsAt p pm q qm v → ⊥) → No f ≡ verifyAnswer p pm q qm v
+    answer-no n =
+        ap (λ g. No g) same ∙ sym (by-accepted _ _ _ e ∙ choose-no _ _ _ (not-true-is _ (λ t. n (verified-iff lettersMatch p pm q qm v .0 t .1))))
 
-  -- Yes exactly when the call is accepted and the places are an embedding of the whole P.
-  yes-facts : verifyAnswer p pm q qm v ≡ Yes
-      → (verifyVerdict p pm q qm v ≡ verdict.Accepted) × Emb (lettersFit p q) (nth pm) (nth qm) 0 (length p) 0 (length q) (nth v)
-  yes-facts a = go (verifyVerdict p pm q qm v) refl
+  -- What an answer tells of the call: a yes or a no is an accepted call's, with the fold of Q.
+  unfoldable Told : Verified → Type 0
+  Told (Yes f) = (verifyVerdict p pm q qm v ≡ verdict.Accepted) × EmbedsAt p pm q qm v × IsFold qm f
+  Told (No f) = (verifyVerdict p pm q qm v ≡ verdict.Accepted) × (EmbedsAt p pm q qm v → ⊥) × IsFold qm f
+  Told (Refused x) = Unit
+
+  answer-told : Told (verifyAnswer p pm q qm v)
+  unfolding Told
+  answer-told = go (verifyVerdict p pm q qm v) refl
     where
-      go : (w : Verdict) → verifyVerdict p pm q qm v ≡ w
-          → (verifyVerdict p pm q qm v ≡ verdict.Accepted) × Emb (lettersFit p q) (nth pm) (nth qm) 0 (length p) 0 (length q) (nth v)
-      go (verdict.Refused x) e = absurd (let z = answer-refused x e ∙ a in let y : _≡_ {A = ℕ} 0 1 = cc in omega arith)
-      go verdict.Accepted e = (e, test (verified lettersMatch p pm q qm v) refl)
+      go : (w : Verdict) → verifyVerdict p pm q qm v ≡ w → Told (verifyAnswer p pm q qm v)
+      go (verdict.Refused x) e = rw (sym (answer-refused x e)) tt
+      go verdict.Accepted e = test (verified lettersMatch p pm q qm v) refl
         where
-          test : (b : Bool) → verified lettersMatch p pm q qm v ≡ b → Emb (lettersFit p q) (nth pm) (nth qm) 0 (length p) 0 (length q) (nth v)
-          test true t = verified-iff lettersMatch p pm q qm v .0 t .1
+          test : (b : Bool) → verified lettersMatch p pm q qm v ≡ b → Told (verifyAnswer p pm q qm v)
+          test true t =
+              let E = verified-iff lettersMatch p pm q qm v .0 t .1 in
+              rw (sym (answer-yes e refl E)) (e, E, fold-is qm)
           test false t =
-              absurd (let z = answer-no e (λ E. true≢false (sym (verified-iff lettersMatch p pm q qm v .1 (accepted-count e, E)) ∙ t)) ∙ a in
-              let y : _≡_ {A = ℕ} 0 1 = cc in omega arith)
+              let n : EmbedsAt p pm q qm v → ⊥ = λ E. true≢false (sym (verified-iff lettersMatch p pm q qm v .1 (accepted-count e, E)) ∙ t) in
+              rw (sym (answer-no e refl n)) (e, n, fold-is qm)
 
   pub verify-says : VerifySays p pm q qm v (verifyAnswer p pm q qm v)
-  verify-says = (yes-facts, λ h. sym (answer-yes (h .0) (h .1)))
+  unfolding Told
+  verify-says =
+      record {
+        yes = λ f. ((λ a. rw a at answer-told), (λ h. sym (answer-yes (h .0) (fold-only qm f (h .2)) (h .1))));
+        no = λ f. ((λ a. rw a at answer-told), (λ h. sym (answer-no (h .0) (fold-only qm f (h .2)) (h .1))));
+      }
 
   pub verify-accepts : VerifyAccepts p pm q qm v
   verify-accepts = (
@@ -100,6 +119,12 @@ module _ (p pm q qm v : List ℕ) where
   verify-refuses =
       refuses-by (verifyVerdict p pm q qm v) Refused _ (λ r. r) Refused (λ r. refl) (apart (verified lettersMatch p pm q qm v)) verify-numbered (λ r s e. cc)
     where
-      apart : (b : Bool) (r : Refusal) → choose b Yes No ≡ Refused r → ⊥
-      apart true r e = let z = sym (choose-yes true Yes No refl) ∙ e in let y : _≡_ {A = ℕ} 0 1 = cc in omega arith
-      apart false r e = let z = sym (choose-no false Yes No refl) ∙ e in let y : _≡_ {A = ℕ} 0 1 = cc in omega arith
+      yes : Verified
+      yes = Yes (foldOf qm)
+
+      no : Verified
+      no = No (foldOf qm)
+
+      apart : (b : Bool) (r : Refusal) → choose b yes no ≡ Refused r → ⊥
+      apart true r e = let z = sym (choose-yes true yes no refl) ∙ e in let y : _≡_ {A = ℕ} 0 1 = cc in omega arith
+      apart false r e = let z = sym (choose-no false yes no refl) ∙ e in let y : _≡_ {A = ℕ} 0 1 = cc in omega arith

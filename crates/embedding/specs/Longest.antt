@@ -11,6 +11,8 @@ use Rattle.embedding.specs.Embedding.{fits, lettersFit, Emb}
 use Rattle.refusals.specs.declared.Verdict.{Verdict}
 use Rattle.refusals.specs.declared.Verdict.the-variants.{Accepted}
 use Rattle.refusals.specs.Rules.{noSide, wrongSlice, refuseIf, first, byVerdict}
+use Rattle.strand.specs.declared.Fold.{Fold}
+use Rattle.strand.specs.Folds.{foldOf, IsFold}
 use Rattle.strand.specs.Strands.{Strand, lettersMatch, pairVerdict, Pair}
 use Rattle.embedding.specs.declared.Verified.{Verified}
 use Rattle.embedding.specs.declared.Verified.the-variants.{Yes, No, Refused}
@@ -45,14 +47,21 @@ verified rule pb pm qb qm v = eqb (length v) (length pb) && placesOk (fits rule 
 unfoldable pub verifyVerdict : List ℕ → List ℕ → List ℕ → List ℕ → List ℕ → Verdict
 verifyVerdict p pm q qm v = first (pairVerdict p pm q qm ∷ refuseIf wrongSlice noSide (not (eqb (length v) (length p))) ∷ [])
 
--- 01, Verify: unless it is refused, yes exactly when the places are an embedding of the whole P.
+-- 01, Verify: unless it is refused, yes exactly when the places are an embedding of the whole P. 02, (i): "the direct calls hand on those of Q", the number of
+-- arcs and the depth, with yes and with no.
 abbrev pub verifyAnswer : List ℕ → List ℕ → List ℕ → List ℕ → List ℕ → Verified
-verifyAnswer p pm q qm v = byVerdict (verifyVerdict p pm q qm v) Refused (choose (verified lettersMatch p pm q qm v) Yes No)
+verifyAnswer p pm q qm v =
+    byVerdict (verifyVerdict p pm q qm v) Refused (choose (verified lettersMatch p pm q qm v) (Yes (foldOf qm)) (No (foldOf qm)))
 
--- 01, Verify: the answer r is "yes exactly when the lent places are an embedding of the whole P", and the call is accepted.
-abbrev pub VerifySays : List ℕ → List ℕ → List ℕ → List ℕ → List ℕ → Verified → Type 0
-VerifySays p pm q qm v r =
-    (r ≡ Yes) ↔ ((verifyVerdict p pm q qm v ≡ Accepted) × Emb (lettersFit p q) (nth pm) (nth qm) 0 (length p) 0 (length q) (nth v))
+-- The lent places are an embedding of the whole P.
+abbrev pub EmbedsAt : List ℕ → List ℕ → List ℕ → List ℕ → List ℕ → Type 0
+EmbedsAt p pm q qm v = Emb (lettersFit p q) (nth pm) (nth qm) 0 (length p) 0 (length q) (nth v)
+
+-- 01, Verify: the answer r is yes with f exactly when the call is accepted, "the lent places are an embedding of the whole P" and f is the fold of Q; it is no
+-- with f exactly when the call is accepted, they are none, and f is the fold of Q.
+pub record VerifySays (p pm q qm v : List ℕ) (r : Verified) : Type 0 where
+  pub yes : (f : Fold) → (r ≡ Yes f) ↔ ((verifyVerdict p pm q qm v ≡ Accepted) × EmbedsAt p pm q qm v × IsFold qm f)
+  pub no : (f : Fold) → (r ≡ No f) ↔ ((verifyVerdict p pm q qm v ≡ Accepted) × (EmbedsAt p pm q qm v → ⊥) × IsFold qm f)
 
 -- It is accepted exactly where no rule applies.
 abbrev pub VerifyAccepts : List ℕ → List ℕ → List ℕ → List ℕ → List ℕ → Type 0

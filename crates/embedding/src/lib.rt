@@ -4,13 +4,14 @@ mod places;
 use refusals::Refusal;
 use refusals::Verdict;
 use refusals::numbers;
+use strand::Fold;
 ghost use mathlib.Core.Path.{_≡_};
 ghost use Rattle.embedding.specs.Longest.{verifyVerdict, verifyAnswer};
 
-// The answer of verify.
+// The answer of verify: yes or no, each with the fold of the molecule.
 pub enum Verified {
-    Yes,
-    No,
+    Yes(Fold),
+    No(Fold),
     Refused(Refusal),
 }
 
@@ -28,7 +29,7 @@ fn judge(p: &[u8], pm: &[u16], q: &[u8], qm: &[u16], places: &[u16]) -> Verdict
     Verdict::Accepted
 }
 
-// The call verify: whether the places are an embedding of the whole motif. O(m log m) after the check of the strands.
+// The call verify: whether the places are an embedding of the whole motif, and the fold of the molecule. O(m log m) after the check of the strands.
 pub fn verify(p: &[u8], pm: &[u16], q: &[u8], qm: &[u16], places: &[u16]) -> Verified
     ensures { λ r. ⌜ r ≡ verifyAnswer (now (p .entry)) (now (pm .entry)) (now (q .entry)) (now (qm .entry)) (now (places .entry)) ⌝ }
 {
@@ -36,8 +37,9 @@ pub fn verify(p: &[u8], pm: &[u16], q: &[u8], qm: &[u16], places: &[u16]) -> Ver
     if let Verdict::Refused(x) = verdict {
         return Verified::Refused(x);
     }
+    let fold = strand::depth::fold_of(qm);
     if places::is_embedding(p, pm, q, qm, places) {
-        return Verified::Yes;
+        return Verified::Yes(fold);
     }
-    Verified::No
+    Verified::No(fold)
 }

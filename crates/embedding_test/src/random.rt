@@ -1,16 +1,20 @@
-// All lists of places for random nested pairs, against the definition written out: how many answers are wrong, and how many are yes.
+// All lists of places for random nested pairs, against the definition written out: how many answers are wrong, how many are yes, and the arcs and depths
+// that they say.
 use super::make::nested;
 use super::naive::fits;
 use embedding::Verified;
+use strand::Fold;
 use testing::output::number;
 use testing::output::say;
 use testing::slices::set_entry;
 
-// The next random number, how many answers are wrong, and how many are yes.
+// The next random number, how many answers are wrong and how many are yes, and the sums of the arcs and of the depths that they say.
 struct Tally {
     seed: usize,
     wrong: usize,
     yes: usize,
+    arcs: usize,
+    depths: usize,
 }
 
 fn add(a: usize, b: usize) -> usize {
@@ -28,45 +32,38 @@ fn added(a: Tally, b: Tally) -> Tally {
         seed: b.seed,
         wrong: add(a.wrong, b.wrong),
         yes: add(a.yes, b.yes),
+        arcs: add(a.arcs, b.arcs),
+        depths: add(a.depths, b.depths),
+    }
+}
+
+fn none(seed: usize) -> Tally {
+    Tally {
+        seed,
+        wrong: 0,
+        yes: 0,
+        arcs: 0,
+        depths: 0,
+    }
+}
+
+// One answer: whether it is wrong, whether it is yes, and what it says of the molecule.
+fn one(seed: usize, wrong: bool, yes: bool, fold: Fold) -> Tally {
+    Tally {
+        seed,
+        wrong: wrong as usize,
+        yes: yes as usize,
+        arcs: fold.arcs,
+        depths: fold.depth,
     }
 }
 
 // The answer, where the definition says `want`.
 fn judged(seed: usize, a: Verified, want: bool) -> Tally {
     match a {
-        Verified::Yes => {
-            if want {
-                return Tally {
-                    seed,
-                    wrong: 0,
-                    yes: 1,
-                };
-            }
-            Tally {
-                seed,
-                wrong: 1,
-                yes: 1,
-            }
-        }
-        Verified::No => {
-            if want {
-                return Tally {
-                    seed,
-                    wrong: 1,
-                    yes: 0,
-                };
-            }
-            Tally {
-                seed,
-                wrong: 0,
-                yes: 0,
-            }
-        }
-        Verified::Refused(_) => Tally {
-            seed,
-            wrong: 1,
-            yes: 0,
-        },
+        Verified::Yes(fold) => one(seed, !want, true, fold),
+        Verified::No(fold) => one(seed, want, false, fold),
+        Verified::Refused(_) => one(seed, true, false, Fold { arcs: 0, depth: 0 }),
     }
 }
 
@@ -96,11 +93,7 @@ fn lists(
     qm: &[u16],
     places: &mut [u16],
 ) -> Tally {
-    let mut sum = Tally {
-        seed,
-        wrong: 0,
-        yes: 0,
-    };
+    let mut sum = none(seed);
     let mut code = 0;
     while code < count {
         write_list(code, places);
@@ -147,11 +140,7 @@ fn one_pair(seed: usize, kinds: usize) -> Tally {
 }
 
 fn pairs(count: usize, kinds: usize) -> Tally {
-    let mut sum = Tally {
-        seed: 12345,
-        wrong: 0,
-        yes: 0,
-    };
+    let mut sum = none(12345);
     let mut i = 0;
     while i < count {
         sum = added(sum, one_pair(sum.seed, kinds));
@@ -164,6 +153,8 @@ fn tell(name: &[u8], t: Tally) {
     say(name);
     number(b" ", t.wrong);
     number(b" yes ", t.yes);
+    number(b" arcs ", t.arcs);
+    number(b" depths ", t.depths);
     say(b"\n");
 }
 

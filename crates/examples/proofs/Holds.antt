@@ -1,9 +1,10 @@
--- The theorem of 01's examples: every row of the table holds.
+-- The theorem of the examples of 01 and of 02, (i): every row of the table holds.
 use mathlib.Core.Path.{refl}
 use mathlib.Core.List.{List, [], _∷_, _++_}
-use Rattle.lists.specs.Vocabulary.{choose, every, some, lowestFrom, lowest, largest, tab, someList, putAt}
+use Rattle.lists.specs.Vocabulary.{choose, every, some, lowestFrom, lowest, largest, select, tab, someList, putAt}
 use Rattle.strand.specs.Strands.{lettersMatch, isLetter, notLetter, mateOutside, notMutual, crosses, crossedAt, strandVerdict, checkVerdict, checkAnswer}
 use Rattle.strand.specs.Strands.{pairVerdict}
+use Rattle.strand.specs.Folds.{begins, arcCount, liesInside, isChain, depthOf}
 use Rattle.refusals.specs.Rules.{first, refuseIf, refuseAtLowest, byVerdict}
 use Rattle.embedding.specs.Longest.{longest, prefixOk, closedTo, placesOk, verified}
 use Rattle.embedding.specs.Longest as verify
@@ -19,7 +20,7 @@ use Rattle.history.specs.Examples.{sharedSlotStory}
 use Rattle.history.proofs.Computed as computed
 use Rattle.history.proofs.Stories.{by-runs}
 use Rattle.examples.specs.Table.{Row, story, screenText, VerifiedAt, Holds, AllHold, a, screenInput, screenPrints, longMotif, fewHits, numberTwo}
-use Rattle.examples.specs.Table.{addedTwice, removedEmpty, refusals, settledRows, also, table, TableHolds}
+use Rattle.examples.specs.Table.{addedTwice, removedEmpty, refusals, settledRows, also, folds, table, TableHolds}
 use Rattle.examples.proofs.BlockRows.{a-bytes, gc-bytes, entry-bytes}
 use Rattle.examples.proofs.BufferRows.{uneven-refused, unsound-refused}
 use Rattle.examples.proofs.ScreenRow.{screen-prints}
@@ -44,7 +45,7 @@ stories-ok = ((refl, refl), (refl, refl), (refl, refl), (refl, refl), (refl, ref
 refusals-hold : AllHold refusals
 unfolding refusals AllHold Holds checkVerdict checkAnswer motifVerdict matcher.lengthVerdict matcher.lengthAnswer matcher.showVerdict matcher.showAnswer
     verify.verifyVerdict byVerdict pairVerdict strandVerdict first refuseIf refuseAtLowest choose every some someList lowestFrom lowest isLetter notLetter
-    mateOutside notMutual crosses crossedAt lettersMatch longest largest prefixOk closedTo placesOk
+    mateOutside notMutual crosses crossedAt lettersMatch longest largest prefixOk closedTo placesOk select begins arcCount liesInside isChain depthOf
 refusals-hold =
     (refl, refl)
     & (refl, refl)
@@ -106,6 +107,12 @@ also-hold =
     & by-model sharedSlotStory (own-stories .2)
     & tt
 
+folds-hold : AllHold folds
+unfolding folds AllHold Holds checkVerdict checkAnswer matcher.lengthVerdict matcher.lengthAnswer matcher.showVerdict matcher.showAnswer
+    verify.verifyVerdict verified byVerdict pairVerdict strandVerdict first refuseIf refuseAtLowest choose every some someList lowestFrom lowest isLetter
+    notLetter mateOutside notMutual crosses crossedAt lettersMatch longest largest prefixOk closedTo placesOk select begins arcCount liesInside isChain depthOf
+folds-hold = refl & refl & refl & refl & refl & refl & refl & refl & tt
+
 both : (rs ss : List Row) → AllHold rs → AllHold ss → AllHold (rs ++ ss)
 unfolding AllHold
 both [] ss h k = k
@@ -117,4 +124,4 @@ screen-hold = (screen-prints, settled-hold)
 
 pub holds : TableHolds
 unfolding table
-holds = both _ also (both refusals _ refusals-hold screen-hold) also-hold
+holds = both _ folds (both _ also (both refusals _ refusals-hold screen-hold) also-hold) folds-hold

@@ -1,8 +1,8 @@
 -- All of 01's examples, in its order: the small examples of the table of refusals, row 8's with 136 entries, the printed example of the
 -- screen program, the nine rows of the table of settled examples, the check 1888, three blocks byte by byte, the keys 139, the story with
 -- B = 2 and S = 1, the last of the plausible and false ways, a number used again (the others are in rows 6, 3, 7 and in the story), and a
--- story with S = 2. Each is a row of `table`; that they all hold is `TableHolds`, and `holds`, in proofs/Holds, proves it by the definitions that the
--- contracts of the calls cite.
+-- story with S = 2. Behind them rows for 02, (i). Each is a row of `table`; that they all hold is `TableHolds`, and `holds`, in proofs/Holds,
+-- proves it by the definitions that the contracts of the calls cite.
 use Prim.Native.Nat.{ℕ}
 use mathlib.Core.Path.{_≡_}
 use mathlib.Core.Bool.{Bool, true, _||_}
@@ -11,6 +11,8 @@ use lib.Dec.{eqb}
 use lib.ListN.{length, replicate, set}
 use Rattle.refusals.specs.declared.Refusal.{Refusal}
 use Rattle.lists.specs.Vocabulary.{tab}
+use Rattle.strand.specs.declared.Fold.{Fold}
+use Rattle.strand.specs.Folds.{foldOf}
 use Rattle.strand.specs.Strands.{Strand, strandOf, key, checkAnswer}
 use Rattle.refusals.specs.Rules.{motifSide, moleculeSide, noSide, refusal, workSize}
 use Rattle.strand.specs.declared.Checked.the-variants as checked
@@ -53,11 +55,17 @@ pub data Row : Type 0 where
   blockBytes : (block bytes : List ℕ) → Row
   -- the key of a motif
   keyRow : Strand → ℕ → Row
+  -- a molecule that check accepts, with the number of its arcs and its depth
+  foldRow : Strand → (arcs depth : ℕ) → Row
+
+-- So many arcs, and a depth.
+abbrev pub fold : ℕ → ℕ → Fold
+fold arcs depth = record { arcs = arcs; depth = depth }
 
 -- Verify says yes to the places that a row of the table of settled examples names, if it names any.
 unfoldable pub VerifiedAt : Example → List ℕ → Type 0
 VerifiedAt e [] = Unit
-VerifiedAt e (v ∷ places) = verifyAnswer (e .pb) (e .pm) (e .qb) (e .qm) (v ∷ places) ≡ verified.Yes
+VerifiedAt e (v ∷ places) = verifyAnswer (e .pb) (e .pm) (e .qb) (e .qm) (v ∷ places) ≡ verified.Yes (foldOf (e .qm))
 
 -- The row says what the definitions say.
 unfoldable pub Holds : Row → Type 0
@@ -76,12 +84,13 @@ Holds (screenText input text) = screenOutput embeds input ≡ text
 -- by longest and verified, and by the calls length and show, with the least slices, and verify
 Holds (settledRow e) =
     (exampleOk e ≡ true)
-    × (lengthAnswer (e .pb) (e .pm) (e .qb) (e .qm) (workSize (length (e .pb)) (length (e .qb))) ≡ matched.Prefix (e .best))
-    × (showAnswer (e .pb) (e .pm) (e .qb) (e .qm) (length (e .pb)) (workSize (length (e .pb)) (length (e .qb))) ≡ matched.Prefix (e .best))
+    × (lengthAnswer (e .pb) (e .pm) (e .qb) (e .qm) (workSize (length (e .pb)) (length (e .qb))) ≡ matched.Prefix (e .best) (foldOf (e .qm)))
+    × (showAnswer (e .pb) (e .pm) (e .qb) (e .qm) (length (e .pb)) (workSize (length (e .pb)) (length (e .qb))) ≡ matched.Prefix (e .best) (foldOf (e .qm)))
     × VerifiedAt e (e .places)
 Holds (checksumRow q n) = word32 (encodeMolecule q) checksumAt ≡ n
 Holds (blockBytes block bytes) = block ≡ bytes
 Holds (keyRow p n) = key p ≡ n
+Holds (foldRow q arcs depth) = checkAnswer (q .bases) (q .mates) ≡ checked.Nested (fold arcs depth)
 
 -- Every row of a list.
 unfoldable pub AllHold : List Row → Type 0
@@ -228,8 +237,8 @@ refusals =
     -- 14: remove 0, zeroed
     ∷ story removedEmpty
     -- with 136 entries in row 8's example the call goes on
-    ∷ lengthCall a a 136 (matched.Prefix 1)
-    ∷ showCall a a 1 136 (matched.Prefix 1)
+    ∷ lengthCall a a 136 (matched.Prefix 1 (fold 0 0))
+    ∷ showCall a a 1 136 (matched.Prefix 1 (fold 0 0))
     ∷ []
 
 -- 01, Table of settled examples: its rows, taken over from crate embedding.
@@ -257,9 +266,32 @@ also =
     ∷ story sharedSlotStory
     ∷ []
 
+-- GCGC with two arcs side by side.
+abbrev pub beside : Strand
+beside = strandOf (71 ∷ 67 ∷ 71 ∷ 67 ∷ []) (1 ∷ 0 ∷ 3 ∷ 2 ∷ [])
+
+-- 02, (i), which has no examples of its own: "the number of arcs and the depth", "the largest number of arcs of which each lies inside the one before, and 0
+-- without arcs".
+unfoldable pub folds : List Row
+folds =
+    -- GAC, 2 1 0: one arc
+    foldRow gac 1 1
+    -- GGCC, 3 2 1 0: an arc inside another
+    ∷ foldRow (strandOf (71 ∷ 71 ∷ 67 ∷ 67 ∷ []) (3 ∷ 2 ∷ 1 ∷ 0 ∷ [])) 2 2
+    -- GCGC, 1 0 3 2: two arcs side by side
+    ∷ foldRow beside 2 1
+    -- GAC, 0 1 2: no arc
+    ∷ foldRow (strandOf (71 ∷ 65 ∷ 67 ∷ []) (0 ∷ 1 ∷ 2 ∷ [])) 0 0
+    -- "the direct calls hand on those of Q", with yes and with no: P has one arc
+    ∷ lengthCall bonded beside 224 (matched.Prefix 2 (fold 2 1))
+    ∷ showCall bonded beside 2 224 (matched.Prefix 2 (fold 2 1))
+    ∷ verifyCall bonded beside (2 ∷ 3 ∷ []) (verified.Yes (fold 2 1))
+    ∷ verifyCall bonded beside (1 ∷ 2 ∷ []) (verified.No (fold 2 1))
+    ∷ []
+
 -- All rows.
 unfoldable pub table : List Row
-table = refusals ++ (screenText screenInput screenPrints ∷ settledRows examples) ++ also
+table = refusals ++ (screenText screenInput screenPrints ∷ settledRows examples) ++ also ++ folds
 
 -- The claim: every row of the table holds.
 abbrev pub TableHolds : Type 0

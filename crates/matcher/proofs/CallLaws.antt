@@ -1,5 +1,5 @@
 -- The refusals of length and show, rule by rule, and what an accepted call knows.
-use mathlib.Core.Path.{_≡_, sym, ap, _∙_}
+use mathlib.Core.Path.{_≡_, sym, ap₂, _∙_}
 use mathlib.Core.List.{List, [], _∷_}
 use Prim.Native.Nat.{ℕ, _≤_, _<_}
 use native.Mathlib.Omega.{arith}
@@ -8,23 +8,24 @@ use borrow.Author.Tests.{lt-ltb, le-ltb, ltb-false}
 use Rattle.refusals.specs.declared.Refusal.{Refusal}
 use Rattle.refusals.specs.declared.Verdict.{Verdict}
 use Rattle.refusals.specs.declared.Verdict.the-variants as verdict
-use Rattle.strand.specs.Strands.{Proper, leastMotif, leastMolecule, greatestLength, pairVerdict}
+use Rattle.strand.specs.declared.Fold.{Fold}
+use Rattle.strand.specs.Strands.{Nested, Proper, leastMotif, leastMolecule, greatestLength, pairVerdict, Pair}
+use Rattle.lists.specs.Vocabulary.{nth}
 use Rattle.refusals.specs.Rules.{motifSide, moleculeSide, refusal, first, byVerdict, workSize, workRule}
 use Rattle.refusals.proofs.RuleLaws.{rule-yes, rule-no, rule-pass, first-one, first-pass, first-skip, first-stop, by-refused, by-accepted}
-use Rattle.strand.proofs.VerdictLaws.{pair-proper}
-use Rattle.strand.specs.Strands.{Pair}
+use Rattle.strand.proofs.VerdictLaws.{pair-proper, proper-mates}
 use Rattle.matcher.specs.declared.Matched.the-variants.{Prefix, Refused}
 use Rattle.arcs.specs.Arcs.{Setting}
 use Rattle.placing.specs.Placing.{Laid}
 use Rattle.matcher.specs.Answers.{Shown, placesRule, lengthVerdict, showVerdict}
 
 -- The answer by a verdict v.
-module _ (v : Verdict) (L : ℕ) where
-  pub answer-refused : (x : Refusal) → v ≡ verdict.Refused x → Refused x ≡ byVerdict v Refused (Prefix L)
-  answer-refused x e = sym (by-refused v Refused (Prefix L) x e)
+module _ (v : Verdict) (L : ℕ) (F : Fold) where
+  pub answer-refused : (x : Refusal) → v ≡ verdict.Refused x → Refused x ≡ byVerdict v Refused (Prefix L F)
+  answer-refused x e = sym (by-refused v Refused (Prefix L F) x e)
 
-  pub answer-prefix : (k : ℕ) → v ≡ verdict.Accepted → k ≡ L → Prefix k ≡ byVerdict v Refused (Prefix L)
-  answer-prefix k e h = ap Prefix h ∙ sym (by-accepted v Refused (Prefix L) e)
+  pub answer-prefix : (k : ℕ) (f : Fold) → v ≡ verdict.Accepted → k ≡ L → f ≡ F → Prefix k f ≡ byVerdict v Refused (Prefix L F)
+  answer-prefix k f e h g = ap₂ (λ (l : ℕ) (x : Fold). Prefix l x) h g ∙ sym (by-accepted v Refused (Prefix L F) e)
 
 -- A proper motif and a proper molecule are what the walk over the whole motif asks for.
 pub whole-setting : {p pm q qm : List ℕ} → Proper motifSide leastMotif greatestLength p pm → Proper moleculeSide leastMolecule greatestLength q qm
@@ -42,6 +43,9 @@ whole-setting P Q =
 module _ (p pm q qm : List ℕ) where
   pub pair-setting : pairVerdict p pm q qm ≡ verdict.Accepted → Setting p pm q qm 0 (length p)
   pair-setting e = let P = pair-proper p pm q qm e in whole-setting (P .motif) (P .molecule)
+
+  pair-mates : pairVerdict p pm q qm ≡ verdict.Accepted → Nested (nth qm) (length qm) × (length qm ≤ greatestLength)
+  pair-mates e = proper-mates (omega arith) (pair-proper p pm q qm e .molecule)
 
   module _ (work : ℕ) where
     work-no : workSize (length p) (length q) ≤ work → workRule (length p) (length q) work ≡ verdict.Accepted
@@ -74,6 +78,9 @@ module _ (p pm q qm : List ℕ) where
 
     pub length-facts : lengthVerdict p pm q qm work ≡ verdict.Accepted → Pair p pm q qm × (workSize (length p) (length q) ≤ work)
     length-facts e = let a = length-rules e in (pair-proper p pm q qm (a .0), a .1)
+
+    pub length-mates : lengthVerdict p pm q qm work ≡ verdict.Accepted → Nested (nth qm) (length qm) × (length qm ≤ greatestLength)
+    length-mates e = pair-mates (length-rules e .0)
 
     module _ (places : ℕ) where
       pub show-pair : (x : Refusal) → pairVerdict p pm q qm ≡ verdict.Refused x → verdict.Refused x ≡ showVerdict p pm q qm places work
@@ -108,6 +115,9 @@ module _ (p pm q qm : List ℕ) where
       pub show-facts : showVerdict p pm q qm places work ≡ verdict.Accepted
           → Setting p pm q qm 0 (length p) × (length p ≤ places) × (workSize (length p) (length q) ≤ work)
       show-facts e = let a = show-rules e in (pair-setting (a .0), a .1, a .2)
+
+      pub show-mates : showVerdict p pm q qm places work ≡ verdict.Accepted → Nested (nth qm) (length qm) × (length qm ≤ greatestLength)
+      show-mates e = pair-mates (show-rules e .0)
 
 -- Places laid from 0 are places shown.
 pub shown-of : {p pm q qm : List ℕ} {k : ℕ} {old new : List ℕ} → Laid p pm q qm 0 k 0 (length q) old new → Shown p pm q qm k old new

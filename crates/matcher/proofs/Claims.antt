@@ -9,8 +9,11 @@ use lib.ListN.{length}
 use Rattle.refusals.specs.Rules.{noSide, byVerdict, Refuses}
 use Rattle.refusals.proofs.RuleLaws.{by-refused, by-accepted}
 use Rattle.refusals.proofs.Refusing.{Numbering, call-number, if-numbered, none-numbered, first-numbered, work-numbered, refuses-by}
+use Rattle.strand.proofs.FoldLaws.{fold-is, fold-only}
 use Rattle.strand.proofs.VerdictLaws.{pair-proper, proper-pair, pair-numbered}
 use Rattle.lists.specs.Vocabulary.{nth}
+use Rattle.strand.specs.declared.Fold.{Fold}
+use Rattle.strand.specs.Folds.{foldOf, IsFold}
 use Rattle.strand.specs.Strands.{strandOf, lettersMatch, pairVerdict}
 use Rattle.embedding.specs.Longest.{longest}
 use Rattle.embedding.specs.Embedding.{IsLongest, EmbedsIn}
@@ -20,32 +23,32 @@ use Rattle.matcher.specs.Answers.{lengthVerdict, lengthAnswer, showVerdi
 use Rattle.matcher.specs.Statements.{Claims}
 use Rattle.matcher.proofs.CallLaws.{answer-prefix, pair-setting, length-rules, show-rules, length-facts, length-accepts, show-accepts}
 
--- An answer that is a prefix was accepted, and is the length.
-prefix-of : (v : Verdict) (K L : ℕ) → byVerdict v Refused (Prefix K) ≡ Prefix L → (v ≡ verdict.Accepted) × (K ≡ L)
-prefix-of (verdict.Refused x) K L e =
-    absurd (let z = sym (by-refused (verdict.Refused x) Refused (Prefix K) x refl) ∙ e in let y : _≡_ {A = ℕ} 0 1 = cc in omega arith)
-prefix-of verdict.Accepted K L e = (refl, let z = sym (by-accepted verdict.Accepted Refused (Prefix K) refl) ∙ e in cc)
+-- An answer that is a prefix was accepted, and is the length, with the fold.
+prefix-of : (v : Verdict) (K L : ℕ) (g f : Fold) → byVerdict v Refused (Prefix K g) ≡ Prefix L f → (v ≡ verdict.Accepted) × (K ≡ L) × (g ≡ f)
+prefix-of (verdict.Refused x) K L g f e =
+    absurd (let z = sym (by-refused (verdict.Refused x) Refused (Prefix K g) x refl) ∙ e in let y : _≡_ {A = ℕ} 0 1 = cc in omega arith)
+prefix-of verdict.Accepted K L g f e = let z = sym (by-accepted verdict.Accepted Refused (Prefix K g) refl) ∙ e in (refl, cc, cc)
 
 -- Of accepted strands the length is the longest, and an accepting verdict v answers it.
 module _ (p pm q qm : List ℕ) (L : ℕ) (e : pairVerdict p pm q qm ≡ verdict.Accepted) where
   is-longest : longest lettersMatch p pm q qm ≡ L → IsLongest lettersMatch p pm q qm L
   is-longest h = rw h at (embedding.claims .longest-is lettersMatch p pm q qm (pair-setting p pm q qm e .motif .inside))
 
-  answers-longest : IsLongest lettersMatch p pm q qm L → (v : Verdict) → verdict.Accepted ≡ v
-      → byVerdict v Refused (Prefix (longest lettersMatch p pm q qm)) ≡ Prefix L
-  answers-longest I v h =
+  answers-longest : IsLongest lettersMatch p pm q qm L → (f : Fold) → IsFold qm f → (v : Verdict) → verdict.Accepted ≡ v
+      → byVerdict v Refused (Prefix (longest lettersMatch p pm q qm) (foldOf qm)) ≡ Prefix L f
+  answers-longest I f F v h =
       sym
-      (answer-prefix v (longest lettersMatch p pm q qm) L (sym h)
-      (embedding.claims .longest-only lettersMatch p pm q qm (pair-setting p pm q qm e .motif .inside) L I))
+      (answer-prefix v (longest lettersMatch p pm q qm) (foldOf qm) L f (sym h)
+      (embedding.claims .longest-only lettersMatch p pm q qm (pair-setting p pm q qm e .motif .inside) L I) (fold-only qm f F))
 
 -- Where the rules accept only accepted strands.
 module _ (p pm q qm : List ℕ) (v : Verdict) (strands : v ≡ verdict.Accepted → pairVerdict p pm q qm ≡ verdict.Accepted) where
-  prefix-says : PrefixSays v p pm q qm (byVerdict v Refused (Prefix (longest lettersMatch p pm q qm)))
-  prefix-says L = (
+  prefix-says : PrefixSays v p pm q qm (byVerdict v Refused (Prefix (longest lettersMatch p pm q qm) (foldOf qm)))
+  prefix-says L f = (
     (λ e.
-        let a = prefix-of v (longest lettersMatch p pm q qm) L e in
-        (a .0, is-longest p pm q qm L (strands (a .0)) (a .1))),
-    (λ h. answers-longest p pm q qm L (strands (h .0)) (h .1) v (sym (h .0))),
+        let a = prefix-of v (longest lettersMatch p pm q qm) L (foldOf qm) f e in
+        (a .0, is-longest p pm q qm L (strands (a .0)) (a .1), rw (a .2) at (fold-is qm))),
+    (λ h. answers-longest p pm q qm L (strands (h .0)) (h .1) f (h .2) v (sym (h .0))),
   )
 
   -- The whole motif is closed, so it is the longest where it embeds.
@@ -53,13 +56,13 @@ module _ (p pm q qm : List ℕ) (v : Verdict) (strands : v ≡ verdict.Accepted 
   whole-longest E =
       record { upto = omega arith; closed = embedding.claims .ends (nth pm) (length p) .whole; embeds = E; largest = λ k h C F. h }
 
-  whole-says : WholeSays v p pm q qm (byVerdict v Refused (Prefix (longest lettersMatch p pm q qm)))
+  whole-says : WholeSays v p pm q qm (byVerdict v Refused (Prefix (longest lettersMatch p pm q qm) (foldOf qm)))
   whole-says = (
-    (λ e. let a = prefix-says (length p) .0 e in (a .0, a .1 .embeds)),
-    (λ h. prefix-says (length p) .1 (h .0, whole-longest (h .1))),
+    (λ e. let a = prefix-says (length p) (e .0) .0 (e .1) in (a .0, a .1 .embeds)),
+    (λ h. (foldOf qm, prefix-says (length p) (foldOf qm) .1 (h .0, whole-longest (h .1), fold-is qm))),
   )
 
-  prefix-refuses : Numbering v → Refuses v Refused (byVerdict v Refused (Prefix (longest lettersMatch p pm q qm)))
+  prefix-refuses : Numbering v → Refuses v Refused (byVerdict v Refused (Prefix (longest lettersMatch p pm q qm) (foldOf qm)))
   prefix-refuses ok =
       refuses-by v Refused _ (λ r. r) Refused (λ r. refl) (λ r e. let z : _≡_ {A = ℕ} 0 1 = cc in omega arith) ok (λ r s e. cc)
 

@@ -8,6 +8,8 @@ use lib.ListN.{length}
 use Rattle.refusals.specs.declared.Verdict.{Verdict}
 use Rattle.refusals.specs.declared.Verdict.the-variants as verdict
 use Rattle.lists.specs.Vocabulary.{nth}
+use Rattle.strand.specs.declared.Fold.{Fold}
+use Rattle.strand.specs.Folds.{foldOf, IsFold}
 use Rattle.strand.specs.Strands.{strandOf, lettersMatch, pairVerdict, Pair}
 use Rattle.refusals.specs.Rules.{noSide, wrongSlice, refuseIf, first, byVerdict, workSize, workRule}
 use Rattle.embedding.specs.Embedding.{lettersFit, Emb, IsLongest, EmbedsIn}
@@ -19,20 +21,21 @@ use Rattle.matcher.specs.declared.Matched.the-variants.{Prefix, Refused}
 abbrev pub placesRule : ℕ → ℕ → Verdict
 placesRule m places = refuseIf wrongSlice noSide (ltb places m)
 
--- The call length, with a work slice of so many entries: motif, molecule, then 8; else L.
+-- The call length, with a work slice of so many entries: motif, molecule, then 8; else L. 02, (i): "the direct calls hand on those of Q", the number of arcs
+-- and the depth.
 unfoldable pub lengthVerdict : List ℕ → List ℕ → List ℕ → List ℕ → ℕ → Verdict
 lengthVerdict p pm q qm work = first (pairVerdict p pm q qm ∷ workRule (length p) (length q) work ∷ [])
 
 unfoldable pub lengthAnswer : List ℕ → List ℕ → List ℕ → List ℕ → ℕ → Matched
-lengthAnswer p pm q qm work = byVerdict (lengthVerdict p pm q qm work) Refused (Prefix (longest lettersMatch p pm q qm))
+lengthAnswer p pm q qm work = byVerdict (lengthVerdict p pm q qm work) Refused (Prefix (longest lettersMatch p pm q qm) (foldOf qm))
 
--- The call show, with a slice of so many places: motif, molecule, 9, then 8; else L.
+-- The call show, with a slice of so many places: motif, molecule, 9, then 8; else L, and the fold of Q.
 unfoldable pub showVerdict : List ℕ → List ℕ → List ℕ → List ℕ → ℕ → ℕ → Verdict
 showVerdict p pm q qm places work =
     first (pairVerdict p pm q qm ∷ placesRule (length p) places ∷ workRule (length p) (length q) work ∷ [])
 
 unfoldable pub showAnswer : List ℕ → List ℕ → List ℕ → List ℕ → ℕ → ℕ → Matched
-showAnswer p pm q qm places work = byVerdict (showVerdict p pm q qm places work) Refused (Prefix (longest lettersMatch p pm q qm))
+showAnswer p pm q qm places work = byVerdict (showVerdict p pm q qm places work) Refused (Prefix (longest lettersMatch p pm q qm) (foldOf qm))
 
 -- Both are accepted exactly where no rule applies.
 abbrev pub LengthAccepts : List ℕ → List ℕ → List ℕ → List ℕ → ℕ → Type 0
@@ -43,13 +46,14 @@ ShowAccepts p pm q qm places work =
     (showVerdict p pm q qm places work ≡ verdict.Accepted) ↔ (Pair p pm q qm × (length p ≤ places) × (workSize (length p) (length q) ≤ work))
 
 -- 01, Length: "the largest L such that the closed prefix of L bases embeds in Q". Where the rules of length or show give verdict v,
--- the answer r is L exactly when the call is accepted, the closed prefix of L bases embeds and no longer one does.
+-- the answer r is L with f exactly when the call is accepted, the closed prefix of L bases embeds and no longer one does, and f is the fold of Q.
 abbrev pub PrefixSays : Verdict → List ℕ → List ℕ → List ℕ → List ℕ → Matched → Type 0
-PrefixSays v p pm q qm r = (L : ℕ) → (r ≡ Prefix L) ↔ ((v ≡ verdict.Accepted) × IsLongest lettersMatch p pm q qm L)
+PrefixSays v p pm q qm r = (L : ℕ) (f : Fold) → (r ≡ Prefix L f) ↔ ((v ≡ verdict.Accepted) × IsLongest lettersMatch p pm q qm L × IsFold qm f)
 
 -- 01: "L = m exactly when P embeds."
 abbrev pub WholeSays : Verdict → List ℕ → List ℕ → List ℕ → List ℕ → Matched → Type 0
-WholeSays v p pm q qm r = (r ≡ Prefix (length p)) ↔ ((v ≡ verdict.Accepted) × EmbedsIn (strandOf p pm) (strandOf q qm))
+WholeSays v p pm q qm r =
+    ((f : Fold) × (r ≡ Prefix (length p) f)) ↔ ((v ≡ verdict.Accepted) × EmbedsIn (strandOf p pm) (strandOf q qm))
 
 -- 01, Show: the first L places are an embedding of the prefix of L bases, and later entries keep their values.
 pub record Shown (p pm q qm : List ℕ) (L : ℕ) (old new : List ℕ) : Type 0 where
@@ -59,5 +63,5 @@ pub record Shown (p pm q qm : List ℕ) (L : ℕ) (old new : List ℕ) : Type 0 
 
 -- After a refusal the places are as before, after an accepted call they are as `Shown` says.
 unfoldable pub PlacesShown : Matched → List ℕ → List ℕ → List ℕ → List ℕ → List ℕ → List ℕ → Type 0
-PlacesShown (Prefix L) p pm q qm before after = Shown p pm q qm L before after
+PlacesShown (Prefix L f) p pm q qm before after = Shown p pm q qm L before after
 PlacesShown (Refused x) p pm q qm before after = after ≡ before

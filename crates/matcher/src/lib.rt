@@ -4,14 +4,15 @@ pub mod walk;
 use refusals::Refusal;
 use refusals::Verdict;
 use refusals::numbers;
+use strand::Fold;
 ghost use mathlib.Core.Path.{_≡_};
 ghost use lib.ListN.{length as len};
 ghost use Rattle.refusals.specs.Rules.{WorkKept};
 ghost use Rattle.matcher.specs.Answers.{lengthVerdict, lengthAnswer, showVerdict, showAnswer, PlacesShown};
 
-// The answer of length and show: the length of the longest closed prefix that embeds.
+// The answer of length and show: the length of the longest closed prefix that embeds, and the fold of the molecule.
 pub enum Matched {
-    Prefix(usize),
+    Prefix { length: usize, fold: Fold },
     Refused(Refusal),
 }
 
@@ -46,7 +47,7 @@ fn judge_show(p: &[u8], pm: &[u16], q: &[u8], qm: &[u16], places: usize, work: u
     Verdict::Accepted
 }
 
-// The call length: the length of the longest closed prefix of the motif that embeds in the molecule.
+// The call length: the length of the longest closed prefix of the motif that embeds in the molecule, and the fold of the molecule.
 pub fn length(p: &[u8], pm: &[u16], q: &[u8], qm: &[u16], work: &mut [u16]) -> Matched
     ensures { λ r. ⌜ (r ≡ lengthAnswer (now (p .entry)) (now (pm .entry)) (now (q .entry)) (now (qm .entry)) (len (now (work .entry))))
         × WorkKept (lengthVerdict (now (p .entry)) (now (pm .entry)) (now (q .entry)) (now (qm .entry)) (len (now (work .entry)))) (now (work .entry)) (now (work .exit)) ⌝ }
@@ -55,10 +56,12 @@ pub fn length(p: &[u8], pm: &[u16], q: &[u8], qm: &[u16], work: &mut [u16]) -> M
     if let Verdict::Refused(x) = verdict {
         return Matched::Refused(x);
     }
-    Matched::Prefix(walk::prefix_length(p, pm, q, qm, work))
+    let fold = strand::depth::fold_of(qm);
+    let length = walk::prefix_length(p, pm, q, qm, work);
+    Matched::Prefix { length, fold }
 }
 
-// The call show: the same length, and in the first so many places an embedding of that prefix.
+// The call show: the same, and in the first so many places an embedding of that prefix.
 pub fn show(
     p: &[u8],
     pm: &[u16],
@@ -75,5 +78,7 @@ pub fn show(
     if let Verdict::Refused(x) = verdict {
         return Matched::Refused(x);
     }
-    Matched::Prefix(trace::place_all(p, pm, q, qm, places, work))
+    let fold = strand::depth::fold_of(qm);
+    let length = trace::place_all(p, pm, q, qm, places, work);
+    Matched::Prefix { length, fold }
 }

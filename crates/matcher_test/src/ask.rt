@@ -6,22 +6,36 @@ use matcher::Matched;
 use testing::answer::WRONG;
 use testing::answer::is_refused;
 use testing::answer::refused;
+use testing::answer::two;
 use testing::input::digit_at;
 use testing::input::kind;
 use testing::input::number;
 
-// The number that a call answered, how many bases its motif has, and whether all is as it should be.
-pub struct Asked {
+// An answer: its length or the number of its refusal, and the arcs and the depth that it has as one number, 0 after a refusal.
+pub struct Told {
     pub got: usize,
+    pub fold: usize,
+}
+
+// What a call answered, how many bases its motif has, and whether all is as it should be.
+pub struct Asked {
+    pub told: Told,
     pub motif: usize,
     pub right: bool,
 }
 
-// The number of an answer: its length, or that of its refusal.
-fn code_of(a: Matched) -> usize {
+// A refusal, or a line that cannot be asked: it has no fold.
+fn without_fold(got: usize) -> Told {
+    Told { got, fold: 0 }
+}
+
+fn told_of(a: Matched) -> Told {
     match a {
-        Matched::Prefix(n) => n,
-        Matched::Refused(r) => refused(r.number as usize, r.side as usize, r.place),
+        Matched::Prefix { length, fold } => Told {
+            got: length,
+            fold: two(fold.arcs, fold.depth),
+        },
+        Matched::Refused(r) => without_fold(refused(r.number as usize, r.side as usize, r.place)),
     }
 }
 
@@ -52,8 +66,8 @@ fn verified(p: &[u8], pm: &[u16], q: &[u8], qm: &[u16], places: &[u16], k: usize
         return false;
     }
     match embedding::verify(&p[0..k], &pm[0..k], q, qm, &places[0..k]) {
-        Verified::Yes => true,
-        Verified::No => false,
+        Verified::Yes(_) => true,
+        Verified::No(_) => false,
         Verified::Refused(_) => false,
     }
 }
@@ -80,6 +94,17 @@ fn searched(p: &[u8], pm: &[u16], q: &[u8], qm: &[u16]) -> usize {
     brute::longest(p, pm, q, qm, &mut at, 0, 0)
 }
 
+// The arcs and the depth that the line wants. Rounds `r` have none of their own: what they answer shows in the sums of their group.
+fn wanted_fold(line: &[u8], told: Told) -> usize {
+    if kind(line) == b'r' {
+        return told.fold;
+    }
+    if is_refused(told.got) {
+        return 0;
+    }
+    two(number(line, 77, 4), number(line, 82, 4))
+}
+
 // The answer that the line wants, in rounds `r` by brute force.
 fn wanted(line: &[u8], p: &[u8], pm: &[u16], q: &[u8], qm: &[u16]) -> usize {
     if kind(line) == b'r' {
@@ -91,7 +116,7 @@ fn wanted(line: &[u8], p: &[u8], pm: &[u16], q: &[u8], qm: &[u16]) -> usize {
 fn right(
     line: &[u8],
     call: usize,
-    got: usize,
+    told: Told,
     p: &[u8],
     pm: &[u16],
     q: &[u8],
@@ -99,7 +124,11 @@ fn right(
     places: &[u16],
     work: &[u16],
 ) -> bool {
+    let got = told.got;
     if got != wanted(line, p, pm, q, qm) {
+        return false;
+    }
+    if told.fold != wanted_fold(line, told) {
         return false;
     }
     if !kept(line, call, got, places, work) {
@@ -124,30 +153,30 @@ fn answer(
     qm: &[u16],
     places: &mut [u16],
     work: &mut [u16],
-) -> usize {
+) -> Told {
     let e = number(line, 52, 6);
     let f = number(line, 59, 6);
     if places.len() < e {
-        return WRONG;
+        return without_fold(WRONG);
     }
     if work.len() < f {
-        return WRONG;
+        return without_fold(WRONG);
     }
     if call == 0 {
-        return code_of(matcher::length(p, pm, q, qm, &mut work[0..f]));
+        return told_of(matcher::length(p, pm, q, qm, &mut work[0..f]));
     }
-    code_of(matcher::show(p, pm, q, qm, &mut places[0..e], &mut work[0..f]))
+    told_of(matcher::show(p, pm, q, qm, &mut places[0..e], &mut work[0..f]))
 }
 
 // The call and its judgement, over fresh slices.
 fn with_pair(line: &[u8], call: usize, p: &[u8], pm: &[u16], q: &[u8], qm: &[u16]) -> Asked {
     let mut places = [51966u16; 4100];
     let mut work = [51966u16; 294980];
-    let got = answer(line, call, p, pm, q, qm, &mut places, &mut work);
+    let told = answer(line, call, p, pm, q, qm, &mut places, &mut work);
     Asked {
-        got,
+        told,
         motif: p.len(),
-        right: right(line, call, got, p, pm, q, qm, &places, &work),
+        right: right(line, call, told, p, pm, q, qm, &places, &work),
     }
 }
 

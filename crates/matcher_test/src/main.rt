@@ -4,8 +4,9 @@
 // - from columns 2 and 27 the motif and the molecule (see `strands`);
 // - from columns 52 and 59 how many places and how many entries of work the call gets;
 // - the wanted answer: in columns 65 and 66 the row of a refusal or 0, in 68 its side, from 70 its place or the length;
-// - from column 77 what the case is about.
-// A line `r` stands for so many random pairs, of rising seeds, as it has from column 70; what is wanted of them says `brute`.
+// - from columns 77 and 82 the wanted number of arcs and the wanted depth of an accepted call;
+// - from column 87 what the case is about.
+// A line `r` stands for so many random pairs, of rising seeds, as it has from column 70; what length is wanted of them says `brute`.
 // A line `=` ends a group: its name is written with the group's counts, and counting begins anew.
 // An answer is right when it is the wanted one, a refused call changed nothing, and an accepted one changed only its part of the work and the places
 // of the prefix, which verify accepts.

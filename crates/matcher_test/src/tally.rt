@@ -1,15 +1,20 @@
 // Counts of calls, and their report.
 use super::ask::Asked;
+use super::ask::Told;
+use testing::answer::first_of;
 use testing::answer::is_refused;
+use testing::answer::second_of;
 use testing::output::number;
 use testing::output::say;
 
-// How many calls were made, refused, answered with the whole motif or with no prefix, and wrong.
+// How many calls were made, refused, answered with the whole motif or with no prefix; the arcs and the depths that they answered; how many were wrong.
 pub struct Tally {
     pub calls: usize,
     pub refused: usize,
     pub whole: usize,
     pub empty: usize,
+    pub arcs: usize,
+    pub depths: usize,
     pub wrong: usize,
 }
 
@@ -19,17 +24,23 @@ pub fn none() -> Tally {
         refused: 0,
         whole: 0,
         empty: 0,
+        arcs: 0,
+        depths: 0,
         wrong: 0,
     }
 }
 
 // The tally with one more call.
 fn counted(t: Tally, a: Asked) -> Tally {
+    let got = a.told.got;
+    let fold = a.told.fold;
     Tally {
         calls: t.calls % 1000000 + 1,
-        refused: t.refused % 1000000 + is_refused(a.got) as usize % 2,
-        whole: t.whole % 1000000 + (a.got == a.motif) as usize % 2,
-        empty: t.empty % 1000000 + (a.got == 0) as usize % 2,
+        refused: t.refused % 1000000 + is_refused(got) as usize % 2,
+        whole: t.whole % 1000000 + (got == a.motif) as usize % 2,
+        empty: t.empty % 1000000 + (got == 0) as usize % 2,
+        arcs: t.arcs % 1000000 + first_of(fold) % 10000,
+        depths: t.depths % 1000000 + second_of(fold) % 10000,
         wrong: t.wrong % 1000000 + (!a.right) as usize % 2,
     }
 }
@@ -39,22 +50,25 @@ pub fn report(t: Tally) {
     number(b", refused ", t.refused);
     number(b", whole motif ", t.whole);
     number(b", no prefix ", t.empty);
+    number(b", arcs ", t.arcs);
+    number(b", depths ", t.depths);
     number(b", wrong ", t.wrong);
     say(b"\n");
 }
 
-// A wrong call: its line, then the number that it answered.
-fn tell(line: &[u8], got: usize) {
+// A wrong call: its line, then the numbers that it answered.
+fn tell(line: &[u8], told: Told) {
     say(b"wrong: ");
     say(line);
-    number(b" gave ", got);
+    number(b" gave ", told.got);
+    number(b" ", told.fold);
     say(b"\n");
 }
 
 // The tally with one more call, which is told where it is wrong.
 pub fn judged(t: Tally, line: &[u8], a: Asked) -> Tally {
     if !a.right {
-        tell(line, a.got);
+        tell(line, a.told);
     }
     counted(t, a)
 }

@@ -1,6 +1,6 @@
 -- The claims of specs/Statements hold.
 use Prim.Native.Nat.{ℕ}
-use mathlib.Core.Path.{_≡_, refl}
+use mathlib.Core.Path.{_≡_, refl, sym, ap, _∙_}
 use mathlib.Core.Bool.{Bool}
 use mathlib.Core.List.{List}
 use native.Mathlib.Omega.{arith}
@@ -9,10 +9,13 @@ use Rattle.refusals.specs.declared.Verdict.the-variants.{Accepted, Refused}
 use Rattle.refusals.specs.Rules.{moleculeSide, byVerdict, Refuses}
 use Rattle.refusals.proofs.RuleLaws.{by-accepted}
 use Rattle.refusals.proofs.Refusing.{refuses-by}
+use Rattle.strand.specs.declared.Fold.{Fold}
 use Rattle.strand.specs.declared.Checked.the-variants as checked
-use Rattle.strand.specs.Strands.{leastMolecule, greatestLength, checkVerdict, checkAnswer, CheckSays}
-use Rattle.strand.specs.Statements.{NestedSays, StrandSays, LowestSays, Claims}
+use Rattle.strand.specs.Folds.{foldOf}
+use Rattle.strand.specs.Strands.{leastMolecule, greatestLength, checkVerdict, checkAnswer, CheckAccepts, CheckSays}
+use Rattle.strand.specs.Statements.{NestedSays, StrandSays, LowestSays, FoldSays, Claims}
 use Rattle.lists.proofs.ListLaws.{lowest-before, lowest-upto, lowest-passes}
+use Rattle.strand.proofs.FoldLaws.{arcs-most, depth-most, fold-is, fold-only, depth-none}
 use Rattle.strand.proofs.VerdictLaws.{nested-yes, nested-test, accepted-proper, proper-accepted, check-numbered}
 
 nested-says : (mates : List ℕ) → NestedSays mates
@@ -21,22 +24,31 @@ nested-says mates = (nested-yes mates, nested-test mates)
 strand-says : (side least greatest : ℕ) (bases mates : List ℕ) → StrandSays side least greatest bases mates
 strand-says side least greatest bases mates = (accepted-proper side least greatest bases mates, proper-accepted side least greatest bases mates)
 
-nested-accepted : (v : Verdict) → byVerdict v checked.Refused checked.Nested ≡ checked.Nested → v ≡ Accepted
+nested-answered : (v : Verdict) (f g : Fold) → byVerdict v checked.Refused (checked.Nested g) ≡ checked.Nested f → (v ≡ Accepted) × (f ≡ g)
 unfolding byVerdict
-nested-accepted Accepted e = refl
-nested-accepted (Refused x) e = let z : _≡_ {A = ℕ} 0 1 = cc in absurd (omega arith)
+nested-answered Accepted f g e = (refl, cc)
+nested-answered (Refused x) f g e = let z : _≡_ {A = ℕ} 0 1 = cc in absurd (omega arith)
+
+check-accepts : (bases mates : List ℕ) → CheckAccepts bases mates
+unfolding checkVerdict
+check-accepts bases mates = strand-says moleculeSide leastMolecule greatestLength bases mates
 
 check-says : (bases mates : List ℕ) → CheckSays bases mates (checkAnswer bases mates)
 unfolding checkAnswer checkVerdict
-check-says bases mates =
-    let r = strand-says moleculeSide leastMolecule greatestLength bases mates in
-    ((λ e. r .0 (nested-accepted _ e)), (λ p. by-accepted _ _ _ (r .1 p)))
+check-says bases mates f =
+    let r = strand-says moleculeSide leastMolecule greatestLength bases mates in (
+      (λ e. let a = nested-answered _ f (foldOf mates) e in (r .0 (a .0), rw (a .1) (fold-is mates))),
+      (λ w. by-accepted _ _ _ (r .1 (w .0)) ∙ ap (λ g. checked.Nested g) (sym (fold-only mates f (w .1)))),
+    )
 
 check-refuses : (bases mates : List ℕ) → Refuses (checkVerdict bases mates) checked.Refused (checkAnswer bases mates)
 unfolding checkAnswer
 check-refuses bases mates =
-    refuses-by (checkVerdict bases mates) checked.Refused checked.Nested (λ r. r) checked.Refused (λ r. refl)
+    refuses-by (checkVerdict bases mates) checked.Refused (checked.Nested (foldOf mates)) (λ r. r) checked.Refused (λ r. refl)
     (λ r e. let z : _≡_ {A = ℕ} 0 1 = cc in omega arith) (check-numbered bases mates) (λ r s e. cc)
+
+fold-says : (mates : List ℕ) → FoldSays mates
+fold-says mates = record { arcs = arcs-most mates; depth = depth-most mates; only = fold-only mates; without = depth-none mates }
 
 lowest-says : (n : ℕ) (test : ℕ → Bool) → LowestSays n test
 lowest-says n test =
@@ -48,4 +60,12 @@ lowest-says n test =
 
 pub claims : Claims
 claims =
-    record { nested-says = nested-says; strand-says = strand-says; check-says = check-says; check-refuses = check-refuses; lowest-says = lowest-says }
+    record {
+      nested-says = nested-says;
+      strand-says = strand-says;
+      check-accepts = check-accepts;
+      check-says = check-says;
+      check-refuses = check-refuses;
+      fold-says = fold-says;
+      lowest-says = lowest-says;
+    }

@@ -1,5 +1,5 @@
 -- Nesting: the arcs that hold the mates of all bases inside them are those that no arc crosses.
-use mathlib.Core.Path.{_≡_, refl, sym, ap, _∙_}
+use mathlib.Core.Path.{_≡_, refl, ap, _∙_}
 use mathlib.Core.Bool.{Bool, true, false, not}
 use mathlib.Core.List.{List}
 use Prim.Native.Nat.{ℕ, _+_, _-_, _≤_, _<_}
@@ -9,7 +9,7 @@ use lib.ListN.{length}
 use lib.Dec.{ltb, leb, eqb}
 use borrow.Author.Tests.{lt-ltb, le-ltb, leb-false, eqb-true}
 use Rattle.lists.specs.Vocabulary.{nth, some}
-use Rattle.strand.specs.Strands.{isLetter, notLetter, mateOutside, notMutual, crosses, crossedAt, Inside, Paired, Apart}
+use Rattle.strand.specs.Strands.{mateOutside, notMutual, crosses, crossedAt, Inside, Paired, Apart}
 use Rattle.strand.specs.Nesting.{Closes}
 use Rattle.lists.proofs.ListLaws.{not-not, some-no, some-none}
 
@@ -34,11 +34,7 @@ module _ (a b i j : ℕ) where
 
 -- ---- what the code found at one position
 
--- r is the answer of the leaf, and b what the branch knows of it.
-pub letter-test : (side : ℕ) (bases : List ℕ) (i : ℕ) (r b : Bool) → r ≡ isLetter side (nth bases i) → not r ≡ b → notLetter side bases i ≡ b
-unfolding notLetter
-letter-test side bases i r b e h = ap not (sym e) ∙ h
-
+-- b is what the branch knows.
 pub range-test : (mates : List ℕ) (i : ℕ) (b : Bool) → leb (length mates) (nth mates i) ≡ b → mateOutside mates i ≡ b
 unfolding mateOutside
 range-test mates i b e = e

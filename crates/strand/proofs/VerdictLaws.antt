@@ -7,14 +7,15 @@ use native.Mathlib.Omega.{arith}
 use lib.ListN.{length}
 use borrow.Author.Tests.{eq-eqb, ltb-false, eqb-true, lt-leb}
 use Rattle.refusals.specs.declared.Verdict.the-variants.{Accepted}
-use Rattle.lists.specs.Vocabulary.{nth, all, some, sameList}
-use Rattle.strand.specs.Strands.{Strand, sameStrand, isLetter, notLetter, mateOutside, notMutual, crossedAt, isNested, Nested, Proper, strandVerdict}
+use Rattle.lists.specs.Vocabulary.{nth, some, sameList}
+use Rattle.strand.specs.Strands.{Strand, sameStrand, notLetter, mateOutside, notMutual, crossedAt, isNested, Nested, Proper, strandVerdict}
 use Rattle.strand.specs.Strands.{checkVerdict, pairVerdict, Pair, leastMotif, leastMolecule, greatestLength}
 use Rattle.refusals.specs.Rules.{unequalLengths, noBases, tooLong, badLetter, badMate, matesNotMutual, arcsCross, motifSide, moleculeSide, first, Numbered}
 use Rattle.refusals.proofs.Refusing.{Numbering, strand-number, if-numbered, lowest-numbered, none-numbered, first-numbered}
 use Rattle.refusals.proofs.RuleLaws.{first-pass, rule-pass, rule-at-pass}
-use Rattle.lists.proofs.ListLaws.{and-true, not-not, true-not, every-at, every-true, some-no, some-none, lowest-all, same-eq}
+use Rattle.lists.proofs.ListLaws.{and-true, not-not, true-not, every-true, some-no, some-none, lowest-all, same-eq}
 use Rattle.strand.proofs.NestingLaws.{uncrossed-apart, apart-uncrossed, inside-of, paired-of}
+use Rattle.strand.proofs.LetterLaws.{letter-at, none-other}
 use Rattle.strand.proofs.CheckLaws.{accepted-strand}
 
 -- ---- the mates: tests and propositions
@@ -56,14 +57,6 @@ module _ (ms : List ℕ) where
 
 -- ---- an accepted strand
 
-letter-at : (side : ℕ) (bs : List ℕ) (i : ℕ) → notLetter side bs i ≡ false → isLetter side (nth bs i) ≡ true
-unfolding notLetter
-letter-at side bs i e = not-not _ e
-
-none-other : (side : ℕ) (bs : List ℕ) → all (isLetter side) bs ≡ true → (i : ℕ) → i < length bs → notLetter side bs i ≡ false
-unfolding notLetter
-none-other side bs e i l = ap not (every-at (λ k. isLetter side (nth bs k)) (length bs) i e l)
-
 module _ (side least greatest : ℕ) (bs ms : List ℕ) where
   pub accepted-proper : strandVerdict side least greatest bs ms ≡ Accepted → Proper side least greatest bs ms
   unfolding strandVerdict
@@ -95,6 +88,11 @@ module _ (side least greatest : ℕ) (bs ms : List ℕ) where
     where
       N : Nested (nth ms) (length ms)
       N = rw (P .same) (P .nested)
+
+-- What `depth::fold_of` asks: the mates of a proper strand are nested, by their own number, and not too many.
+pub proper-mates : {side least greatest : ℕ} {bs ms : List ℕ} → greatest ≤ greatestLength → Proper side least greatest bs ms
+    → Nested (nth ms) (length ms) × (length ms ≤ greatestLength)
+proper-mates h P = (rw (P .same) (P .nested), omega (arith, P .same, P .small))
 
 -- A strand that is proper with one greatest length is proper with a larger one.
 pub proper-within : {side least small large : ℕ} {bs ms : List ℕ} → small ≤ large → Proper side least small bs ms → Proper side least large bs ms

@@ -8,8 +8,10 @@ use lib.ListN.{length}
 use Rattle.refusals.specs.declared.Verdict.the-variants.{Accepted}
 use Rattle.lists.specs.Vocabulary.{nth, lowest}
 use Rattle.refusals.specs.Rules.{Refuses}
+use Rattle.strand.specs.declared.Fold.{Fold}
 use Rattle.strand.specs.declared.Checked.the-variants as checked
-use Rattle.strand.specs.Strands.{isNested, Nested, Proper, strandVerdict, checkVerdict, checkAnswer, CheckSays}
+use Rattle.strand.specs.Folds.{arcCount, depthOf, foldOf, IsArcCount, IsDepth, IsFold}
+use Rattle.strand.specs.Strands.{isNested, Nested, Proper, strandVerdict, checkVerdict, checkAnswer, CheckAccepts, CheckSays}
 
 -- 01, Molecule and motif: the test of the mates passes exactly when they are in range and mutual and no two arcs cross.
 abbrev pub NestedSays : List ℕ → Type 0
@@ -26,10 +28,20 @@ pub record LowestSays (n : ℕ) (test : ℕ → Bool) : Type 0 where
   pub passes : lowest n test < n → test (lowest n test) ≡ true
   pub below : (i : ℕ) → i < lowest n test → test i ≡ false
 
+-- 02, (i), for all mates, nested or not: `arcCount` and `depthOf` are the number of arcs and the depth as the propositions say them, and no other fold is; the
+-- depth is "0 without arcs".
+pub record FoldSays (mates : List ℕ) : Type 0 where
+  pub arcs : IsArcCount mates (arcCount mates)
+  pub depth : IsDepth mates (depthOf mates)
+  pub only : (f : Fold) → IsFold mates f → f ≡ foldOf mates
+  pub without : arcCount mates ≡ 0 → depthOf mates ≡ 0
+
 -- All the claims.
 pub record Claims : Type 0 where
   pub nested-says : (mates : List ℕ) → NestedSays mates
   pub strand-says : (side least greatest : ℕ) (bases mates : List ℕ) → StrandSays side least greatest bases mates
+  pub check-accepts : (bases mates : List ℕ) → CheckAccepts bases mates
   pub check-says : (bases mates : List ℕ) → CheckSays bases mates (checkAnswer bases mates)
   pub check-refuses : (bases mates : List ℕ) → Refuses (checkVerdict bases mates) checked.Refused (checkAnswer bases mates)
+  pub fold-says : (mates : List ℕ) → FoldSays mates
   pub lowest-says : (n : ℕ) (test : ℕ → Bool) → LowestSays n test

@@ -8,10 +8,13 @@ use lib.Dec.{ltb, leb, eqb}
 use lib.ListN.{length}
 use Rattle.lists.specs.Vocabulary.{nth, some, all, sameList, total}
 use Rattle.refusals.specs.declared.Verdict.{Verdict}
+use Rattle.refusals.specs.declared.Verdict.the-variants.{Accepted}
 use Rattle.refusals.specs.Rules.{motifSide, moleculeSide, unequalLengths, noBases, tooLong, badLetter, badMate, matesNotMutual, arcsCross, refuseIf}
 use Rattle.refusals.specs.Rules.{refuseAtLowest, first, byVerdict}
+use Rattle.strand.specs.declared.Fold.{Fold}
 use Rattle.strand.specs.declared.Checked.{Checked}
 use Rattle.strand.specs.declared.Checked.the-variants as checked
+use Rattle.strand.specs.Folds.{foldOf, IsFold}
 
 -- A molecule or a motif: bases as bytes, and for each base its mate, which is its own position where the base has no bond.
 pub record Strand : Type 0 where
@@ -115,13 +118,17 @@ greatestLength = 4096
 unfoldable pub checkVerdict : List ℕ → List ℕ → Verdict
 checkVerdict bases mates = strandVerdict moleculeSide leastMolecule greatestLength bases mates
 
--- Its answer.
-unfoldable pub checkAnswer : List ℕ → List ℕ → Checked
-checkAnswer bases mates = byVerdict (checkVerdict bases mates) checked.Refused checked.Nested
+-- It is accepted exactly where no rule applies. 01, Check: it "accepts a nested molecule", of 1 to 4,096 letters, and nothing else.
+abbrev pub CheckAccepts : List ℕ → List ℕ → Type 0
+CheckAccepts bases mates = (checkVerdict bases mates ≡ Accepted) ↔ Proper moleculeSide leastMolecule greatestLength bases mates
 
--- 01, Check: it "accepts a nested molecule", of 1 to 4,096 letters, and nothing else. r is the answer.
+-- Its answer. 02, (i): the check of a molecule "also answers the number of arcs and the depth".
+unfoldable pub checkAnswer : List ℕ → List ℕ → Checked
+checkAnswer bases mates = byVerdict (checkVerdict bases mates) checked.Refused (checked.Nested (foldOf mates))
+
+-- The answer r is that the molecule is nested, with f, exactly when it is a nested one of 1 to 4,096 letters and f is its number of arcs and its depth.
 abbrev pub CheckSays : List ℕ → List ℕ → Checked → Type 0
-CheckSays bases mates r = (r ≡ checked.Nested) ↔ Proper moleculeSide leastMolecule greatestLength bases mates
+CheckSays bases mates r = (f : Fold) → (r ≡ checked.Nested f) ↔ (Proper moleculeSide leastMolecule greatestLength bases mates × IsFold mates f)
 
 -- What the direct calls on a motif and a molecule refuse first: the motif, then the molecule.
 unfoldable pub pairVerdict : List ℕ → List ℕ → List ℕ → List ℕ → Verdict

@@ -1,4 +1,5 @@
-// Strands: bases and mates, borrowed as two slices of one length. The check of a strand, with refusals 1 to 7.
+// Strands: bases and mates, borrowed as two slices of one length. The check of a strand, with refusals 1 to 7; its fold.
+pub mod depth;
 pub mod key;
 pub mod letters;
 pub mod nesting;
@@ -17,9 +18,16 @@ pub const LEAST_MOLECULE: usize = 1;
 
 pub const GREATEST_LENGTH: usize = 4096;
 
-// The answer of check.
+// The fold of a strand: the number of its arcs, and its depth, which is the largest number of arcs of which each lies inside the one before, and 0 without
+// arcs.
+pub struct Fold {
+    pub arcs: usize,
+    pub depth: usize,
+}
+
+// The answer of check: the fold of the molecule.
 pub enum Checked {
-    Nested,
+    Nested(Fold),
     Refused(Refusal),
 }
 
@@ -69,7 +77,7 @@ pub fn check_strand(bases: &[u8], mates: &[u16], side: u8, least: usize, greates
     refuse(numbers::ARCS_CROSS, side, nesting::lowest_crossed(mates))
 }
 
-// The call check: whether a molecule is accepted.
+// The call check: whether a molecule is accepted, and its fold.
 pub fn check(bases: &[u8], mates: &[u16]) -> Checked
     ensures { λ r. ⌜ r ≡ checkAnswer (now (bases .entry)) (now (mates .entry)) ⌝ }
 {
@@ -83,7 +91,7 @@ pub fn check(bases: &[u8], mates: &[u16]) -> Checked
     if let Verdict::Refused(x) = verdict {
         return Checked::Refused(x);
     }
-    Checked::Nested
+    Checked::Nested(depth::fold_of(mates))
 }
 
 // What length, show and verify refuse first: the motif, then the molecule.

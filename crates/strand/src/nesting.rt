@@ -1,17 +1,40 @@
 // Mates: in range, mutual, and no two arcs crossing.
 ghost use mathlib.Core.Path.{_≡_};
 ghost use mathlib.Core.Bool.{not};
-ghost use Prim.Native.Nat.{ℕ, _<_};
+ghost use Prim.Native.Nat.{ℕ, _≤_, _<_, max};
 ghost use lib.ListN.{length};
 ghost use Rattle.lists.specs.Vocabulary.{nth, some, lowest};
 ghost use Rattle.lists.proofs.ListLaws.{Tells};
 ghost use Rattle.strand.specs.Strands.{mateOutside, notMutual, crosses, crossedAt, isNested, Inside, Paired};
 ghost use Rattle.strand.specs.Nesting.{Closes};
 
-// The lowest position whose mate is at or above the length, or the length.
+// The larger of two mates.
+fn larger(a: u16, b: u16) -> u16
+    ensures { λ r. ⌜ r ≡ max a b ⌝ }
+{
+    if a < b { b } else { a }
+}
+
+// The largest mate, and 0 without mates; its contract says only that no mate is above it. No branch depends on a mate.
+fn largest_mate(mates: &[u16]) -> u16
+    ensures { λ r. ⌜ ((i : ℕ) → i < length (now (mates .entry)) → nth (now (mates .entry)) i ≤ r) ⌝ }
+{
+    let mut largest: u16 = 0;
+    let mut i = 0;
+    while i < mates.len() {
+        largest = larger(largest, mates[i]);
+        i += 1;
+    }
+    largest
+}
+
+// The lowest position whose mate is at or above the length, or the length. It is looked for only where there may be one.
 pub(crate) fn lowest_outside(mates: &[u16]) -> usize
     ensures { λ r. ⌜ r ≡ lowest (length (now (mates .entry))) (mateOutside (now (mates .entry))) ⌝ }
 {
+    if (largest_mate(mates) as usize) < mates.len() {
+        return mates.len();
+    }
     let mut i = 0;
     while i < mates.len() {
         if mates.len() <= mates[i] as usize {

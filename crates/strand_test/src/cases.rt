@@ -106,7 +106,7 @@ fn over(text: &[u8]) {
 }
 
 pub fn run() {
-    let mut text = io::buffer();
+    let mut text = io::large_buffer();
     let n = io::read_full(STDIN_FILENO, &mut text);
     over(&text[..n]);
 }

@@ -22,10 +22,21 @@ pub fn exchange(mates: &mut [u16], x: usize, y: usize) {
     bond(mates, a, b);
 }
 
-// The mate of i among n bases: its own, or the other end of one of n / 2 arcs, nested (1) or each crossing each (2).
+// The mate of i where each even position is bonded with the next.
+fn beside(i: usize) -> usize {
+    if i % 2 == 0 {
+        return i % 65536 + 1;
+    }
+    i - 1
+}
+
+// The mate of i among n bases: its own, or the other end of one of n / 2 arcs, nested (1), each crossing each (2) or side by side (3).
 fn by_rule(form: usize, n: usize, i: usize) -> usize {
     if n <= i {
         return i;
+    }
+    if form == 3 {
+        return beside(i);
     }
     if form == 1 {
         return n - 1 - i;

@@ -1,5 +1,6 @@
-// The table's rows 1 to 7, written out word by word.
+// The table's rows 1 to 7, written out word by word; the number of arcs, and the depth by the arcs around each base.
 use testing::answer::refused;
+use testing::answer::two;
 use testing::slices::entry_at;
 
 fn letter(b: u8) -> bool {
@@ -61,6 +62,55 @@ fn lowest(row: usize, bases: &[u8], mates: &[u16]) -> usize {
     i
 }
 
+// The arc that begins at a has i between its ends, or as one of them.
+fn holds(mates: &[u16], a: usize, i: usize) -> bool {
+    let b = entry_at(mates, a);
+    if b <= a {
+        return false;
+    }
+    if i < a {
+        return false;
+    }
+    i <= b
+}
+
+// How many arcs have i between their ends, or as one of them.
+fn around(mates: &[u16], i: usize) -> usize {
+    let mut n: usize = 0;
+    let mut a = 0;
+    while a < mates.len() {
+        n = n % 65536 + holds(mates, a, i) as usize % 2;
+        a += 1;
+    }
+    n
+}
+
+fn greater(a: usize, b: usize) -> usize {
+    if a < b { b } else { a }
+}
+
+// The most arcs around a base.
+fn depth(mates: &[u16]) -> usize {
+    let mut most: usize = 0;
+    let mut i = 0;
+    while i < mates.len() {
+        most = greater(most, around(mates, i));
+        i += 1;
+    }
+    most
+}
+
+// How many bases have a greater mate.
+fn arcs(mates: &[u16]) -> usize {
+    let mut n: usize = 0;
+    let mut i = 0;
+    while i < mates.len() {
+        n = n % 65536 + (i < entry_at(mates, i)) as usize % 2;
+        i += 1;
+    }
+    n
+}
+
 // The answer for a strand of one side whose length has limits.
 pub fn answer(bases: &[u8], mates: &[u16], side: usize, least: usize, greatest: usize) -> usize {
     if bases.len() != mates.len() {
@@ -81,4 +131,13 @@ pub fn answer(bases: &[u8], mates: &[u16], side: usize, least: usize, greatest: 
         row += 1;
     }
     0
+}
+
+// The answer of check.
+pub fn check(bases: &[u8], mates: &[u16]) -> usize {
+    let r = answer(bases, mates, 1, 1, 4096);
+    if r != 0 {
+        return r;
+    }
+    two(arcs(mates), depth(mates))
 }

@@ -10,30 +10,49 @@ use testing::slices::first;
 use testing::slices::part;
 use testing::slices::set_entry;
 
-// Where the wrong answers are counted, and all: behind the rows that a refusal may have.
+// Where the wrong answers are counted, all of them, and the arcs and depths that check answers: behind the rows that a refusal may have.
 const WRONG: usize = 100;
 
 const ALL: usize = 101;
 
-fn bump(counts: &mut [usize], k: usize) {
+const ARCS: usize = 102;
+
+const DEPTHS: usize = 103;
+
+fn bump(counts: &mut [usize], k: usize, n: usize) {
     if k < counts.len() {
         if counts[k] < 1000000 {
-            counts[k] += 1;
+            counts[k] += n % 10000;
         }
     }
 }
 
-// Counts an answer by the row that it should have (0 where it is accepted), as wrong where it differs, and among all.
-fn count(counts: &mut [usize], got: usize, want: usize) {
-    bump(counts, ALL);
-    bump(counts, answer::row(want));
-    if got != want {
-        bump(counts, WRONG);
+// The row of an answer, 0 where it is accepted.
+fn row(a: usize) -> usize {
+    if answer::is_refused(a) {
+        return answer::row(a);
     }
+    0
+}
+
+fn count_fold(counts: &mut [usize], got: usize) {
+    if answer::is_refused(got) {
+        return;
+    }
+    bump(counts, ARCS, answer::first_of(got));
+    bump(counts, DEPTHS, answer::second_of(got));
+}
+
+// Counts an answer by the row that it should have, as wrong where it differs, and among all.
+fn count(counts: &mut [usize], got: usize, want: usize) {
+    bump(counts, ALL, 1);
+    bump(counts, row(want), 1);
+    bump(counts, WRONG, (got != want) as usize);
+    count_fold(counts, got);
 }
 
 fn judge_molecule(bases: &[u8], mates: &[u16], counts: &mut [usize]) {
-    let want = naive::answer(bases, mates, 1, 1, 4096);
+    let want = naive::check(bases, mates);
     count(
         counts,
         tell::code_of_check(strand::check(bases, mates)),
@@ -175,6 +194,10 @@ fn report(name: &[u8], counts: &[usize]) {
     tell_count(counts, WRONG);
     say(b", accepted and by row");
     report_rows(counts);
+    say(b"; arcs");
+    tell_count(counts, ARCS);
+    say(b", depths");
+    tell_count(counts, DEPTHS);
     say(b"\n");
 }
 
@@ -183,7 +206,7 @@ fn family(name: &[u8], kind: usize, times: usize) {
     let mut bases = [0u8; 64];
     let mut mates = [0u16; 64];
     let mut stack = [0u16; 64];
-    let mut counts = [0usize; 102];
+    let mut counts = [0usize; 104];
     rounds(kind, times, &mut bases, &mut mates, &mut stack, &mut counts);
     report(name, &counts);
 }

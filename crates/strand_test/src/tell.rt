@@ -12,21 +12,33 @@ pub fn code_of(v: Verdict) -> usize {
     }
 }
 
+// Check's: the number of arcs and the depth, or the refusal.
 pub fn code_of_check(v: Checked) -> usize {
     match v {
-        Checked::Nested => 0,
+        Checked::Nested(fold) => answer::two(fold.arcs, fold.depth),
         Checked::Refused(r) => answer::refused(r.number as usize, r.side as usize, r.place),
     }
 }
 
-pub fn tell(a: usize) {
-    if a == 0 {
-        say(b" accepted");
-        return;
-    }
+fn refusal(a: usize) {
     number(b" refused ", answer::row(a));
     number(b" ", answer::side(a));
     number(b" ", answer::place(a));
+}
+
+fn fold(a: usize) {
+    number(b" with arcs ", answer::first_of(a));
+    number(b" and depth ", answer::second_of(a));
+}
+
+pub fn tell(a: usize) {
+    if answer::is_refused(a) {
+        return refusal(a);
+    }
+    say(b" accepted");
+    if a != 0 {
+        fold(a);
+    }
 }
 
 // A strand as a molecule and as a motif.

@@ -25,9 +25,17 @@ pub fn place(a: usize) -> usize {
     a % 10000
 }
 
-// Two numbers of four digits.
+// Two numbers of four digits, and the first and the second of them.
 pub fn two(a: usize, b: usize) -> usize {
     100000000 + a % 10000 * 10000 + b % 10000
+}
+
+pub fn first_of(a: usize) -> usize {
+    a / 10000 % 10000
+}
+
+pub fn second_of(a: usize) -> usize {
+    a % 10000
 }
 
 // An answer that is wrong, whatever it was.

@@ -1,5 +1,5 @@
-//! Times the library against plain Rust (tests/compare/plain) and plain C (benches/peers) on the same inputs in one run, all at optimization level 3, and prints
-//! tables and the goals. `cargo bench --features c-peers`; words after `--` choose the tables: length, show, soundness, query.
+//! Times the library against plain Rust (tests/compare/plain) and plain C (benches/peers) on the same inputs in one run, all at optimization level 3, and
+//! prints tables and the goals. `cargo bench --features c-peers`; words after `--` choose the tables: length, show, soundness, query.
 #[allow(dead_code)]
 #[path = "../../tests/compare/make.rs"]
 mod make;
@@ -16,7 +16,7 @@ use lakhido::{BLOCK, BLOCKS_MOST, MOLECULE_MOST, MOTIF_MOST, SLOTS_MOST};
 use peers::By;
 use plain::block::{self, Owned};
 use plain::calls;
-use plain::strand::Strand;
+use plain::strand::{Fold, Strand, fold_of};
 use random::Random;
 use timing::{TURNS, Version, least};
 
@@ -114,7 +114,10 @@ fn lengths() {
     println!(
         "\n### Length\n\nMicroseconds; the work slice is not cleared before a call, by any version. The library and C of the same algorithm check both strands first"
     );
-    println!("(the column checks is the library's part for it), the versions of 003's rows do not.");
+    println!(
+        "and count the molecule's arcs and depth, the versions of 003's rows do neither. The column checks is the library's part for the two checks"
+    );
+    println!("alone (a call with no work slice, which is refused after them).");
     print_head("shape | n | m | motif | L | checks | library | C, 003's rows | C, same algorithm | Rust, 003's rows | / C rows | / C same | / Rust");
     let mut by_rows = Goal::new("length / C of 003's rows", 0.5);
     let mut by_same = Goal::new("length / C of the same algorithm", 1.05);
@@ -122,19 +125,20 @@ fn lengths() {
         let (p, q) = (p.lend(), q.lend());
         let size = lakhido::work_size(p.len(), q.len());
         let (mut ours, mut rows, mut windows) = (vec![0; size], vec![0; size], vec![0; size]);
+        let fold = fold_of(q.mates);
         let versions: Vec<Version> = vec![
-            Box::new(move || lakhido::length(lent(p), lent(q), &mut ours).expect("accepted")),
+            Box::new(move || told(lakhido::length(lent(p), lent(q), &mut ours), fold)),
             // SAFETY: the strands are valid: the first version, which is called first, panics on others.
-            Box::new(move || unsafe { peers::length(By::Rows, p, q, &mut rows) }),
+            Box::new(move || unsafe { peers::rows_length(p, q, &mut rows) }),
             Box::new(move || {
-                assert!(peers::strand_ok(p) && peers::strand_ok(q));
-                // SAFETY: the strands have just been found valid.
-                unsafe { peers::length(By::Windows, p, q, &mut windows) }
+                let (length, counted) = peers::windows_length(p, q, &mut windows).expect("valid strands");
+                assert_eq!(counted, fold);
+                length
             }),
             Box::new(move || plain::rows::length(p, q)),
         ];
         let row = format!("{shape} ({}, {}) {motif}", q.len(), p.len());
-        let checks: Version = Box::new(move || [p, q].map(|s| lakhido::check(lent(s)).is_ok() as usize).iter().sum());
+        let checks: Version = Box::new(move || lakhido::length(lent(p), lent(q), &mut []).expect_err("refused").reason.number() as usize);
         let checks = microseconds(least(&row, vec![checks]).1[0]);
         let (found, times) = least(&row, versions);
         print_row(&[shape.into(), q.len().to_string(), p.len().to_string(), motif.into(), found.to_string(), checks], &times);
@@ -149,13 +153,21 @@ fn lent<'a>(s: Strand<'a>) -> lakhido::Strand<'a> {
     lakhido::Strand::new(s.bases, s.mates)
 }
 
+/// The length that an accepted call answers, whose fold must be this.
+fn told(answer: Result<lakhido::Matched, lakhido::Refusal>, fold: Fold) -> usize {
+    let found = answer.expect("accepted");
+    assert_eq!((found.fold.arcs, found.fold.depth), (fold.arcs, fold.depth));
+    found.length
+}
+
 fn shows() {
     println!(
         "\n### Show\n\nMicroseconds; no buffer is cleared before a call. The library works in its work slice of 64 (m + 1) + 8 n numbers; the C and Rust versions keep a table of"
     );
     println!(
-        "all rows, (n + 1) (m + 1) numbers, which C is lent and Rust allocates. The last column of times is the library's length, timed in the same turns."
+        "all rows, (n + 1) (m + 1) numbers, which C is lent and Rust allocates, and check no strand; C counts arcs and depth too, Rust does not."
     );
+    println!("The last column of times is the library's length, timed in the same turns.");
     print_head("shape | n | m | motif | L | library | C, table | Rust, table | length | / C table | / Rust table | / length");
     let mut goal = Goal::new("show / length", 6.0);
     for Case { shape, motif, p, q } in cases(&SIZES) {
@@ -164,12 +176,17 @@ fn shows() {
         let (mut work, mut other) = (vec![0; size], vec![0; size]);
         let mut table = vec![0; (p.len() + 1) * (q.len() + 1)];
         let (mut ours, mut of_c, mut of_rust) = (vec![0; p.len()], vec![0; p.len()], vec![0; p.len()]);
+        let fold = fold_of(q.mates);
         let versions: Vec<Version> = vec![
-            Box::new(move || lakhido::show(lent(p), lent(q), &mut ours, &mut work).expect("accepted")),
-            // SAFETY: the strands are valid: the first version, which is called first, panics on others.
-            Box::new(move || unsafe { peers::show(p, q, &mut table, &mut of_c) }),
+            Box::new(move || told(lakhido::show(lent(p), lent(q), &mut ours, &mut work), fold)),
+            Box::new(move || {
+                // SAFETY: the strands are valid: the first version, which is called first, panics on others.
+                let (length, counted) = unsafe { peers::show(p, q, &mut table, &mut of_c) };
+                assert_eq!(counted, fold);
+                length
+            }),
             Box::new(move || plain::table::Table::new(p, q).show(&mut of_rust)),
-            Box::new(move || lakhido::length(lent(p), lent(q), &mut other).expect("accepted")),
+            Box::new(move || told(lakhido::length(lent(p), lent(q), &mut other), fold)),
         ];
         let (found, times) = least(&format!("show, {shape} ({}, {}) {motif}", q.len(), p.len()), versions);
         print_row(&[shape.into(), q.len().to_string(), p.len().to_string(), motif.into(), found.to_string()], &times);

@@ -1,10 +1,15 @@
 //! The plain C versions of benches/peers, compiled at -O3 by build.rs, with slices in the place of pointers.
-use crate::plain::strand::Strand;
+use crate::plain::strand::{Fold, Strand};
 use lakhido::{BLOCK, BLOCKS_MOST, MOST, MOTIF_MOST};
 
 mod c {
-    type Matcher = unsafe extern "C" fn(*const u8, *const u16, usize, *const u8, *const u16, usize, *mut u16) -> usize;
-    pub const MATCHERS: [Matcher; 2] = [rows_length, windows_length];
+    /// The fold of a molecule.
+    #[derive(Default)]
+    #[repr(C)]
+    pub struct Fold {
+        pub arcs: usize,
+        pub depth: usize,
+    }
 
     /// A motif with what a search works out of it, which only C looks into.
     #[repr(C)]
@@ -16,12 +21,31 @@ mod c {
     pub const SEARCHES: [Embeds; 2] = [rows_embeds, windows_embeds];
 
     unsafe extern "C" {
-        fn rows_length(p: *const u8, pm: *const u16, m: usize, q: *const u8, qm: *const u16, n: usize, work: *mut u16) -> usize;
-        fn windows_length(p: *const u8, pm: *const u16, m: usize, q: *const u8, qm: *const u16, n: usize, work: *mut u16) -> usize;
+        pub fn rows_length(p: *const u8, pm: *const u16, m: usize, q: *const u8, qm: *const u16, n: usize, work: *mut u16) -> usize;
+        pub fn windows_length(
+            p: *const u8,
+            pm: *const u16,
+            m: usize,
+            q: *const u8,
+            qm: *const u16,
+            n: usize,
+            work: *mut u16,
+            length: *mut usize,
+            fold: *mut Fold,
+        ) -> std::ffi::c_int;
         fn rows_embeds(motif: *mut Motif, q: *const u8, qm: *const u16, n: usize, work: *mut u16) -> std::ffi::c_int;
         fn windows_embeds(motif: *mut Motif, q: *const u8, qm: *const u16, n: usize, work: *mut u16) -> std::ffi::c_int;
-        pub fn table_show(p: *const u8, pm: *const u16, m: usize, q: *const u8, qm: *const u16, n: usize, rows: *mut u16, places: *mut u16) -> usize;
-        pub fn peer_strand_ok(bases: *const u8, mates: *const u16, n: usize) -> std::ffi::c_int;
+        pub fn table_show(
+            p: *const u8,
+            pm: *const u16,
+            m: usize,
+            q: *const u8,
+            qm: *const u16,
+            n: usize,
+            rows: *mut u16,
+            places: *mut u16,
+            fold: *mut Fold,
+        ) -> usize;
         pub fn peer_unsound_molecule(catalog: *const u8, blocks: usize) -> usize;
         pub fn peer_unsound_entry(cache: *const u8, blocks: usize) -> usize;
         pub fn peer_query(
@@ -40,7 +64,7 @@ mod c {
     }
 }
 
-/// Which search a C version uses.
+/// Which search a C query uses.
 #[derive(Clone, Copy)]
 pub enum By {
     /// Document 003's rows.
@@ -53,31 +77,60 @@ fn assert_lengths(s: Strand, most: usize) {
     assert!(s.bases.len() == s.mates.len() && s.len() <= most);
 }
 
-/// The length of the longest closed prefix that embeds.
-///
-/// # Safety
-///
-/// The strands are valid: the library accepts them.
-pub unsafe fn length(by: By, p: Strand, q: Strand, work: &mut [u16]) -> usize {
+fn assert_pair(p: Strand, q: Strand, work: &[u16]) {
     assert_lengths(p, MOST);
     assert_lengths(q, MOST);
     assert!(lakhido::work_size(p.len(), q.len()) <= work.len());
-    let call = c::MATCHERS[by as usize];
-    // SAFETY: valid strands no longer than the peers' tables, and a work slice as large as the library's, which is all that the peers ask.
-    unsafe { call(p.bases.as_ptr(), p.mates.as_ptr(), p.len(), q.bases.as_ptr(), q.mates.as_ptr(), q.len(), work.as_mut_ptr()) }
 }
 
-/// As [`length`], and writes the places of an embedding.
+fn folded(fold: c::Fold) -> Fold {
+    Fold { arcs: fold.arcs, depth: fold.depth }
+}
+
+/// The length of the longest closed prefix that embeds, by document 003's rows.
 ///
 /// # Safety
 ///
 /// The strands are valid: the library accepts them.
-pub unsafe fn show(p: Strand, q: Strand, rows: &mut [u16], places: &mut [u16]) -> usize {
+pub unsafe fn rows_length(p: Strand, q: Strand, work: &mut [u16]) -> usize {
+    assert_pair(p, q, work);
+    // SAFETY: valid strands, and a work slice as large as the library's, which is all that the peer asks.
+    unsafe { c::rows_length(p.bases.as_ptr(), p.mates.as_ptr(), p.len(), q.bases.as_ptr(), q.mates.as_ptr(), q.len(), work.as_mut_ptr()) }
+}
+
+/// The same by the library's own algorithm, with the fold of the molecule; none where a strand is not valid.
+pub fn windows_length(p: Strand, q: Strand, work: &mut [u16]) -> Option<(usize, Fold)> {
+    assert_pair(p, q, work);
+    let (mut length, mut fold) = (0, c::Fold::default());
+    // SAFETY: strands of any content, which the peer checks, no longer than its tables, and a work slice as large as the library's.
+    let valid = unsafe {
+        c::windows_length(
+            p.bases.as_ptr(),
+            p.mates.as_ptr(),
+            p.len(),
+            q.bases.as_ptr(),
+            q.mates.as_ptr(),
+            q.len(),
+            work.as_mut_ptr(),
+            &mut length,
+            &mut fold,
+        )
+    };
+    (valid != 0).then(|| (length, folded(fold)))
+}
+
+/// The length, with the fold of the molecule; and writes the places of an embedding.
+///
+/// # Safety
+///
+/// The strands are valid: the library accepts them.
+pub unsafe fn show(p: Strand, q: Strand, rows: &mut [u16], places: &mut [u16]) -> (usize, Fold) {
     assert_lengths(p, MOST);
     assert_lengths(q, MOST);
     assert!((p.len() + 1) * (q.len() + 1) <= rows.len() && p.len() <= places.len());
+    let mut fold = c::Fold::default();
     // SAFETY: valid strands, a row of m + 1 numbers for each of n + 1 positions, and m places, which is all that the peer asks.
-    unsafe {
+    let length = unsafe {
         c::table_show(
             p.bases.as_ptr(),
             p.mates.as_ptr(),
@@ -87,15 +140,10 @@ pub unsafe fn show(p: Strand, q: Strand, rows: &mut [u16], places: &mut [u16]) -
             q.len(),
             rows.as_mut_ptr(),
             places.as_mut_ptr(),
+            &mut fold,
         )
-    }
-}
-
-/// Whether the strand is valid.
-pub fn strand_ok(s: Strand) -> bool {
-    assert_lengths(s, MOST);
-    // SAFETY: reads n bases and n mates of any content.
-    unsafe { c::peer_strand_ok(s.bases.as_ptr(), s.mates.as_ptr(), s.len()) != 0 }
+    };
+    (length, folded(fold))
 }
 
 /// The lowest unsound molecule block, or the number of blocks.

@@ -1,16 +1,23 @@
-// Plain C peers of the library's calls, for the benchmark: the same work at the same optimization. Nothing is proved of them. Strands are valid and no
-// longer than the library's, and buffers large enough: no peer refuses anything. `work` is as large as the library's.
+// Plain C peers of the library's calls, for the benchmark: the same work at the same optimization. Nothing is proved of them. Strands are no longer than the
+// library's and valid but where a peer says that it checks them, and buffers are large enough. `work` is as large as the library's.
 #ifndef PEER_H
 #define PEER_H
 
 #include <stddef.h>
 #include <stdint.h>
 
-// The length of the longest closed prefix of the motif that embeds in the molecule.
-typedef size_t peer_matcher(const uint8_t *p, const uint16_t *pm, size_t m, const uint8_t *q, const uint16_t *qm, size_t n, uint16_t *work);
+// The number of arcs of a strand, and its depth.
+typedef struct {
+    size_t arcs, depth;
+} peer_fold;
 
-// By document 003's rows (rows.c), and by the library's own algorithm (windows.c).
-peer_matcher rows_length, windows_length;
+// The length of the longest closed prefix of the motif that embeds in the molecule, by document 003's rows (rows.c).
+size_t rows_length(const uint8_t *p, const uint16_t *pm, size_t m, const uint8_t *q, const uint16_t *qm, size_t n, uint16_t *work);
+
+// The same by the library's own algorithm and with every step of its call (windows.c): both strands are checked, and the molecule's fold is counted. Gives
+// whether the strands are valid; where one is not, nothing is written.
+int windows_length(const uint8_t *p, const uint16_t *pm, size_t m, const uint8_t *q, const uint16_t *qm, size_t n, uint16_t *work, size_t *length,
+                   peer_fold *fold);
 
 // A motif for a search of many molecules. Of its tables (the letters of its mates, for each letter the row of an unbonded base) and of the bounds of the
 // molecule at hand only windows.c makes use.
@@ -45,6 +52,9 @@ static inline int peer_heaviest(const uint16_t *qm, int lo, int hi) {
 // Whether a strand's bases are letters and its mates in range, mutual and nested (sound.c).
 int peer_strand_ok(const uint8_t *bases, const uint16_t *mates, size_t n);
 
+// The fold of a strand (sound.c).
+peer_fold peer_fold_of(const uint16_t *mates, size_t n);
+
 // The lowest unsound block of a buffer of molecule blocks, and of one of cache entries; the number of blocks where all are sound (sound.c).
 size_t peer_unsound_molecule(const uint8_t *catalog, size_t blocks);
 size_t peer_unsound_entry(const uint8_t *cache, size_t blocks);
@@ -57,7 +67,8 @@ void peer_put_checksum(uint8_t *block);
 long peer_query(peer_embeds *embeds, const uint8_t *catalog, size_t blocks, uint8_t *cache, size_t slots, const uint8_t *p, const uint16_t *pm, size_t m,
                 uint16_t *work, uint16_t *hits, size_t *searched);
 
-// Show (show.c): the length, and the places of an embedding. `rows` has (n + 1) (m + 1) numbers, a row for each position of the molecule.
-size_t table_show(const uint8_t *p, const uint16_t *pm, size_t m, const uint8_t *q, const uint16_t *qm, size_t n, uint16_t *rows, uint16_t *places);
+// Show (show.c): the length, the places of an embedding, and the molecule's fold. `rows` has (n + 1) (m + 1) numbers, a row for each position of the molecule.
+size_t table_show(const uint8_t *p, const uint16_t *pm, size_t m, const uint8_t *q, const uint16_t *qm, size_t n, uint16_t *rows, uint16_t *places,
+                  peer_fold *fold);
 
 #endif

@@ -77,8 +77,10 @@ static void place(const Table *t, size_t i, size_t j, size_t end, uint16_t *plac
         }
 }
 
-size_t table_show(const uint8_t *p, const uint16_t *pm, size_t m, const uint8_t *q, const uint16_t *qm, size_t n, uint16_t *rows, uint16_t *places) {
+size_t table_show(const uint8_t *p, const uint16_t *pm, size_t m, const uint8_t *q, const uint16_t *qm, size_t n, uint16_t *rows, uint16_t *places,
+                  peer_fold *fold) {
     Table t = {p, q, pm, qm, m, rows};
+    *fold = peer_fold_of(qm, n);
     for (size_t i = n + 1; 0 < i--;) fill_row(&t, i, n);
     size_t found = at(&t, 0, 0);
     place(&t, 0, 0, found, places);

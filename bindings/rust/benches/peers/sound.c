@@ -1,4 +1,4 @@
-// The check of a strand and the soundness pass in plain C, by document 01's rules.
+// The check of a strand and its fold, and the soundness pass in plain C, by the rules of document 01 and request (i) of 02.
 #include "peer.h"
 
 enum { BLOCK = 512, CHECKSUM = 508, SEARCHED = 380, HITS = 444, MAP = 64 };
@@ -9,12 +9,30 @@ static int zeros(const uint8_t *s, int from, int to) {
     return 1;
 }
 
-static int is_letter(uint8_t b) { return b == 'A' || b == 'C' || b == 'G' || b == 'U'; }
+// 1 where a byte is a letter, else 0. A sum, of which clang and gcc both make vector code.
+static uint8_t is_letter(uint8_t b) { return (b == 'A') + (b == 'C') + (b == 'G') + (b == 'U'); }
+
+// Of 8 and of 16 bits and no more, so that the vectors hold many.
+static uint8_t smaller(uint8_t a, uint8_t b) { return a < b ? a : b; }
+static uint16_t larger(uint16_t a, uint16_t b) { return a < b ? b : a; }
+
+// All bases are tested together, without a branch. No peer tells which of them is no letter.
+static int all_letters(const uint8_t *bases, size_t n) {
+    uint8_t least = 1;
+    for (size_t i = 0; i < n; i++) least = smaller(least, is_letter(bases[i]));
+    return least;
+}
+
+// All mates are tested together, by the largest.
+static int all_inside(const uint16_t *mates, int n) {
+    uint16_t largest = 0;
+    for (int i = 0; i < n; i++) largest = larger(largest, mates[i]);
+    return largest < n;
+}
 
 // In range, mutual and nested, in linear time: the walk of each arc's inside jumps over the arcs in it.
 static int is_nested(const uint16_t *mates, int n) {
-    for (int i = 0; i < n; i++)
-        if (n <= mates[i]) return 0;
+    if (!all_inside(mates, n)) return 0;
     for (int i = 0; i < n; i++)
         if (mates[mates[i]] != i) return 0;
     for (int i = n - 1; 0 <= i; i--)
@@ -23,10 +41,27 @@ static int is_nested(const uint16_t *mates, int n) {
     return 1;
 }
 
-int peer_strand_ok(const uint8_t *bases, const uint16_t *mates, size_t n) {
-    for (size_t i = 0; i < n; i++)
-        if (!is_letter(bases[i])) return 0;
-    return is_nested(mates, n);
+int peer_strand_ok(const uint8_t *bases, const uint16_t *mates, size_t n) { return all_letters(bases, n) && is_nested(mates, n); }
+
+// Each arc is counted at its left end, several bases at a time.
+static uint16_t begins(uint16_t i, uint16_t mate) { return i < mate; }
+
+static size_t arc_count(const uint16_t *mates, size_t n) {
+    uint16_t arcs = 0;
+    for (size_t i = 0; i < n; i++) arcs = arcs + begins(i, mates[i]);
+    return arcs;
+}
+
+// One walk without branches, where there are arcs: an arc is open from its left end to its right one, and the depth is the most that are open at once.
+peer_fold peer_fold_of(const uint16_t *mates, size_t n) {
+    size_t arcs = arc_count(mates, n), level = 0, depth = 0;
+    if (!arcs) return (peer_fold){0, 0};
+    for (size_t i = 0; i < n; i++) {
+        size_t j = mates[i];
+        level += (i < j) - (j < i);
+        depth = depth < level ? level : depth;
+    }
+    return (peer_fold){arcs, depth};
 }
 
 static uint32_t checksum(const uint8_t *s) {

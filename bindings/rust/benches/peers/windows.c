@@ -1,6 +1,7 @@
 // The library's algorithm in plain C (crates/rows, crates/arcs and crates/matcher): tables of the motif (the letters of its mates, and for each letter the
 // row of an unbonded base), made at the first arc or once for a query; one accumulator for an arc, rows for the starts that a greedy match of letters can have
-// come to, the heavy child first, arcs closed in passes, and the top of the molecule walked from left to right; a query stops a walk that cannot succeed.
+// come to, the heavy child first, arcs closed in passes, and the top of the molecule walked from left to right; a query stops a walk that cannot succeed. The
+// call length checks both strands first and counts the molecule's fold (sound.c), as the library's does.
 #include "peer.h"
 
 // The rows are for the starts from `from` on in a window of the motif that ends at `to`, as the library's are, which show has for other windows too. A row of
@@ -190,8 +191,8 @@ static int walk(peer_motif *t, const uint8_t *q, const uint16_t *qm, int n, int 
     return cur;
 }
 
-// The tables are made at the first arc.
-size_t windows_length(const uint8_t *p, const uint16_t *pm, size_t m, const uint8_t *q, const uint16_t *qm, size_t length, uint16_t *work) {
+// The length where both strands are valid. The tables are made at the first arc.
+static size_t prefix_length(const uint8_t *p, const uint16_t *pm, size_t m, const uint8_t *q, const uint16_t *qm, size_t length, uint16_t *work) {
     peer_motif t;
     int i = 0, cur = 0, n = length;
     t.p = p, t.pm = pm, t.m = m;
@@ -199,6 +200,14 @@ size_t windows_length(const uint8_t *p, const uint16_t *pm, size_t m, const uint
     if (i == n || cur == t.m) return cur;
     peer_prepare(&t, p, pm, m);
     return walk(&t, q, qm, n, i, cur, work, 0);
+}
+
+int windows_length(const uint8_t *p, const uint16_t *pm, size_t m, const uint8_t *q, const uint16_t *qm, size_t n, uint16_t *work, size_t *length,
+                   peer_fold *fold) {
+    if (!peer_strand_ok(p, pm, m) || !peer_strand_ok(q, qm, n)) return 0;
+    *fold = peer_fold_of(qm, n);
+    *length = prefix_length(p, pm, m, q, qm, n, work);
+    return 1;
 }
 
 int windows_embeds(peer_motif *t, const uint8_t *q, const uint16_t *qm, size_t n, uint16_t *work) { return walk(t, q, qm, n, 0, 0, work, 1) == t->m; }

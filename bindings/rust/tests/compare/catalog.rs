@@ -4,9 +4,9 @@ use crate::guard::Guarded;
 use crate::make;
 use crate::plain::block::{self, BLOCK, CHECKSUM, ENTRY, MOLECULE, Owned};
 use crate::plain::calls::{self, work_size};
-use crate::plain::strand::{Refused, Strand};
+use crate::plain::strand::{Fold, Refused, Strand};
 use crate::random::{Random, rounds, seeded};
-use crate::{lent, refused, report};
+use crate::{folded, lent, refused, report};
 
 /// A catalog and a cache.
 #[derive(Clone)]
@@ -33,11 +33,13 @@ impl Shop {
         assert_eq!(written(cache.content()), written(&self.cache), "cache: library, plain; {input:?} on {before:?}");
     }
 
-    pub fn add(&mut self, d: usize, molecule: Strand) -> Result<(), Refused> {
+    /// Gives the fold of the molecule.
+    pub fn add(&mut self, d: usize, molecule: Strand) -> Result<Fold, Refused> {
         let (before, input) = (self.clone(), ("add", d, molecule));
         let (mut catalog, mut cache) = (Guarded::new(&self.catalog), Guarded::new(&self.cache));
         let (bases, mates) = (Guarded::new(molecule.bases), Guarded::new(molecule.mates));
-        let ours = lakhido::add(catalog.lend(), cache.lend(), d, lakhido::Strand::new(bases.content(), mates.content())).map_err(refused);
+        let ours = lakhido::add(catalog.lend(), cache.lend(), d, lakhido::Strand::new(bases.content(), mates.content()));
+        let ours = ours.map(folded).map_err(refused);
         let answer = calls::add(&mut self.catalog, &mut self.cache, d, molecule);
         assert_eq!(ours, answer, "library, plain; {input:?} on {before:?}");
         assert!(bases.kept() && mates.kept(), "add wrote to the molecule: {input:?} on {before:?}");
@@ -120,7 +122,7 @@ fn calls_on_any_content() {
             let k = r.below(3);
             let d = if r.one_in(8) { b } else { r.below(b) };
             let answer = match r.below(5) {
-                0 => shop.add(d, molecules[k].lend()),
+                0 => shop.add(d, molecules[k].lend()).map(drop),
                 1 => shop.remove(d),
                 _ => {
                     let motif = motifs[k].lend();

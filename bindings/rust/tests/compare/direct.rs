@@ -1,12 +1,13 @@
 //! Check, length, show and verify against the plain implementation: exhaustively on small inputs, at random on short and long ones.
+use crate::catalog::Shop;
 use crate::guard::Guarded;
 use crate::make;
 use crate::plain::block::Owned;
 use crate::plain::calls::{self, LONGEST, work_size};
 use crate::plain::embedding::{longest_by_trying, verify_linear};
-use crate::plain::strand::{Refused, Strand};
+use crate::plain::strand::{Fold, Refused, Strand, fold_of};
 use crate::random::{Random, rounds, seeded};
-use crate::{lent, refused, report};
+use crate::{folded, lent, refused, report};
 
 /// Inputs between guards, so that a write to them or beside them shows.
 struct Lent {
@@ -30,7 +31,7 @@ impl Lent {
 
 pub fn check(s: Strand) {
     let input = Lent::new(s);
-    let answer = lakhido::check(input.strand()).map_err(refused);
+    let answer = lakhido::check(input.strand()).map(folded).map_err(refused);
     assert_eq!(answer, calls::check(s), "check: library, plain; {s:?}");
     assert!(input.kept(), "check wrote to its input: {s:?}");
 }
@@ -40,27 +41,32 @@ fn work_of(size: usize) -> Vec<u16> {
     (0..size).map(|i| (i as u16).wrapping_mul(40503) ^ size as u16).collect()
 }
 
-/// `expected` is the length where both strands are accepted.
-pub fn length(p: Strand, q: Strand, size: usize, expected: Result<usize, Refused>) {
+/// The answer of length and show.
+fn matched(answer: Result<lakhido::Matched, lakhido::Refusal>) -> Result<(usize, Fold), Refused> {
+    answer.map(|found| (found.length, folded(found.fold))).map_err(refused)
+}
+
+/// `expected` is the length with the molecule's fold where the call is accepted.
+pub fn length(p: Strand, q: Strand, size: usize, expected: Result<(usize, Fold), Refused>) {
     let (pl, ql) = (Lent::new(p), Lent::new(q));
     let mut work = Guarded::new(&work_of(size));
-    let answer = lakhido::length(pl.strand(), ql.strand(), work.lend()).map_err(refused);
+    let answer = matched(lakhido::length(pl.strand(), ql.strand(), work.lend()));
     assert_eq!(answer, expected, "length: library, plain; {p:?}, {q:?}, work {size}");
     assert!(pl.kept() && ql.kept() && work.edges_kept(), "length wrote where it must not: {p:?}, {q:?}, work {size}");
     assert!(answer.is_ok() || work.kept(), "a refused length wrote to work: {p:?}, {q:?}, work {size}");
 }
 
 /// Gives the places of an accepted call.
-pub fn show(p: Strand, q: Strand, room: usize, size: usize, expected: Result<usize, Refused>) -> Option<Vec<u16>> {
+pub fn show(p: Strand, q: Strand, room: usize, size: usize, expected: Result<(usize, Fold), Refused>) -> Option<Vec<u16>> {
     let (pl, ql) = (Lent::new(p), Lent::new(q));
     let mut work = Guarded::new(&work_of(size));
     let before: Vec<u16> = (0..room as u16).map(|i| i ^ 0x5a5a).collect();
     let mut places = Guarded::new(&before);
-    let answer = lakhido::show(pl.strand(), ql.strand(), places.lend(), work.lend()).map_err(refused);
+    let answer = matched(lakhido::show(pl.strand(), ql.strand(), places.lend(), work.lend()));
     let input = || format!("{p:?}, {q:?}, places {room}, work {size}");
     assert_eq!(answer, expected, "show: library, plain; {}", input());
     assert!(pl.kept() && ql.kept() && work.edges_kept() && places.edges_kept(), "show wrote where it must not: {}", input());
-    let Ok(found) = answer else {
+    let Ok((found, _)) = answer else {
         assert!(work.kept() && places.kept(), "a refused show wrote: {}", input());
         return None;
     };
@@ -74,7 +80,8 @@ pub fn show(p: Strand, q: Strand, room: usize, size: usize, expected: Result<usi
 pub fn verify(p: Strand, q: Strand, places: &[u16]) {
     let (pl, ql) = (Lent::new(p), Lent::new(q));
     let lent = Guarded::new(places);
-    let answer = lakhido::verify(pl.strand(), ql.strand(), lent.content()).map_err(refused);
+    let answer = lakhido::verify(pl.strand(), ql.strand(), lent.content());
+    let answer = answer.map(|found| (found.embeds, folded(found.fold))).map_err(refused);
     assert_eq!(answer, calls::verify(p, q, places), "verify: library, plain; {p:?}, {q:?}, &{places:?}");
     assert!(pl.kept() && ql.kept() && lent.kept(), "verify wrote: {p:?}, {q:?}, &{places:?}");
 }
@@ -127,14 +134,15 @@ fn all_small_pairs() {
     let (motifs, molecules) = (small_strands(4), small_strands(5));
     let mut work = vec![0; work_size(4, 5)];
     let mut count = 0;
-    for p in &motifs {
-        for q in &molecules {
+    for q in &molecules {
+        let fold = fold_of(&q.mates);
+        for p in &motifs {
             let (p, q) = (p.lend(), q.lend());
-            let expected = longest_by_trying(p, q);
+            let expected = Ok((longest_by_trying(p, q), fold));
             let size = work_size(p.len(), q.len());
-            let answer = lakhido::length(lent(p), lent(q), &mut work[..size]).map_err(refused);
-            assert_eq!(answer, Ok(expected), "length: library, plain; {p:?}, {q:?}");
-            show(p, q, p.len(), size, Ok(expected));
+            let answer = matched(lakhido::length(lent(p), lent(q), &mut work[..size]));
+            assert_eq!(answer, expected, "length: library, plain; {p:?}, {q:?}");
+            show(p, q, p.len(), size, expected);
             count += 2;
         }
     }
@@ -160,6 +168,24 @@ fn all_small_checks() {
     }
     report("all strands of up to 4 bases, mates up to 4", count);
     assert!(50_000 < count);
+}
+
+/// Check and add on every fold, whose letters are of no matter.
+#[test]
+fn all_small_folds() {
+    let mut count = 0;
+    for n in 1..=12 {
+        let bases = vec![b'G'; n];
+        for mates in folds(n) {
+            let s = Strand::new(&bases, &mates);
+            check(s);
+            Shop::empty(1, 1).add(0, s).expect("a fold");
+            count += 1;
+        }
+    }
+    report("check and add on all folds of up to 12 bases", 2 * count);
+    // The sum of the Motzkin numbers of 1 to 12, which count the folds of so many bases.
+    assert_eq!(count, 24_870);
 }
 
 #[test]
@@ -236,11 +262,12 @@ fn deepest_arcs_in_the_stack() {
     let count = folds.len();
     for mates in folds {
         let bases = make::letters(&mut r, LONGEST);
+        let expected = Ok((LONGEST, fold_of(&mates)));
         let call = move || {
             let strand = lakhido::Strand::new(&bases, &mates);
             let (mut places, mut work) = (vec![0; LONGEST], vec![0; work_size(LONGEST, LONGEST)]);
-            assert_eq!(lakhido::length(strand, strand, &mut work), Ok(LONGEST));
-            assert_eq!(lakhido::show(strand, strand, &mut places, &mut work), Ok(LONGEST));
+            assert_eq!(matched(lakhido::length(strand, strand, &mut work)), expected);
+            assert_eq!(matched(lakhido::show(strand, strand, &mut places, &mut work)), expected);
         };
         std::thread::Builder::new().stack_size(lakhido::STACK).spawn(call).expect("a thread").join().expect("accepted");
     }

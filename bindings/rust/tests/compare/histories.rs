@@ -1,5 +1,6 @@
 //! Histories from zeroed buffers: add, remove and query, refused ones among them, with at most one alteration in each cache block between one accepted call
-//! and the next; every answer against the plain calls on bytes and against the reference model, which sees no bytes.
+//! and the next; every answer against the plain calls on bytes and against the reference model, which sees no bytes and says of an accepted add no more
+//! than that it is done.
 use crate::catalog::{Shop, pool};
 use crate::make;
 use crate::plain::block::{BLOCK, CHECKSUM, ENTRY, HIT, MOLECULE, Owned, SEARCHED};
@@ -41,7 +42,7 @@ impl History {
 
     fn add(&mut self, d: usize, molecule: &Owned) {
         self.steps.push(format!("add {d} {molecule:?}"));
-        let answer = self.shop.add(d, molecule.lend());
+        let answer = self.shop.add(d, molecule.lend()).map(drop);
         let model = self.model.add(d, molecule.lend());
         self.same(answer, model);
     }

@@ -1,7 +1,7 @@
-//! Holds the library to `plain`, an independent implementation of document 01: the same inputs, answers and all buffers compared byte for byte.
+//! Holds the library to `plain`, an independent implementation of document 01 and request (i) of 02: the same inputs, answers and all buffers compared byte for byte.
 //!
-//! Each test prints its seed and how many comparisons it made (`cargo test --release -- --nocapture`). LAKHIDO_SEED sets the seed; otherwise it is taken from the
-//! clock. LAKHIDO_ROUNDS multiplies the random cases. A difference prints the input that shows it.
+//! Each test prints its seed and how many comparisons it made (`cargo test --release -- --nocapture`). LAKHIDO_SEED sets the seed; otherwise it is taken
+//! from the clock. LAKHIDO_ROUNDS multiplies the random cases. A difference prints the input that shows it.
 mod blocks;
 mod catalog;
 mod direct;
@@ -14,11 +14,16 @@ mod plain_alone;
 mod random;
 mod settled;
 
-use plain::strand::Refused;
+use plain::strand::{Fold, Refused};
 
 /// A refusal of the library as number, side and place.
 fn refused(r: lakhido::Refusal) -> Refused {
     Refused(r.reason.number() as u32, r.side.number() as u32, r.place)
+}
+
+/// A fold of the library as the plain one.
+fn folded(f: lakhido::Fold) -> Fold {
+    Fold { arcs: f.arcs, depth: f.depth }
 }
 
 fn lent<'a>(s: plain::strand::Strand<'a>) -> lakhido::Strand<'a> {

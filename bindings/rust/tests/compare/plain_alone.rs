@@ -1,7 +1,7 @@
-//! The plain implementation against itself: each quick way against the words of document 01.
+//! The plain implementation against itself: each quick way against the words of document 01 and request (i) of 02.
 use crate::make;
 use crate::plain::embedding::{closed, longest_by_trying, verify, verify_linear};
-use crate::plain::strand::{Strand, lowest_crossing, lowest_crossing_by_pairs};
+use crate::plain::strand::{Fold, Strand, depth_by_trying, fold_of, lowest_crossing, lowest_crossing_by_pairs};
 use crate::plain::{rows, table::Table};
 use crate::random::{rounds, seeded};
 
@@ -65,4 +65,19 @@ fn the_crossings_agree() {
         assert_eq!(place, lowest_crossing_by_pairs(&s.mates), "{:?}", s.mates);
     }
     assert!(1_000 < found);
+}
+
+#[test]
+fn the_depths_agree() {
+    let mut r = seeded();
+    let mut deep = 0;
+    for _ in 0..rounds(50_000) {
+        let n = r.between(1, 24);
+        let mates = make::fold(&mut r, n);
+        let fold = fold_of(&mates);
+        let ends = (0..n).filter(|&i| mates[i] as usize != i).count();
+        assert_eq!(fold, Fold { arcs: ends / 2, depth: depth_by_trying(&mates) }, "{mates:?}");
+        deep += (1 < fold.depth && fold.depth < fold.arcs) as usize;
+    }
+    assert!(1_000 < deep);
 }

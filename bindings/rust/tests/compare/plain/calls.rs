@@ -3,7 +3,7 @@
 use super::block::{self, BLOCK, ENTRY, MOLECULE};
 use super::embedding;
 use super::rows;
-use super::strand::{self, NEITHER, Refused, Strand};
+use super::strand::{self, Fold, NEITHER, Refused, Strand};
 
 pub const LONGEST: usize = 4096;
 
@@ -67,18 +67,21 @@ fn accepted(rows: Vec<Row>) -> Result<(), Refused> {
     first(rows).map_or(Ok(()), Err)
 }
 
-pub fn check(q: Strand) -> Result<(), Refused> {
-    accepted(check_rows(q))
+pub fn check(q: Strand) -> Result<Fold, Refused> {
+    accepted(check_rows(q))?;
+    Ok(strand::fold_of(q.mates))
 }
 
-pub fn length(p: Strand, q: Strand, work: usize) -> Result<usize, Refused> {
+/// Length: L, and the fold of the molecule.
+pub fn length(p: Strand, q: Strand, work: usize) -> Result<(usize, Fold), Refused> {
     accepted(length_rows(p, q, work))?;
-    Ok(rows::length(p, q))
+    Ok((rows::length(p, q), strand::fold_of(q.mates)))
 }
 
-pub fn verify(p: Strand, q: Strand, places: &[u16]) -> Result<bool, Refused> {
+/// Verify: whether the places are an embedding, and the fold of the molecule.
+pub fn verify(p: Strand, q: Strand, places: &[u16]) -> Result<(bool, Fold), Refused> {
     accepted(verify_rows(p, q, places.len()))?;
-    Ok(embedding::verify_linear(p, q, places))
+    Ok((embedding::verify_linear(p, q, places), strand::fold_of(q.mates)))
 }
 
 // Add, remove, query.
@@ -134,11 +137,11 @@ fn clean(cache: &mut [u8]) {
     }
 }
 
-pub fn add(catalog: &mut [u8], cache: &mut [u8], d: usize, molecule: Strand) -> Result<(), Refused> {
+pub fn add(catalog: &mut [u8], cache: &mut [u8], d: usize, molecule: Strand) -> Result<Fold, Refused> {
     accepted(add_rows(catalog, cache, d, molecule))?;
     clean(cache);
     catalog[BLOCK * d..][..BLOCK].copy_from_slice(&block::molecule_block(molecule));
-    Ok(())
+    Ok(strand::fold_of(molecule.mates))
 }
 
 pub fn remove(catalog: &mut [u8], cache: &mut [u8], d: usize) -> Result<(), Refused> {

@@ -1,4 +1,4 @@
-//! Molecules and motifs: letters, mates, crossing arcs, and the rows 1 to 7 of the table of refusals.
+//! Molecules and motifs: letters, mates, crossing arcs, the fold, and the rows 1 to 7 of the table of refusals.
 
 /// A refusal: number, side, place.
 #[derive(Clone, Copy, PartialEq, Eq, Debug)]
@@ -7,6 +7,13 @@ pub struct Refused(pub u32, pub u32, pub usize);
 pub const MOTIF: u32 = 0;
 pub const MOLECULE: u32 = 1;
 pub const NEITHER: u32 = 2;
+
+/// The number of arcs, and the largest number of arcs of which each lies inside the one before.
+#[derive(Clone, Copy, PartialEq, Eq, Debug)]
+pub struct Fold {
+    pub arcs: usize,
+    pub depth: usize,
+}
 
 /// A borrowed molecule or motif.
 #[derive(Clone, Copy, PartialEq, Eq)]
@@ -72,6 +79,11 @@ pub fn judge_all(s: Strand, side: u32, most: usize) -> Vec<Refused> {
     (1..).zip(ROWS).filter_map(|(number, row)| row(s, most).map(|place| Refused(number, side, place))).collect()
 }
 
+/// The arcs, left ends rising. Mates that are not mutual are taken as no arc.
+fn arcs(mates: &[u16]) -> Vec<(usize, usize)> {
+    (0..mates.len()).map(|i| (i, mates[i] as usize)).filter(|&(i, j)| i < j && mates.get(j).is_some_and(|&k| k as usize == i)).collect()
+}
+
 /// The lowest i with a < i < b < j for arcs (a, b) and (i, j). The right ends of the arcs around i are on a stack, the nearest on top: until the
 /// first crossing they are nested. Mates that are not mutual are taken as no arc.
 pub fn lowest_crossing(mates: &[u16]) -> Option<usize> {
@@ -93,7 +105,32 @@ pub fn lowest_crossing(mates: &[u16]) -> Option<usize> {
 
 /// The same by comparing all pairs of arcs.
 pub fn lowest_crossing_by_pairs(mates: &[u16]) -> Option<usize> {
-    let arcs: Vec<(usize, usize)> =
-        (0..mates.len()).map(|i| (i, mates[i] as usize)).filter(|&(i, j)| i < j && mates.get(j).is_some_and(|&k| k as usize == i)).collect();
+    let arcs = arcs(mates);
     arcs.iter().filter(|&&(i, j)| arcs.iter().any(|&(a, b)| a < i && i < b && b < j)).map(|&(i, _)| i).min()
+}
+
+/// The arc x lies inside the arc y.
+fn inside(x: (usize, usize), y: (usize, usize)) -> bool {
+    y.0 < x.0 && x.1 < y.1
+}
+
+/// The fold by all pairs of arcs: the longest chain that ends with an arc has one arc more than the longest that ends with an arc around it, and the arcs
+/// around it begin before it.
+pub fn fold_of(mates: &[u16]) -> Fold {
+    let arcs = arcs(mates);
+    let mut longest: Vec<usize> = Vec::with_capacity(arcs.len());
+    for &arc in &arcs {
+        let around = arcs.iter().zip(&longest).filter(|(other, _)| inside(arc, **other)).map(|(_, &length)| length);
+        longest.push(1 + around.max().unwrap_or(0));
+    }
+    Fold { arcs: arcs.len(), depth: longest.into_iter().max().unwrap_or(0) }
+}
+
+/// The depth by trying every list of arcs of which each lies inside the one before.
+pub fn depth_by_trying(mates: &[u16]) -> usize {
+    fn longest(arcs: &[(usize, usize)], last: Option<(usize, usize)>) -> usize {
+        let next = arcs.iter().filter(|&&arc| last.is_none_or(|last| inside(arc, last)));
+        next.map(|&arc| 1 + longest(arcs, Some(arc))).max().unwrap_or(0)
+    }
+    longest(&arcs(mates), None)
 }

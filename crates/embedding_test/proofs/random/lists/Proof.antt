@@ -13,6 +13,9 @@ Inv-loop count seed p pm q qm places₀ sum₀ code₀ places sum code = (code �
 abbrev μ-loop : tie.MeasureT-loop
 μ-loop count seed p pm q qm places₀ sum₀ code₀ places sum code = count - code
 
+none-requires : tie.Need-none-requires Inv-loop μ-loop
+none-requires c κs = search needs
+
 loop-holds : tie.Need-loop-holds Inv-loop μ-loop
 loop-holds c = search needs
 
@@ -41,5 +44,5 @@ returns : tie.Need-returns Inv-loop μ-loop
 returns c = search needs
 
 pub lists-spec : {M : Type 1} → statement M
-lists-spec = tie.close (tie.spec Inv-loop μ-loop loop-holds write-list-requires compared-requires added-requires add-code loop-less loop-again same-length
-    returns)
+lists-spec = tie.close (tie.spec Inv-loop μ-loop none-requires loop-holds write-list-requires compared-requires added-requires add-code loop-less loop-again
+    same-length returns)

@@ -10,6 +10,9 @@ Inv-loop count kinds sum₀ i₀ sum i = i ≤ count
 abbrev μ-loop : tie.MeasureT-loop
 μ-loop count kinds sum₀ i₀ sum i = count - i
 
+none-requires : tie.Need-none-requires Inv-loop μ-loop
+none-requires c κs = search needs
+
 loop-holds : tie.Need-loop-holds Inv-loop μ-loop
 loop-holds c = search needs
 
@@ -32,4 +35,4 @@ returns : tie.Need-returns Inv-loop μ-loop
 returns c = search needs
 
 pub pairs-spec : {M : Type 1} → statement M
-pairs-spec = tie.close (tie.spec Inv-loop μ-loop loop-holds one-pair-requires added-requires add-i loop-less loop-again returns)
+pairs-spec = tie.close (tie.spec Inv-loop μ-loop none-requires loop-holds one-pair-requires added-requires add-i loop-less loop-again returns)

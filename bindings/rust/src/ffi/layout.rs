@@ -1,0 +1,42 @@
+//! Holds the layout of [`Answer`] to that of `lakhido_answer`, which a small C program prints from the header (bindings/c/layout.c). CC names the compiler;
+//! else it is cc.
+use super::Answer;
+use std::mem::offset_of;
+use std::path::Path;
+use std::process::Command;
+
+/// The lines of the wrapper's struct for the fields of a list, which names each field once or does not compile.
+macro_rules! lines {
+    ($($field:ident)*) => {{
+        let Answer { $($field),* } = Answer { $($field: 0),* };
+        let fields = [$(format!("{}: offset {}, bytes {}", stringify!($field), offset_of!(Answer, $field), size_of_val(&$field))),*];
+        fields.into_iter().chain([format!("size {}", size_of::<Answer>())]).collect()
+    }};
+}
+
+/// What a program prints.
+fn printed(command: &mut Command) -> String {
+    let output = command.output().unwrap_or_else(|error| panic!("{command:?} does not run: {error}"));
+    assert!(output.status.success(), "{command:?} failed:\n{}", String::from_utf8_lossy(&output.stderr));
+    String::from_utf8(output.stdout).expect("text")
+}
+
+/// The lines of the header's struct.
+fn of_header() -> Vec<String> {
+    let bindings = Path::new(env!("CARGO_MANIFEST_DIR")).join("..");
+    let program = Path::new(env!("OUT_DIR")).join("layout");
+    let compiler = std::env::var("CC").unwrap_or_else(|_| "cc".to_string());
+    let mut compile = Command::new(compiler);
+    compile.args(["-std=c99", "-Wall", "-Wextra", "-I"]).arg(bindings.join("../include")).arg("-o").arg(&program).arg(bindings.join("c/layout.c"));
+    printed(&mut compile);
+    printed(&mut Command::new(program)).lines().map(str::to_string).collect()
+}
+
+#[test]
+fn answer_is_laid_out_as_in_c() {
+    let (header, wrapper): (_, Vec<String>) = (of_header(), lines!(refusal side place value searched arcs depth));
+    for (k, (c, rust)) in header.iter().zip(&wrapper).enumerate() {
+        assert_eq!(c, rust, "line {} of the layout of an answer: include/lakhido.h (left) and ffi::Answer (right) differ", k + 1);
+    }
+    assert_eq!(header.len(), wrapper.len(), "lines of bindings/c/layout.c (left) and of ffi::Answer (right)");
+}
