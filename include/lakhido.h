@@ -29,10 +29,10 @@ extern "C" {
 #endif
 
 /* The version of this file and of the library. */
-#define LAKHIDO_VERSION "0.2.0"
+#define LAKHIDO_VERSION "0.3.0"
 
-/* Lengths of strands: 1 to LAKHIDO_MOST bases for check, length, show and verify; 1 to LAKHIDO_MOLECULE_MOST for a molecule of the catalog;
- * 1 to LAKHIDO_MOTIF_MOST for the motif of a query. */
+/* Lengths of strands: 1 to LAKHIDO_MOST bases for check, length, show, window and verify; 1 to LAKHIDO_MOLECULE_MOST for a molecule of the
+ * catalog; 1 to LAKHIDO_MOTIF_MOST for the motif of a query. */
 #define LAKHIDO_MOST 4096
 #define LAKHIDO_MOLECULE_MOST 160
 #define LAKHIDO_MOTIF_MOST 120
@@ -44,8 +44,8 @@ extern "C" {
 #define LAKHIDO_BLOCKS_MOST 512
 #define LAKHIDO_SLOTS_MOST 64
 
-/* Entries of `work` for length and show, the motif having m and the molecule n bases; and for query, the motif having m bases. A longer
- * slice is fine. */
+/* Entries of `work` for length, show and window, the motif having m and the molecule n bases; and for query, the motif having m bases. A
+ * longer slice is fine. */
 #define LAKHIDO_WORK(m, n) ((size_t)64 * ((size_t)(m) + 1) + (size_t)8 * (size_t)(n))
 #define LAKHIDO_QUERY_WORK(m) LAKHIDO_WORK(m, LAKHIDO_MOLECULE_MOST)
 
@@ -76,8 +76,8 @@ enum lakhido_refusal {
 /* The side of a refusal. */
 enum lakhido_side { LAKHIDO_MOTIF = 0, LAKHIDO_MOLECULE = 1, LAKHIDO_NEITHER = 2 };
 
-/* What a call answers. Refused: refusal, side and place, and 0 in the other fields. Accepted: 0 in refusal, side and place, and in the other
- * fields what the call says; 0 where it says nothing.
+/* What a call answers, but for window. Refused: refusal, side and place, and 0 in the other fields. Accepted: 0 in refusal, side and place, and
+ * in the other fields what the call says; 0 where it says nothing.
  *
  * `arcs` and `depth` are the molecule's, never the motif's, in check, length, show, verify (where `value` is 1 and where it is 0) and add; remove
  * and query have 0 there. `arcs` is how many arcs the molecule has, `depth` how deep they lie: the largest number of arcs of which each lies
@@ -91,6 +91,20 @@ typedef struct lakhido_answer {
     size_t arcs;
     size_t depth;
 } lakhido_answer;
+
+/* What window answers. Refused: refusal, side and place, and 0 in the other fields. Accepted: 0 in refusal, side and place; `found` is 1 where a
+ * window was found, with its `start` and `length`, else 0, and then start and length are 0 too; `arcs` and `depth` are the molecule's, as in
+ * lakhido_answer, whether a window was found or not. Ask `found`, not start or length, whether there is a window. */
+typedef struct lakhido_window_answer {
+    size_t refusal;
+    size_t side;
+    size_t place;
+    size_t found;
+    size_t start;
+    size_t length;
+    size_t arcs;
+    size_t depth;
+} lakhido_window_answer;
 
 /* Accepts a nested molecule of 1 to LAKHIDO_MOST bases.
  * arcs, depth: those of the molecule.
@@ -114,6 +128,18 @@ lakhido_answer lakhido_length(const uint8_t *motif_bases, size_t motif_bases_len
 lakhido_answer lakhido_show(const uint8_t *motif_bases, size_t motif_bases_length, const uint16_t *motif_mates, size_t motif_mates_length,
                             const uint8_t *bases, size_t bases_length, const uint16_t *mates, size_t mates_length, uint16_t *places,
                             size_t places_length, uint16_t *work, size_t work_length);
+
+/* The tightest window of the molecule that carries the motif. A window is a stretch of the molecule, `length` bases from position `start`, taken
+ * as a molecule of its own: it has the arcs with both ends in it, and a base whose mate lies outside is unbonded in it. It carries the motif where
+ * the motif embeds in it.
+ * found: 1 where the motif embeds in the molecule, else 0: then no window carries it.
+ * start, length: of the windows that carry the motif the shortest, and of these the one with the least start; 0 where there is none.
+ * arcs, depth: those of the molecule, not of the window, whatever `found` is.
+ * An accepted call leaves anything in `work`.
+ * Refused by: 1 to 7 of the motif, 1 to 7 of the molecule, 8. */
+lakhido_window_answer lakhido_window(const uint8_t *motif_bases, size_t motif_bases_length, const uint16_t *motif_mates,
+                                     size_t motif_mates_length, const uint8_t *bases, size_t bases_length, const uint16_t *mates,
+                                     size_t mates_length, uint16_t *work, size_t work_length);
 
 /* value: 1 where `places` is an embedding of the whole motif in the molecule, else 0. `places` has as many entries as the motif has bases, each
  * any number: a place past the molecule's end gives 0 and is not refused.

@@ -12,7 +12,7 @@ NAMES = {'p': 'motif_bases', 'pm': 'motif_mates', 'q': 'bases', 'qm': 'mates', '
 
 # Types: in C, and in Rattle and Rust.
 TYPES = {'uint8_t': 'u8', 'uint16_t': 'u16', 'uint32_t': 'u32', 'uint64_t': 'u64', 'size_t': 'usize', 'bool': 'bool', 'void': '()',
-         'lakhido_answer': 'Answer'}
+         'lakhido_answer': 'Answer', 'lakhido_window_answer': 'WindowAnswer'}
 
 # ---- parts of declarations
 

@@ -1,9 +1,9 @@
 #!/usr/bin/env python3
-"""Document 01, and request (i) of 02, in plain Python, for the scripts beside it: strands, their refusals and folds, embeddings, blocks. It shares
-nothing with the library.
+"""Document 01, and requests (i) and (ii) of 02, in plain Python, for the scripts beside it: strands, their refusals and folds, embeddings, windows,
+blocks. It shares nothing with the library.
 
 A strand is its bases, a text with a character for each byte, and its mates, a list of numbers. `--self-test` holds the search to the
-definition of an embedding, the depth to that of 02, and blocks to the rules.
+definition of an embedding, the depth and the tightest window to those of 02, and blocks to the rules.
 """
 import collections
 import itertools
@@ -130,45 +130,62 @@ def matches(letter, base):
     return letter == base
 
 
-def longest(p, pm, q, qm):
-    """The longest closed prefix of the motif p that embeds in the molecule q. For a stretch of q, ends[j] is the end of the longest closed stretch
-    of p that begins at j and embeds there; stretches of q side by side are joined by looking one up in the other."""
-    m = len(p)
-    fits = {c: [matches(letter, c) for letter in p] for c in LETTERS}
-    free = {c: [j for j in range(m) if pm[j] == j and fits[c][j]] for c in LETTERS}
-    arcs = [(j, e) for j, e in enumerate(pm) if e > j]
+class Rows:
+    """The rows of a motif p for the arcs and the unbonded bases of a molecule q. In the row of a stretch of q, entry j is the end of the longest closed
+    stretch of p that begins at j and embeds there; stretches of q side by side are joined by looking one up in the other."""
 
-    def of_base(base):
-        """The ends for one unbonded base."""
-        ends = list(range(m + 1))
-        for j in free[base]:
-            ends[j] = j + 1
-        return ends
-    steps = {c: of_base(c) for c in LETTERS}
-
-    def around(inside, left, right):
-        """The ends for an arc, from those for what lies inside it."""
-        ends = [steps[right][k] for k in inside]
-        for j in free[left]:
-            ends[j] = max(ends[j], inside[j + 1])
-        for j, e in arcs:
-            if fits[left][j] and fits[right][e] and inside[j + 1] >= e:
-                ends[j] = max(ends[j], e + 1)
-        return ends
-
-    begun = []  # of the stretches that are open: what they have so far
-    ends = list(range(m + 1))
-    for i, base in enumerate(q):
-        if qm[i] > i:
-            begun.append(ends)
-            ends = list(range(m + 1))
-        else:
-            step = steps[base]
+    def __init__(self, p, pm, q, qm):
+        self.motif, self.bases, self.mates = len(p), q, qm
+        self.fits = {c: [matches(letter, c) for letter in p] for c in LETTERS}
+        self.free = {c: [j for j in range(len(p)) if pm[j] == j and self.fits[c][j]] for c in LETTERS}
+        self.arcs = arcs(pm)
+        self.of_base = {c: self.base(c) for c in LETTERS}
+        self.of_arc = {}  # by the left end
+        begun = []  # of the arcs that are open: the row of what lies in them so far
+        for i, base in enumerate(q):
+            if qm[i] > i:
+                begun.append(self.nothing())
+                continue
+            row = self.of_base[base]
             if qm[i] < i:
-                step = around(ends, q[qm[i]], base)
-                ends = begun.pop()
-            ends = [step[k] for k in ends]
-    return ends[0]
+                row = self.of_arc[qm[i]] = self.around(begun.pop(), q[qm[i]], base)
+            if begun:
+                begun[-1] = [row[k] for k in begun[-1]]
+
+    def nothing(self):
+        """The row of no bases."""
+        return list(range(self.motif + 1))
+
+    def base(self, base):
+        """The row of an unbonded base."""
+        row = self.nothing()
+        for j in self.free[base]:
+            row[j] = j + 1
+        return row
+
+    def around(self, inside, left, right):
+        """The row of an arc, from that of what lies inside it."""
+        row = [self.of_base[right][k] for k in inside]
+        for j in self.free[left]:
+            row[j] = max(row[j], inside[j + 1])
+        for j, e in self.arcs:
+            if self.fits[left][j] and self.fits[right][e] and inside[j + 1] >= e:
+                row[j] = max(row[j], e + 1)
+        return row
+
+    def longest(self, start, end):
+        """The longest closed prefix of p that embeds in the bases of q from start to end. They have the arcs with both ends among them."""
+        k, i = 0, start
+        while i < end:
+            whole = i < self.mates[i] < end
+            row = self.of_arc[i] if whole else self.of_base[self.bases[i]]
+            k, i = row[k], self.mates[i] + 1 if whole else i + 1
+        return k
+
+
+def longest(p, pm, q, qm):
+    """The longest closed prefix of the motif p that embeds in the molecule q."""
+    return Rows(p, pm, q, qm).longest(0, len(q))
 
 
 def embeds(p, pm, q, qm):
@@ -201,6 +218,48 @@ SETTLED = (
     ('AGC', [0, 2, 1], 'AG', [0, 1], 1),
     ('AGC', [0, 2, 1], 'AGAC', [0, 3, 2, 1], 3),
     ('GGCC', [3, 2, 1, 0], 'GGCC', [0, 2, 1, 3], 0),
+)
+
+# ---- windows
+
+def cut(q, qm, start, length):
+    """A window of q as a molecule of its own. It has the arcs with both ends in it."""
+    end = start + length
+    return q[start:end], [qm[i] - start if start <= qm[i] < end else i - start for i in range(start, end)]
+
+
+def window_by_definition(p, pm, q, qm):
+    """02, (ii): start and length of a window of q that carries an embedding of p, such that no shorter one does and none of that length that starts
+    earlier; None where p does not embed in q."""
+    windows = ((start, length) for length in range(len(q) + 1) for start in range(len(q) + 1 - length))
+    return next(((start, length) for start, length in windows if embeds(p, pm, *cut(q, qm, start, length))), None)
+
+
+def window(p, pm, q, qm):
+    """The same, for molecules of any length: for each start the least end of a window that carries p. The ends do not fall as the starts rise, since a
+    window carries what any window in it carries; and where all of q does not carry p, no window does."""
+    rows, end, best = Rows(p, pm, q, qm), 0, None
+    if rows.longest(0, len(q)) < len(p):
+        return None
+    for start in range(len(q) + 1):
+        end = max(end, start)
+        while rows.longest(start, end) < len(p):
+            if end == len(q):
+                return best
+            end += 1
+        if best is None or end - start < best[1]:
+            best = start, end - start
+    return best
+
+
+# Motif, molecule, and start and length of the tightest window or None: the first of two as long; the two bases are an arc; the window cuts an arc; a
+# shorter one comes later; all of the molecule.
+WINDOWS = (
+    ('GC', [0, 1], 'GCAGC', [0, 1, 2, 3, 4], (0, 2)),
+    ('GC', [0, 1], 'GAC', [2, 1, 0], None),
+    ('GA', [0, 1], 'GAC', [2, 1, 0], (0, 2)),
+    ('GC', [1, 0], 'GAACGC', [3, 1, 2, 0, 5, 4], (4, 2)),
+    ('GC', [1, 0], 'GAC', [2, 1, 0], (0, 3)),
 )
 
 # ---- blocks
@@ -320,6 +379,21 @@ def few_letters(strand):
     return strand[0].replace('G', 'A').replace('U', 'C'), strand[1]
 
 
+def self_test_of_windows(rng):
+    for p, pm, q, qm, told in WINDOWS:
+        assert window(p, pm, q, qm) == told == window_by_definition(p, pm, q, qm), (p, pm, q, qm)
+    found = collections.Counter()
+    for i in range(4000):
+        p, q = (random_strand(rng, n) for n in (5, 14))
+        if i % 2:
+            p, q = few_letters(p), few_letters(q)
+        told = window(*p, *q)
+        assert told == window_by_definition(*p, *q), (p, q)
+        assert (told is None) == (not embeds(*p, *q)), (p, q)
+        found[told is not None] += 1
+    assert min(found.values()) > 800, found
+
+
 def self_test():
     for p, pm, q, qm, told in SETTLED:
         assert longest(p, pm, q, qm) == told == longest_by_definition(p, pm, q, qm), (p, pm, q, qm)
@@ -330,6 +404,7 @@ def self_test():
         assert told == longest_by_definition(*p, *q), (p, q)
         lengths[told == len(p[0])] += 1
     assert min(lengths.values()) > 800, lengths
+    self_test_of_windows(rng)
     for bases, mates, row, place in REFUSED:
         assert strand_refusal(bases, mates) == (row, place) and (row < 5 or not nested(mates))
     for bases, mates, *told in FOLDED:

@@ -1,76 +1,16 @@
 """For tests alone: the lines that matcher_test reads, and what it must write. `tools/verify-cases` writes the files.
 
-What a line has is said in crates/matcher_test/src/main.rt. Lengths, refusals and folds are those of `lakhido_model`. Strands by rule are made as
-in matcher_test (`strands`).
+What a line has is said in crates/matcher_test/src/main.rt. Lengths, refusals and folds are those of `lakhido_model`.
 """
-import collections
 import functools
 import itertools
 
 import lakhido_model
-from lakhido_model import FOLDED, LETTERS, LONGEST, SETTLED, strand_refusal, work_size
+from lakhido_model import FOLDED, LONGEST, SETTLED, strand_refusal, work_size
+from testing_crate import SHAPES, WORK_ROOM, Cases, by_rule, written, written_as
 
-WIDTH = 112
-NAME = 46
-
-
-# Strands by rule.
-
-def number(seed, i):
-    x = (seed % 65536 * 65536 + i % 65536 + 1) * 2654435761 % 4294967296
-    y = (x ^ x // 65536) * 2246822519 % 4294967296
-    return y ^ y // 8192
-
-
-def reach(shape, seed, start, size):
-    if shape == 0 or size < 2:
-        return 0
-    if shape == 1:
-        return size - 1
-    if shape == 2:
-        return size - 1 if start == 0 else 0 if size < 3 else 2
-    if shape == 3:
-        return size // 2
-    x = number(seed, start + number(size, shape) % 65536)
-    if x % 3 == 0:
-        return 0
-    if shape == 5 and x // 3 % 4 != 0:
-        return size - 1
-    return x // 12 % size
-
-
-def fold(shape, seed, n):
-    mates, todo = [0] * n, [(0, n)]
-    while todo:
-        start, end = todo.pop()
-        if start < end:
-            e = start + reach(shape, seed, start, end - start)
-            mates[start], mates[e] = e, start
-            todo += [(start + 1, e), (e + 1, end)]
-    return mates
-
-
-class Strand:
-    """Bases, mates, and the field of a line that gives them."""
-
-    def __init__(self, bases, mates, field):
-        self.bases, self.mates, self.field = bases, mates, field
-
-
-def written(bases, mates):
-    """A strand of at most ten bases; a mate is a digit, and a letter means 65535."""
-    values = [int(c) if c.isdigit() else 65535 for c in mates]
-    return Strand(bases, values, '%-10s %-10s' % (bases, mates))
-
-
-def written_as(bases, mates):
-    return written(bases, ''.join(map(str, mates)))
-
-
-def by_rule(shape, n, seed, letters, mates=None):
-    count = n if mates is None else mates
-    bases = ''.join((LETTERS + 'X')[number(seed, i) % letters] for i in range(n))
-    return Strand(bases, fold(shape, seed, count), '%d %6d %6d %6d %d' % (shape, n, count, seed, letters))
+CASES = Cases('matcher_test', ('calls', 'refused', 'whole motif', 'no prefix', 'arcs', 'depths'))
+COUNTS, put, group = CASES.counts, CASES.put, CASES.group
 
 
 # What is wanted.
@@ -109,7 +49,6 @@ def fold_of(s):
 
 # The lines.
 
-SHAPES = ('no arcs', 'stem', 'comb', 'balanced', 'fold', 'stems')
 BAD = {
     1: written('AC', '0'),
     2: written('', ''),
@@ -129,12 +68,6 @@ BOTH = {
     '5 and 6': written('ACG', '113'),
     '6 and 7': written('ACGUAC', '230155'),
 }
-LINES, TOLD, COUNTS = [], [], collections.Counter()
-
-
-def put(text):
-    assert len(text) < WIDTH, text
-    LINES.append('%-*s\n' % (WIDTH - 1, text))
 
 
 def line(calls, p, q, places, work, row, side, n, name):
@@ -146,8 +79,8 @@ def count(calls, p, q, row, n):
     """Calls that are refused by a row, or for row 0 answer the length n and the fold of q."""
     COUNTS['calls'] += calls
     COUNTS['refused'] += calls * (row > 0)
-    COUNTS['whole'] += calls * (row == 0 and n == len(p.bases))
-    COUNTS['empty'] += calls * (row == 0 and n == 0)
+    COUNTS['whole motif'] += calls * (row == 0 and n == len(p.bases))
+    COUNTS['no prefix'] += calls * (row == 0 and n == 0)
     if row == 0:
         arcs, depth = fold_of(q)
         COUNTS['arcs'] += calls * arcs
@@ -180,14 +113,6 @@ def exact(p, q, name):
     case(p, q, len(p.bases), room(p, q), name)
 
 
-def group(name):
-    assert len(name) <= NAME, name
-    put('= ' + name)
-    TOLD.append('%-*s: calls %d, refused %d, whole motif %d, no prefix %d, arcs %d, depths %d, wrong 0\n'
-                % (NAME, name, *(COUNTS[k] for k in ('calls', 'refused', 'whole', 'empty', 'arcs', 'depths'))))
-    COUNTS.clear()
-
-
 def settled():
     for row, (p, pm, q, qm, length) in enumerate(SETTLED, 1):
         motif, molecule = written_as(p, pm), written_as(q, qm)
@@ -210,7 +135,7 @@ def folds():
 def refusals():
     good = written('GC', '10')
     # No room at all, so that rows 9 and 8 apply too, and more than enough, so that there are entries to compare.
-    for places, work, name in ((0, 0, 'no room'), (LONGEST + 4, 294980, 'ample room')):
+    for places, work, name in ((0, 0, 'no room'), (LONGEST + 4, WORK_ROOM, 'ample room')):
         for i in BAD:
             case(BAD[i], good, places, work, 'motif %d' % i)
             case(good, BAD[i], places, work, 'molecule %d' % i)
@@ -275,4 +200,4 @@ def long_pairs():
 def files():
     for part in (settled, folds, refusals, rooms, random_pairs, long_pairs):
         part()
-    return {'crates/matcher_test/stdin': ''.join(LINES), 'crates/matcher_test/stdout': ''.join(TOLD)}
+    return CASES.files()

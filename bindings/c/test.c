@@ -1,4 +1,5 @@
-/* Calls each function of the library on document 01's small examples and some of the arcs and depth of a molecule, and prints ok. */
+/* Calls each function of the library on document 01's small examples, some of the arcs and depth of a molecule and some of the tightest window, and prints
+ * ok. */
 #include "lakhido.h"
 
 #include <stdio.h>
@@ -24,6 +25,18 @@ static void is(int line, lakhido_answer a, lakhido_answer expected) {
            a.arcs, a.depth);
 }
 
+static int equal_windows(lakhido_window_answer a, lakhido_window_answer b) {
+    return a.refusal == b.refusal && a.side == b.side && a.place == b.place && a.found == b.found && a.start == b.start && a.length == b.length &&
+           a.arcs == b.arcs && a.depth == b.depth;
+}
+
+static void is_window(int line, lakhido_window_answer a, lakhido_window_answer expected) {
+    if (equal_windows(a, expected)) return;
+    failed = 1;
+    printf("line %d: refusal %zu side %zu place %zu found %zu start %zu length %zu arcs %zu depth %zu\n", line, a.refusal, a.side, a.place, a.found, a.start,
+           a.length, a.arcs, a.depth);
+}
+
 static void holds(int line, int fact) {
     if (fact) return;
     failed = 1;
@@ -35,6 +48,11 @@ static void holds(int line, int fact) {
 #define FOLDED(call, v, a, d) is(__LINE__, call, (lakhido_answer){.refusal = LAKHIDO_ACCEPTED, .value = v, .arcs = a, .depth = d})
 #define REFUSED(call, number, s, p) is(__LINE__, call, (lakhido_answer){.refusal = number, .side = s, .place = p})
 #define HOLDS(fact) holds(__LINE__, fact)
+
+/* A window found, none found, both with the molecule's arcs and depth; a refused call. Every other field is 0. */
+#define FOUND(call, s, l, a, d) is_window(__LINE__, call, (lakhido_window_answer){.found = 1, .start = s, .length = l, .arcs = a, .depth = d})
+#define NOWHERE(call, a, d) is_window(__LINE__, call, (lakhido_window_answer){.found = 0, .arcs = a, .depth = d})
+#define NO_WINDOW(call, number, s, p) is_window(__LINE__, call, (lakhido_window_answer){.refusal = number, .side = s, .place = p})
 
 #define WORK(m, n) work, LAKHIDO_WORK(m, n)
 #define CATALOG catalog, sizeof catalog
@@ -71,6 +89,27 @@ static void direct_calls(void) {
     FOLDED(lakhido_verify(BASES("GC"), MATES(1, 0), BASES("GAC"), MATES(2, 1, 0), MATES(0, 2)), 1, 1, 1);
     FOLDED(lakhido_verify(BASES("GC"), MATES(1, 0), BASES("GAC"), MATES(2, 1, 0), MATES(0, 3)), 0, 1, 1);
     REFUSED(lakhido_verify(BASES("GC"), MATES(1, 0), BASES("GAC"), MATES(2, 1, 0), MATES(0)), LAKHIDO_WRONG_SLICE, LAKHIDO_NEITHER, 0);
+}
+
+/* Of two windows of one length the first; a later one that is shorter; an end and a start inside an arc, whose one end in the window is then unbonded. */
+static void windows(void) {
+    FOUND(lakhido_window(BASES("GC"), MATES(1, 0), BASES("GAC"), MATES(2, 1, 0), WORK(2, 3)), 0, 3, 1, 1);
+    FOUND(lakhido_window(BASES("GC"), MATES(1, 0), BASES("GACGAC"), MATES(2, 1, 0, 5, 4, 3), WORK(2, 6)), 0, 3, 2, 1);
+    FOUND(lakhido_window(BASES("GC"), MATES(1, 0), BASES("GAACGAC"), MATES(3, 1, 2, 0, 6, 5, 4), WORK(2, 7)), 4, 3, 2, 1);
+    FOUND(lakhido_window(BASES("GC"), MATES(1, 0), THREE_ARCS, WORK(2, 6)), 1, 2, 3, 2);
+    FOUND(lakhido_window(BASES("GC"), MATES(0, 1), BASES("GCC"), MATES(2, 1, 0), WORK(2, 3)), 0, 2, 1, 1);
+    FOUND(lakhido_window(BASES("GC"), MATES(0, 1), BASES("GGC"), MATES(2, 1, 0), WORK(2, 3)), 1, 2, 1, 1);
+    FOUND(lakhido_window(BASES("GGC"), MATES(0, 1, 2), THREE_ARCS, WORK(3, 6)), 0, 5, 3, 2);
+    FOUND(lakhido_window(BASES("A"), MATES(0), BASES("A"), MATES(0), work, 136), 0, 1, 0, 0);
+    NOWHERE(lakhido_window(BASES("GC"), MATES(0, 1), BASES("GAC"), MATES(2, 1, 0), WORK(2, 3)), 1, 1);
+    NOWHERE(lakhido_window(BASES("GC"), MATES(1, 0), BASES("GC"), MATES(0, 1), WORK(2, 2)), 0, 0);
+    NOWHERE(lakhido_window(BASES("CG"), MATES(1, 0), THREE_ARCS, WORK(2, 6)), 3, 2);
+
+    work[0] = 4711;
+    NO_WINDOW(lakhido_window(BASES("A"), MATES(0), BASES("A"), MATES(0), work, 135), LAKHIDO_WORK_TOO_SHORT, LAKHIDO_NEITHER, 0);
+    NO_WINDOW(lakhido_window(BASES("AX"), MATES(0, 1), NONE, NONE, WORK(2, 1)), LAKHIDO_BAD_LETTER, LAKHIDO_MOTIF, 1);
+    NO_WINDOW(lakhido_window(BASES("A"), MATES(0), BASES("ACGU"), MATES(2, 3, 0, 1), NONE), LAKHIDO_ARCS_CROSS, LAKHIDO_MOLECULE, 1);
+    HOLDS(work[0] == 4711);
 }
 
 /* Three arcs have depth 2 here; the motifs have one arc, or none. */
@@ -116,6 +155,7 @@ static void refused_buffers(void) {
 int main(void) {
     strands();
     direct_calls();
+    windows();
     arcs_and_depth_of_the_molecule_not_of_the_motif();
     story();
     refused_buffers();

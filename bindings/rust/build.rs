@@ -38,7 +38,7 @@ fn compile_peers(sources: &Path) {
     println!("cargo::rerun-if-env-changed=CC");
     println!("cargo::rerun-if-changed={}", sources.join("peer.h").display());
     let mut objects = Vec::new();
-    for name in ["rows", "windows", "show", "sound", "query"] {
+    for name in ["rows", "segments", "window", "show", "sound", "query"] {
         let (source, object) = (sources.join(name).with_extension("c"), out.join(name).with_extension("o"));
         println!("cargo::rerun-if-changed={}", source.display());
         run(Command::new(&compiler).args(["-std=gnu99", "-Wall", "-Wextra", "-O3", "-march=x86-64", "-c", "-o"]).arg(&object).arg(&source));

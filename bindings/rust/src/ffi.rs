@@ -8,7 +8,7 @@
 //!
 //! That the library does what the header says is proved in the repository. `tools/verify-interface` holds the declarations here to the Rattle source,
 //! and the functions below, whose parameters have its names, to the order of its parameters; it is no proof. The tests make all calls, and hold the layout
-//! of [`Answer`] to that of C.
+//! of [`Answer`] and [`WindowAnswer`] to that of C.
 
 /// `lakhido_answer`: refusal 0 means accepted.
 #[repr(C)]
@@ -23,8 +23,22 @@ pub struct Answer {
     pub depth: usize,
 }
 
+/// `lakhido_window_answer`: refusal 0 means accepted, and then `found` 0 that there is no window.
+#[repr(C)]
+#[derive(Clone, Copy)]
+pub struct WindowAnswer {
+    pub refusal: usize,
+    pub side: usize,
+    pub place: usize,
+    pub found: usize,
+    pub start: usize,
+    pub length: usize,
+    pub arcs: usize,
+    pub depth: usize,
+}
+
 mod c {
-    use super::Answer;
+    use super::{Answer, WindowAnswer};
 
     unsafe extern "C" {
         pub fn lakhido_check(bases: *const u8, bases_length: usize, mates: *const u16, mates_length: usize) -> Answer;
@@ -54,6 +68,18 @@ mod c {
             work: *mut u16,
             work_length: usize,
         ) -> Answer;
+        pub fn lakhido_window(
+            motif_bases: *const u8,
+            motif_bases_length: usize,
+            motif_mates: *const u16,
+            motif_mates_length: usize,
+            bases: *const u8,
+            bases_length: usize,
+            mates: *const u16,
+            mates_length: usize,
+            work: *mut u16,
+            work_length: usize,
+        ) -> WindowAnswer;
         pub fn lakhido_verify(
             motif_bases: *const u8,
             motif_bases_length: usize,
@@ -124,6 +150,13 @@ pub fn show(p: &[u8], pm: &[u16], q: &[u8], qm: &[u16], places: &mut [u16], work
             work.as_mut_ptr(),
             work.len(),
         )
+    }
+}
+
+pub fn window(p: &[u8], pm: &[u16], q: &[u8], qm: &[u16], work: &mut [u16]) -> WindowAnswer {
+    // SAFETY: `work` alone is written, within its length, and as a `&mut` slice it overlaps none of the others.
+    unsafe {
+        c::lakhido_window(p.as_ptr(), p.len(), pm.as_ptr(), pm.len(), q.as_ptr(), q.len(), qm.as_ptr(), qm.len(), work.as_mut_ptr(), work.len())
     }
 }
 

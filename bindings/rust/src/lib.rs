@@ -9,7 +9,7 @@
 //! all memory is lent.
 //!
 //! ```
-//! use lakhido::{BLOCK, Reason, Side, Strand};
+//! use lakhido::{BLOCK, Reason, Side, Strand, Window};
 //!
 //! # fn main() -> Result<(), lakhido::Refusal> {
 //! // The hairpin GAC, its G and C bonded; the motif is a G and a C with a bond.
@@ -26,6 +26,11 @@
 //! assert_eq!(lakhido::show(motif, hairpin, &mut places, &mut work)?.length, 2);
 //! assert_eq!(places, [0, 2]);
 //! assert!(lakhido::verify(motif, hairpin, &places)?.embeds);
+//!
+//! // The shortest piece of a longer molecule that still carries the motif: 3 bases from position 4.
+//! let longer = Strand::new(b"GAACGUCA", &[3, 1, 2, 0, 6, 5, 4, 7]);
+//! let mut work = vec![0; lakhido::work_size(2, 8)];
+//! assert_eq!(lakhido::window(motif, longer, &mut work)?.window, Some(Window { start: 4, length: 3 }));
 //!
 //! // A catalog of two blocks and a cache of one; both begin as zeros.
 //! let mut catalog = vec![0; 2 * BLOCK];
@@ -60,7 +65,7 @@ mod refusal;
 use ffi::Answer;
 pub use refusal::{Reason, Refusal, Side};
 
-/// The most bases of a strand for [`check`], [`length`], [`show`] and [`verify`].
+/// The most bases of a strand for [`check`], [`length`], [`show`], [`window`] and [`verify`].
 pub const MOST: usize = 4096;
 /// The most bases of a molecule in the catalog.
 pub const MOLECULE_MOST: usize = 160;
@@ -75,7 +80,7 @@ pub const SLOTS_MOST: usize = 64;
 /// Bytes of stack that are enough for any call (measured by a test, not proved).
 pub const STACK: usize = 1048576;
 
-/// The least work slice for [`length`] and [`show`]: a motif of m bases, a molecule of n.
+/// The least work slice for [`length`], [`show`] and [`window`]: a motif of m bases, a molecule of n.
 pub const fn work_size(m: usize, n: usize) -> usize {
     64 * (m + 1) + 8 * n
 }
@@ -101,7 +106,8 @@ impl<'a> Strand<'a> {
     }
 }
 
-/// The fold of a molecule, as [`check`] and [`add`] answer it; [`length`], [`show`] and [`verify`] hand on that of their molecule, never that of the motif.
+/// The fold of a molecule, as [`check`] and [`add`] answer it; [`length`], [`show`], [`window`] and [`verify`] hand on that of their molecule, never that of
+/// the motif.
 #[derive(Clone, Copy, PartialEq, Eq, Debug)]
 pub struct Fold {
     /// How many arcs the molecule has.
@@ -117,6 +123,25 @@ pub struct Matched {
     /// The length of the longest closed prefix of the motif that embeds in the molecule.
     pub length: usize,
     /// The fold of the molecule.
+    pub fold: Fold,
+}
+
+/// A window of a molecule: a stretch of its bases, taken as a molecule of its own. It has the arcs with both ends in it; a base whose mate lies outside is
+/// unbonded in it.
+#[derive(Clone, Copy, PartialEq, Eq, Debug)]
+pub struct Window {
+    /// The position of its first base in the molecule.
+    pub start: usize,
+    /// How many bases it has.
+    pub length: usize,
+}
+
+/// What [`window`] found.
+#[derive(Clone, Copy, PartialEq, Eq, Debug)]
+pub struct Windowed {
+    /// The tightest window that carries the motif; none exactly when the motif does not embed in the molecule.
+    pub window: Option<Window>,
+    /// The fold of the molecule, not of the window, whether there is a window or not.
     pub fold: Fold,
 }
 
@@ -171,6 +196,34 @@ pub fn length(motif: Strand, molecule: Strand, work: &mut [u16]) -> Result<Match
 /// Refused by the reasons 1 to 7 of the motif, 1 to 7 of the molecule, 9, 8.
 pub fn show(motif: Strand, molecule: Strand, places: &mut [u16], work: &mut [u16]) -> Result<Matched, Refusal> {
     matched(ffi::show(motif.bases, motif.mates, molecule.bases, molecule.mates, places, work))
+}
+
+/// The tightest window of the molecule that carries the motif, which means that the motif embeds in it: of these windows the shortest, and of the shortest
+/// the one with the least start. None exactly when the motif does not embed in the molecule. With it the fold of the molecule. `work` is as for [`length`].
+///
+/// Refused by the reasons 1 to 7 of the motif, 1 to 7 of the molecule, 8.
+///
+/// ```
+/// use lakhido::{Strand, Window};
+///
+/// # fn main() -> Result<(), lakhido::Refusal> {
+/// // Of the two hairpins the second is shorter. The window lies inside the outer arc and has neither of its ends.
+/// let molecule = Strand::new(b"AGAACGACU", &[8, 4, 2, 3, 1, 7, 6, 5, 0]);
+/// let mut work = vec![0; lakhido::work_size(2, 9)];
+/// let bonded = lakhido::window(Strand::new(b"GC", &[1, 0]), molecule, &mut work)?;
+/// assert_eq!(bonded.window, Some(Window { start: 5, length: 3 }));
+/// assert_eq!((bonded.fold.arcs, bonded.fold.depth), (3, 2));
+///
+/// // C and U with a bond are nowhere in it; without one they are, though the U is bonded to a base outside of the window.
+/// assert_eq!(lakhido::window(Strand::new(b"CU", &[1, 0]), molecule, &mut work)?.window, None);
+/// assert_eq!(lakhido::window(Strand::new(b"CU", &[0, 1]), molecule, &mut work)?.window, Some(Window { start: 7, length: 2 }));
+/// # Ok(())
+/// # }
+/// ```
+pub fn window(motif: Strand, molecule: Strand, work: &mut [u16]) -> Result<Windowed, Refusal> {
+    let answer = refusal::accepted_window(ffi::window(motif.bases, motif.mates, molecule.bases, molecule.mates, work))?;
+    let window = (answer.found != 0).then_some(Window { start: answer.start, length: answer.length });
+    Ok(Windowed { window, fold: Fold { arcs: answer.arcs, depth: answer.depth } })
 }
 
 /// Whether `places` is an embedding of the whole motif in the molecule, and with it the fold of the molecule. `places` has as many entries as the motif has

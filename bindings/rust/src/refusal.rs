@@ -1,5 +1,5 @@
 //! Refusals: the table's rows as an enum, with side and place.
-use crate::ffi::Answer;
+use crate::ffi::{Answer, WindowAnswer};
 use std::fmt;
 
 /// Why a call was refused: a row of the table of refusals. Its number is [`Reason::number`].
@@ -128,15 +128,25 @@ impl fmt::Display for Refusal {
 
 impl std::error::Error for Refusal {}
 
+/// The refusal of this number, side and place, where the number is not 0.
+fn judged(number: usize, side: usize, place: usize) -> Result<(), Refusal> {
+    if number == 0 {
+        return Ok(());
+    }
+    let known_reason = Reason::ALL.into_iter().find(|reason| reason.number() as usize == number);
+    let known_side = [Side::Motif, Side::Molecule, Side::Neither].into_iter().find(|known| known.number() as usize == side);
+    let (Some(reason), Some(side)) = (known_reason, known_side) else {
+        panic!("lakhido: the archive gave refusal {number} with side {side}, which the wrapper does not know")
+    };
+    Err(Refusal { reason, side, place })
+}
+
 /// The answer of a call: refused, or accepted with its values.
 pub(crate) fn accepted(answer: Answer) -> Result<Answer, Refusal> {
-    if answer.refusal == 0 {
-        return Ok(answer);
-    }
-    let reason = Reason::ALL.into_iter().find(|reason| reason.number() as usize == answer.refusal);
-    let side = [Side::Motif, Side::Molecule, Side::Neither].into_iter().find(|side| side.number() as usize == answer.side);
-    let (Some(reason), Some(side)) = (reason, side) else {
-        panic!("lakhido: the archive gave refusal {} with side {}, which the wrapper does not know", answer.refusal, answer.side)
-    };
-    Err(Refusal { reason, side, place: answer.place })
+    judged(answer.refusal, answer.side, answer.place).map(|()| answer)
+}
+
+/// The same of window.
+pub(crate) fn accepted_window(answer: WindowAnswer) -> Result<WindowAnswer, Refusal> {
+    judged(answer.refusal, answer.side, answer.place).map(|()| answer)
 }

@@ -186,7 +186,7 @@ starts-written {p} T room W =
       all = λ i l. W .done (5 * (length p + 1) + i) (omega arith) (omega arith);
     }
 
--- Such bounds serve every window and every stretch.
+-- Such bounds serve every segment and every stretch.
 pub starts-bounded : {p pm q tables : List ℕ} {from to : ℕ} → AllStarts p pm (length q) tables → from ≤ to → to ≤ length p
     → (lo hi : ℕ) → lo ≤ hi → hi ≤ length q → Bounded p q tables from to lo hi
 starts-bounded T a b lo hi c d =
@@ -199,7 +199,7 @@ starts-bounded T a b lo hi c d =
       };
     }
 
--- A row under such bounds has every start of its window.
+-- A row under such bounds has every start of its segment.
 pub starts-row : {p pm q qm tables : List ℕ} {from to lo hi : ℕ} {work : List ℕ} → AllStarts p pm (length q) tables → to ≤ length p → lo ≤ length q
     → RowOf p pm q qm tables from to lo hi work → IsRow (lettersFit p q) (nth pm) (nth qm) from to to lo hi (nth work)
 starts-row {p} {pm} {q} {qm} {tables} {from} {to} {lo} T h l R =

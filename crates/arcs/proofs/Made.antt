@@ -138,7 +138,7 @@ module _ {p pm q qm tables : List ℕ} {from to : ℕ} where
       → RowOf p pm q qm tables from to l (r + 1) new
   closed-row l r {old} {new} S lr rn arc D A W =
       let A′ : RowOf p pm q qm tables from to (suc l) r old = rw (← (add-one l)) A in
-      rw (add-one r) record { is = arc-row (S .motif) (S .window .ends) (S .molecule) lr rn arc D (A′ .is) entry } where
+      rw (add-one r) record { is = arc-row (S .motif) (S .segment .ends) (S .molecule) lr rn arc D (A′ .is) entry } where
         entry : (j : ℕ) → from ≤ j → j ≤ lastAt (length p) tables to l
             → nth new j ≡ arcAt (matches p (nth q l)) (matches p (nth q r)) (nth pm) to (nth old j) (nth old (suc j)) j
         entry j x y = elim (decLt j to) [
@@ -207,7 +207,7 @@ module _ {fit : ℕ → ℕ → Bool} {f g : ℕ → ℕ} {from last to : ℕ} w
       let z : 0 + j ≡ j = omega arith in
       rw (z, back-under w xs le ys j (omega arith)) (let h = row-from F j a b in (h .0, omega (arith, h .1)))
 
--- The kept row, cut to a narrower window and written past it, is the kept row of the part.
+-- The kept row, cut to a narrower segment and written past it, is the kept row of the part.
 pub cut-kept-row : {p pm q qm : List ℕ} {lo z from to kept : ℕ} (w : ℕ) (old new : List ℕ) → lo ≤ from → to ≤ z → Closed (nth pm) from to → w ≤ length new
     → KeptRow p pm q qm lo z kept old → Written (λ k. min (nth old (k - w)) to) old new (w + from) (w + to + 1) → KeptRow p pm q qm from to kept (part w new)
 cut-kept-row {p} {pm} {q} {qm} {lo} {z} {from} {to} {kept} w old new la zb C le B W = record { row = λ h. narrow-row la zb C (B .row h) entry } where

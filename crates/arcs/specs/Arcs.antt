@@ -9,11 +9,11 @@ use Rattle.strand.specs.Strands.{Nested, isLetter}
 use Rattle.refusals.specs.Rules.{moleculeSide}
 use Rattle.embedding.specs.Embedding.{lettersFit}
 use Rattle.embedding.specs.Row.{IsRow, Bounds}
-use Rattle.rows.specs.Rows.{Window, Tables, boundAt, lastAt}
+use Rattle.rows.specs.Rows.{Segment, Tables, boundAt, lastAt}
 
--- A window of a nested motif, and a nested molecule of letters.
+-- A segment of a nested motif, and a nested molecule of letters.
 pub record Setting (p pm q qm : List ℕ) (from to : ℕ) : Type 0 where
-  pub window : Window p pm from to
+  pub segment : Segment p pm from to
   pub motif : Nested (nth pm) (length p)
   pub equal : length qm ≡ length q
   pub short : length q ≤ 4096
@@ -47,7 +47,7 @@ pub record LightRoom (w : ℕ) (qm : List ℕ) (lo hi room : ℕ) : Type 0 where
 
 -- The tables have bounds of the starts for the bases of Q[lo..hi) and for hi, and the bound at lo is no less than `from`: who begins at lo with `from` has
 -- come at base i no further than the bound there. A row of a stretch that begins at base i has entries for the starts from `from` to that bound, or to the
--- end of the window P[from..to).
+-- end of the segment P[from..to).
 pub record Bounded (p q tables : List ℕ) (from to lo hi : ℕ) : Type 0 where
   pub room : 5 * (length p + 1) + hi < length tables
   pub start : from ≤ boundAt (length p) tables lo
@@ -69,6 +69,6 @@ pub record Prepended (p pm q qm tables : List ℕ) (from to lo hi : ℕ) (old ne
   pub is : IsRow (lettersFit p q) (nth pm) (nth qm) from (lastAt (length p) tables to lo) to lo hi row
   pub entry : (j : ℕ) → from ≤ j → j ≤ lastAt (length p) tables to lo → nth new j ≡ nth old (row j)
 
--- The first row of the work slice is the row inside the arc of Q whose left end is `kept`, for every start of the window, if that is a position of Q.
+-- The first row of the work slice is the row inside the arc of Q whose left end is `kept`, for every start of the segment, if that is a position of Q.
 pub record KeptRow (p pm q qm : List ℕ) (from to kept : ℕ) (work : List ℕ) : Type 0 where
   pub row : kept < length q → IsRow (lettersFit p q) (nth pm) (nth qm) from to to (kept + 1) (nth qm kept) (nth work)

@@ -11,7 +11,7 @@ ghost use Rattle.lists.specs.Vocabulary.{nth};
 ghost use Rattle.strand.specs.Strands.{Nested, isLetter};
 ghost use Rattle.refusals.specs.Rules.{moleculeSide};
 ghost use Rattle.embedding.specs.Row.{arcAt};
-ghost use Rattle.rows.specs.Rows.{Window, Remade, Tables, matches, boundAt, lastAt};
+ghost use Rattle.rows.specs.Rows.{Segment, Remade, Tables, matches, boundAt, lastAt};
 ghost use Rattle.arcs.specs.Arcs.{Setting, Sealed, Heavy, Room, LightRoom, Bounded, RowOf, Prepended, KeptRow};
 
 // The smaller of two numbers.
@@ -65,7 +65,7 @@ fn close(
     r: usize,
     work: &mut [u16],
 )
-    requires { ⌜ Window (now p) (now pm) from to ⌝ }
+    requires { ⌜ Segment (now p) (now pm) from to ⌝ }
     requires { ⌜ Tables (now p) (now pm) (now tables) ⌝ }
     requires { ⌜ (l < r) × ((r < length (now q)) × ((length (now q) ≤ 4096) × (isLetter moleculeSide (nth (now q) r) ≡ true))) ⌝ }
     requires { ⌜ (5 * (length (now p) + 1) + l < length (now tables)) × (from ≤ boundAt (length (now p)) (now tables) l) ⌝ }

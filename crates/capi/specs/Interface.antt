@@ -9,6 +9,8 @@ use Rattle.embedding.specs.declared.Verified.{Verified}
 use Rattle.embedding.specs.declared.Verified.the-variants as verified
 use Rattle.matcher.specs.declared.Matched.{Matched}
 use Rattle.matcher.specs.declared.Matched.the-variants as matched
+use Rattle.window.specs.declared.Windowed.{Windowed}
+use Rattle.window.specs.declared.Windowed.the-variants as windowed
 use Rattle.calls.specs.declared.Added.{Added}
 use Rattle.calls.specs.declared.Added.the-variants as added
 use Rattle.calls.specs.declared.Removed.{Removed}
@@ -17,6 +19,7 @@ use Rattle.calls.specs.declared.Queried.{Queried}
 use Rattle.calls.specs.declared.Queried.the-variants as queried
 use Rattle.calls.specs.Calls.{Effect, effect, QueryEffect}
 use Rattle.capi.specs.declared.Answer.{Answer}
+use Rattle.capi.specs.declared.WindowAnswer.{WindowAnswer}
 
 -- An accepted call: refusal number 0, and what the call says.
 abbrev pub accepted : ℕ → ℕ → Fold → Answer
@@ -39,6 +42,22 @@ checkInC (checked.Refused x) = refused x
 unfoldable pub matchInC : Matched → Answer
 matchInC (matched.Prefix L f) = accepted L 0 f
 matchInC (matched.Refused x) = refused x
+
+-- An accepted window: refusal number 0, 1 or 0 for whether a window was found, its start and length, and the fold of the molecule.
+abbrev pub acceptedWindow : ℕ → ℕ → ℕ → Fold → WindowAnswer
+acceptedWindow found start size f =
+    record { refusal = 0; side = 0; place = 0; found = found; start = start; length = size; arcs = f .arcs; depth = f .depth }
+
+-- A refused window: 01's number, side and place, else zeros.
+abbrev pub refusedWindow : Refusal → WindowAnswer
+refusedWindow x =
+    record { refusal = x .number; side = x .side; place = x .place; found = 0; start = 0; length = 0; arcs = 0; depth = 0 }
+
+-- Window: 1 with start and length of the window, or zeros in these three where there is none; in both cases the fold of the molecule.
+unfoldable pub windowInC : Windowed → WindowAnswer
+windowInC (windowed.At s w f) = acceptedWindow 1 s w f
+windowInC (windowed.Nowhere f) = acceptedWindow 0 0 0 f
+windowInC (windowed.Refused x) = refusedWindow x
 
 -- Verify: 1 for yes, 0 for no, and the fold of the molecule.
 unfoldable pub verifyInC : Verified → Answer

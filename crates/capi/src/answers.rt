@@ -1,4 +1,4 @@
-// The answers of the calls as one struct of numbers.
+// The answers of the calls as structs of numbers: one for window, one for all others.
 use catalog::Added;
 use catalog::Queried;
 use catalog::Removed;
@@ -7,8 +7,10 @@ use matcher::Matched;
 use refusals::Refusal;
 use strand::Checked;
 use strand::Fold;
+use window::Windowed;
 ghost use mathlib.Core.Path.{_≡_};
-ghost use Rattle.capi.specs.Interface.{accepted, refused, noFold, checkInC, matchInC, verifyInC, addInC, removeInC, queryInC};
+ghost use Rattle.capi.specs.Interface.{accepted, refused, noFold, acceptedWindow, refusedWindow};
+ghost use Rattle.capi.specs.Interface.{checkInC, matchInC, windowInC, verifyInC, addInC, removeInC, queryInC};
 
 // An accepted call, and a refused one.
 fn accept(value: usize, searched: usize, fold: Fold) -> crate::Answer
@@ -46,7 +48,39 @@ fn refuse(x: Refusal) -> crate::Answer
     }
 }
 
-// The struct for the answer of each call: check; length and show; verify; add; remove; query.
+// An accepted window with the fold of the molecule, and a refused one.
+fn accept_window(found: usize, start: usize, length: usize, molecule: Fold) -> crate::WindowAnswer
+    ensures { λ r. ⌜ r ≡ acceptedWindow found start length molecule ⌝ }
+{
+    crate::WindowAnswer {
+        refusal: 0,
+        side: 0,
+        place: 0,
+        found,
+        start,
+        length,
+        arcs: molecule.arcs,
+        depth: molecule.depth,
+    }
+}
+
+fn refuse_window(x: Refusal) -> crate::WindowAnswer
+    ensures { λ r. ⌜ r ≡ refusedWindow x ⌝ }
+{
+    let told = refuse(x);
+    crate::WindowAnswer {
+        refusal: told.refusal,
+        side: told.side,
+        place: told.place,
+        found: 0,
+        start: 0,
+        length: 0,
+        arcs: 0,
+        depth: 0,
+    }
+}
+
+// The struct for the answer of each call: check; length and show; window; verify; add; remove; query.
 pub fn tell_check(a: Checked) -> crate::Answer
     ensures { λ r. ⌜ r ≡ checkInC a ⌝ }
 {
@@ -62,6 +96,20 @@ pub fn tell_match(a: Matched) -> crate::Answer
     match a {
         Matched::Prefix { length, fold } => accept(length, 0, fold),
         Matched::Refused(x) => refuse(x),
+    }
+}
+
+pub fn tell_window(a: Windowed) -> crate::WindowAnswer
+    ensures { λ r. ⌜ r ≡ windowInC a ⌝ }
+{
+    match a {
+        Windowed::At {
+            start,
+            length,
+            fold,
+        } => accept_window(1, start, length, fold),
+        Windowed::Nowhere(fold) => accept_window(0, 0, 0, fold),
+        Windowed::Refused(x) => refuse_window(x),
     }
 }
 

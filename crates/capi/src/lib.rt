@@ -7,11 +7,12 @@ ghost use Rattle.strand.specs.Strands.{strandOf, checkAnswer};
 ghost use Rattle.embedding.specs.Longest.{verifyAnswer, embeds};
 ghost use Rattle.refusals.specs.Rules.{WorkKept};
 ghost use Rattle.matcher.specs.Answers.{lengthVerdict, lengthAnswer, showVerdict, showAnswer, PlacesShown};
+ghost use Rattle.window.specs.Answers.{windowAnswer};
 ghost use Rattle.calls.specs.Calls.{effect, addOutcome, removeOutcome, queryVerdict, queryOutcome};
-ghost use Rattle.capi.specs.Interface.{checkInC, matchInC, verifyInC, addInC, removeInC, effectInC, queriedInC, queryEffectInC};
+ghost use Rattle.capi.specs.Interface.{checkInC, matchInC, windowInC, verifyInC, addInC, removeInC, effectInC, queriedInC, queryEffectInC};
 
-// The answer of every call. Refused: number, side and place, else zeros. Accepted: refusal 0, and in `value` and `searched` what the call says; `arcs` and
-// `depth` are the molecule's in check, length, show, verify and add; else 0.
+// The answer of every call but window. Refused: number, side and place, else zeros. Accepted: refusal 0, and in `value` and `searched` what the call says;
+// `arcs` and `depth` are the molecule's in check, length, show, verify and add; else 0.
 #[repr(C)]
 pub struct Answer {
     pub refusal: usize,
@@ -19,6 +20,20 @@ pub struct Answer {
     pub place: usize,
     pub value: usize,
     pub searched: usize,
+    pub arcs: usize,
+    pub depth: usize,
+}
+
+// The answer of window. Refused: number, side and place, else zeros. Accepted: refusal 0, the molecule's `arcs` and `depth`, and `found` 1 with `start` and
+// `length` of the window, or zeros in these three where no window carries the motif.
+#[repr(C)]
+pub struct WindowAnswer {
+    pub refusal: usize,
+    pub side: usize,
+    pub place: usize,
+    pub found: usize,
+    pub start: usize,
+    pub length: usize,
     pub arcs: usize,
     pub depth: usize,
 }
@@ -63,6 +78,22 @@ pub extern "C" fn lakhido_show(
 {
     let a = matcher::show(p, pm, q, qm, places, work);
     answers::tell_match(a)
+}
+
+#[no_mangle]
+pub extern "C" fn lakhido_window(
+    p: &[u8],
+    pm: &[u16],
+    q: &[u8],
+    qm: &[u16],
+    work: &mut [u16],
+) -> WindowAnswer
+    ensures { λ r. ⌜ (r ≡ windowInC (windowAnswer (now (p .entry)) (now (pm .entry)) (now (q .entry)) (now (qm .entry)) (length (now (work .entry)))))
+        × WorkKept (lengthVerdict (now (p .entry)) (now (pm .entry)) (now (q .entry)) (now (qm .entry)) (length (now (work .entry))))
+        (now (work .entry)) (now (work .exit)) ⌝ }
+{
+    let a = window::window(p, pm, q, qm, work);
+    answers::tell_window(a)
 }
 
 #[no_mangle]

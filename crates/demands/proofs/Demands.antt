@@ -1,8 +1,10 @@
 -- The three demands hold: assembled from the claims of the crates.
+use Rattle.strand.specs.Strands.{lettersMatch}
 use Rattle.strand.proofs.Claims as strand
 use Rattle.embedding.proofs.Claims as embedding
 use Rattle.embedding.specs.Longest.{embeds}
 use Rattle.matcher.proofs.Claims as matcher
+use Rattle.window.proofs.Claims as window
 use Rattle.calls.proofs.Claims as calls
 use Rattle.history.proofs.Claims as history
 use Rattle.demands.specs.Demands.{AnyInput, RightAnswer, EveryHistory, Demands}
@@ -14,6 +16,7 @@ any-input =
       length = matcher.claims .length-refuses;
       show = matcher.claims .show-refuses;
       verify = embedding.claims .verify-refuses;
+      window = window.claims .window-refuses;
       add = calls.claims embeds .add-refuses;
       remove = calls.claims embeds .remove-refuses;
       query = calls.claims embeds .query-refuses;
@@ -37,6 +40,8 @@ right-answer =
       show = matcher.claims .show-says;
       whole = matcher.claims .length-whole;
       verify = embedding.claims .verify-says;
+      window = window.claims .window-says;
+      windows = embedding.claims .windows-say lettersMatch;
       add = calls.claims embeds .add-says;
     }
 

@@ -10,12 +10,14 @@ use Rattle.embedding.specs.Longest.{verifyAnswer, embeds}
 use Rattle.embedding.specs.declared.Verified.{Verified}
 use Rattle.matcher.specs.Answers.{lengthVerdict, lengthAnswer, showVerdict, showAnswer, PlacesShown}
 use Rattle.matcher.specs.declared.Matched.{Matched}
+use Rattle.window.specs.Answers.{windowAnswer}
+use Rattle.window.specs.declared.Windowed.{Windowed}
 use Rattle.calls.specs.declared.Added.{Added}
 use Rattle.calls.specs.declared.Removed.{Removed}
 use Rattle.calls.specs.declared.Queried.{Queried}
 use Rattle.calls.specs.Calls.{Effect, effect, addOutcome, removeOutcome, QueryEffect, queried, queryVerdict, queryOutcome}
 use Rattle.history.specs.History.{runAdd, runRemove, runQuery}
-use Rattle.demands.specs.Meets.{CheckMeets, LengthMeets, ShowMeets, VerifyMeets, AddMeets, RemoveMeets, QueryMeets}
+use Rattle.demands.specs.Meets.{CheckMeets, LengthMeets, ShowMeets, VerifyMeets, WindowMeets, AddMeets, RemoveMeets, QueryMeets}
 use Rattle.demands.proofs.Demands.{demands}
 
 pub check-tied : (bases mates : List ℕ) (r : Checked) → r ≡ checkAnswer bases mates → CheckMeets bases mates r
@@ -46,6 +48,15 @@ show-tied p pm q qm places work r places′ work′ e shown kept =
 pub verify-tied : (p pm q qm v : List ℕ) (r : Verified) → r ≡ verifyAnswer p pm q qm v → VerifyMeets p pm q qm v r
 verify-tied p pm q qm v r e =
     record { refuses = rw e (demands .any-input .verify p pm q qm v); says = rw e (demands .right-answer .verify p pm q qm v) }
+
+pub window-tied : (p pm q qm work : List ℕ) (r : Windowed) (work′ : List ℕ) → r ≡ windowAnswer p pm q qm (len work)
+    → WorkKept (lengthVerdict p pm q qm (len work)) work work′ → WindowMeets p pm q qm work r work′
+window-tied p pm q qm work r work′ e kept =
+    record {
+      refuses = rw e (demands .any-input .window p pm q qm (len work));
+      says = rw e (demands .right-answer .window p pm q qm (len work));
+      work-kept = kept;
+    }
 
 pub add-tied : (catalog cache : List ℕ) (d : ℕ) (q : Strand) (r : Added) (catalog′ cache′ : List ℕ)
     → effect r catalog′ cache′ ≡ addOutcome catalog cache d q → AddMeets catalog cache d q r catalog′ cache′

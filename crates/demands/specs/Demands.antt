@@ -1,18 +1,22 @@
 -- The three demands on the library; `demands`, in proofs/Demands, proves them of the definitions that the contracts cite: xVerdict is the table's word on call
--- x, xAnswer and xOutcome what x answers and leaves. Meets.antt says the same of the calls themselves, and alone has what no definition gives: the places that
--- show writes, and the work slices (1.10, 2.5). p, pm are the bases and mates of the motif P, q, qm those of the molecule Q; in add and query q and p are whole
--- strands. The screen program has its own statements (crate screening), the examples theirs (crate examples).
+-- x (window has that of length), xAnswer and xOutcome what x answers and leaves. Meets.antt says the same of the calls themselves, and alone has what no
+-- definition gives: the places that show writes, and the work slices (1.10, 2.5). p, pm are the bases and mates of the motif P, q, qm those of the molecule Q;
+-- in add and query q and p are whole strands. The screen program has its own statements (crate screening), the examples theirs (crate examples).
 use Prim.Native.Nat.{ℕ}
 use mathlib.Core.List.{List}
 use lib.ListN.{length as len}
+use Rattle.lists.specs.Vocabulary.{nth}
 use Rattle.refusals.specs.Rules.{Refuses, Keeps}
-use Rattle.strand.specs.Strands.{Strand, checkVerdict, checkAnswer, CheckAccepts, CheckSays}
+use Rattle.strand.specs.Strands.{Strand, Inside, lettersMatch, checkVerdict, checkAnswer, CheckAccepts, CheckSays}
 use Rattle.strand.specs.declared.Checked.the-variants as checks
 use Rattle.embedding.specs.Embedding.{EmbedsIn}
+use Rattle.embedding.specs.Windows.{WindowsSay}
 use Rattle.embedding.specs.Longest.{verifyVerdict, verifyAnswer, VerifySays, VerifyAccepts, embeds}
 use Rattle.embedding.specs.declared.Verified.the-variants as verifies
 use Rattle.matcher.specs.Answers.{lengthVerdict, lengthAnswer, showVerdict, showAnswer, PrefixSays, WholeSays, LengthAccepts, ShowAccepts}
 use Rattle.matcher.specs.declared.Matched.the-variants as matches
+use Rattle.window.specs.Answers.{windowAnswer, WindowSays}
+use Rattle.window.specs.declared.Windowed.the-variants as windows
 use Rattle.calls.specs.declared.Added.the-variants as adds
 use Rattle.calls.specs.declared.Removed.the-variants as removes
 use Rattle.calls.specs.declared.Queried.the-variants as queries
@@ -49,6 +53,8 @@ pub record AnyInput : Type 0 where
   pub query-keeps : (catalog cache : List ℕ) (p : Strand) (work : ℕ) (hits : List ℕ)
       → Keeps queries.Refused (queryOutcome embeds catalog cache p work hits .answer) cache hits
       (queryOutcome embeds catalog cache p work hits .cache) (queryOutcome embeds catalog cache p work hits .hits)
+  -- 1.11: window refuses just what length refuses, with the same refusal; so `length-accepts` says when it is accepted
+  pub window : (p pm q qm : List ℕ) (work : ℕ) → Refuses (lengthVerdict p pm q qm work) windows.Refused (windowAnswer p pm q qm work)
 
 -- Demand 2, the right answer. (2.5, in Meets: the first L places that show leaves are an embedding of that prefix, and later ones keep their values.)
 pub record RightAnswer : Type 0 where
@@ -63,6 +69,11 @@ pub record RightAnswer : Type 0 where
   pub verify : (p pm q qm v : List ℕ) → VerifySays p pm q qm v (verifyAnswer p pm q qm v)
   -- 2.6: an accepted add answers the number of arcs and the depth of its molecule
   pub add : (catalog cache : List ℕ) (d : ℕ) (q : Strand) → AddSays catalog cache d q (addOutcome catalog cache d q .answer)
+  -- 2.7: window answers start and length of the tightest window of Q that carries an embedding of P, or none exactly when P does not embed in Q, and with both
+  -- the number of arcs and the depth of Q
+  pub window : (p pm q qm : List ℕ) (work : ℕ) → WindowSays (lengthVerdict p pm q qm work) p pm q qm (windowAnswer p pm q qm work)
+  -- 2.8: what a window is, and that there is only one tightest
+  pub windows : (p pm q qm : List ℕ) → Inside (nth pm) (len p) → WindowsSay lettersMatch p pm q qm
 
 -- Demand 3, every history of add, remove and query.
 pub record EveryHistory : Type 0 where

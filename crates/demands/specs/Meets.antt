@@ -1,7 +1,7 @@
 -- What the functions of src/lib.rt, each of which makes one public call, state of it: by numbers of Demands. r is the answer, a prime marks a buffer after
--- the call. 1.10: a refusal leaves the work slice (`work-kept`) and show's places (`places-shown`) as they were. Of add, remove and query `outcome` is the
--- contract, and the rest follows from it. A list of calls, each on the buffers that the one before left, with alterations between, is a run: begin at its
--- end with `runEnd`, put each call in front by `step` and each alteration by `runAlter`.
+-- the call. 1.10: a refusal leaves the work slice (`work-kept`) and show's places (`places-shown`) as they were, an accepted call keeps the length of the work
+-- slice. Of add, remove and query `outcome` is the contract, and the rest follows from it. A list of calls, each on the buffers that the one before left, with
+-- alterations between, is a run: begin at its end with `runEnd`, put each call in front by `step` and each alteration by `runAlter`.
 use Prim.Native.Nat.{ℕ}
 use mathlib.Core.Path.{_≡_}
 use mathlib.Core.List.{List}
@@ -16,6 +16,9 @@ use Rattle.embedding.specs.declared.Verified.the-variants as verifies
 use Rattle.matcher.specs.Answers.{lengthVerdict, showVerdict, PrefixSays, WholeSays, PlacesShown}
 use Rattle.matcher.specs.declared.Matched.{Matched}
 use Rattle.matcher.specs.declared.Matched.the-variants as matches
+use Rattle.window.specs.Answers.{WindowSays}
+use Rattle.window.specs.declared.Windowed.{Windowed}
+use Rattle.window.specs.declared.Windowed.the-variants as windows
 use Rattle.calls.specs.declared.Added.{Added}
 use Rattle.calls.specs.declared.Added.the-variants as adds
 use Rattle.calls.specs.declared.Removed.{Removed}
@@ -50,6 +53,12 @@ pub record ShowMeets (p pm q qm places work : List ℕ) (r : Matched) (places′
 pub record VerifyMeets (p pm q qm v : List ℕ) (r : Verified) : Type 0 where
   pub refuses : Refuses (verifyVerdict p pm q qm v) verifies.Refused r
   pub says : VerifySays p pm q qm v r
+
+-- 1.10, 1.11, 2.7
+pub record WindowMeets (p pm q qm work : List ℕ) (r : Windowed) (work′ : List ℕ) : Type 0 where
+  pub refuses : Refuses (lengthVerdict p pm q qm (len work)) windows.Refused r
+  pub says : WindowSays (lengthVerdict p pm q qm (len work)) p pm q qm r
+  pub work-kept : WorkKept (lengthVerdict p pm q qm (len work)) work work′
 
 -- 1.5, 1.9, 2.6; the step `runAdd` of a run
 pub record AddMeets (catalog cache : List ℕ) (d : ℕ) (q : Strand) (r : Added) (catalog′ cache′ : List ℕ) : Type 0 where

@@ -1,7 +1,7 @@
 // The public calls, each with what the three demands say of it (specs/Meets): proved from the contracts of the calls alone, so that a weaker contract is
 // refused here.
 ghost use Rattle.strand.specs.Strands.{strandOf};
-ghost use Rattle.demands.specs.Meets.{CheckMeets, LengthMeets, ShowMeets, VerifyMeets, AddMeets, RemoveMeets, QueryMeets};
+ghost use Rattle.demands.specs.Meets.{CheckMeets, LengthMeets, ShowMeets, VerifyMeets, WindowMeets, AddMeets, RemoveMeets, QueryMeets};
 
 pub fn check(bases: &[u8], mates: &[u16]) -> strand::Checked
     ensures { λ r. ⌜ CheckMeets (now (bases .entry)) (now (mates .entry)) r ⌝ }
@@ -33,6 +33,12 @@ pub fn verify(p: &[u8], pm: &[u16], q: &[u8], qm: &[u16], places: &[u16]) -> emb
     ensures { λ r. ⌜ VerifyMeets (now (p .entry)) (now (pm .entry)) (now (q .entry)) (now (qm .entry)) (now (places .entry)) r ⌝ }
 {
     embedding::verify(p, pm, q, qm, places)
+}
+
+pub fn window(p: &[u8], pm: &[u16], q: &[u8], qm: &[u16], work: &mut [u16]) -> window::Windowed
+    ensures { λ r. ⌜ WindowMeets (now (p .entry)) (now (pm .entry)) (now (q .entry)) (now (qm .entry)) (now (work .entry)) r (now (work .exit)) ⌝ }
+{
+    window::window(p, pm, q, qm, work)
 }
 
 pub fn add(

@@ -10,7 +10,7 @@ use lib.ListN.{length}
 use borrow.Author.Tests.{lt-ltb, ltb-true, eqb-true, eq-eqb}
 use Rattle.lists.specs.Vocabulary.{nth, every, someList, tab}
 use Rattle.embedding.specs.Embedding.{fits, Emb, Embeds}
-use Rattle.strand.specs.Strands.{Strand, lettersMatch}
+use Rattle.strand.specs.Strands.{Strand, Inside, lettersMatch}
 use Rattle.embedding.specs.Longest.{placesOk, closedTo, prefixOk, longest, verified, embeds}
 use Rattle.embedding.specs.Row.{Closed, Best}
 use Rattle.lists.proofs.ListLaws.{and-true, every-at, every-true, length-tab, nth-tab}
@@ -109,6 +109,19 @@ module _ (rule : ℕ → ℕ → Bool) (pb pm qb qm : List ℕ) where
             reach = record { from = omega arith; upto = L .upto; closed = r .0; embeds = r .1 };
             most = λ k′ R. L .most k′ (R .upto) (prefix-iff (fits rule pb qb) (nth pm) (nth qm) (length qb) k′ .1 (R .closed, R .embeds));
           }
+
+  -- L = m exactly when P embeds.
+  pub whole-iff : Inside (nth pm) (length pb)
+      → (longest rule pb pm qb qm ≡ length pb) ↔ Embeds (fits rule pb qb) (nth pm) (nth qm) 0 (length pb) 0 (length qb)
+  whole-iff H =
+      let B = longest-best in (
+        (λ e. rw e at (B .reach .embeds)),
+        (λ E. omega (
+          arith,
+          B .reach .upto,
+          B .most (length pb) record { from = omega arith; upto = omega arith; closed = λ x p q. H x q; embeds = E },
+        )),
+      )
 
   pub verified-iff : (v : List ℕ) → (verified rule pb pm qb qm v ≡ true)
       ↔ ((length v ≡ length pb) × Emb (fits rule pb qb) (nth pm) (nth qm) 0 (length pb) 0 (length qb) (nth v))

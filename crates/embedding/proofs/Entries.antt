@@ -22,7 +22,7 @@ module _ (has : ℕ → Bool) (pm : ℕ → ℕ) (z k : ℕ) where
   unfolding unitAt
   unit-end a = choose-no _ _ _ (le-ltb k z a)
 
-  -- Before the end of the window.
+  -- Before the end of the segment.
   pub unit-in : k < z → unitAt has pm z k ≡ choose (leb (pm k) k) (choose (has k) (suc k) k) k
   unfolding unitAt
   unit-in a = choose-yes _ _ _ (lt-ltb k z a)
@@ -55,9 +55,9 @@ module _ (has : ℕ → Bool) (pm : ℕ → ℕ) (z k : ℕ) where
   pub unit-next : unitAt has pm z k ≤ k + 1
   unit-next = ⊎-elim (λ x. omega (arith, x)) (λ T. omega (arith, T .value)) unit-case
 
--- Before the end of the shorter of two windows it is the same in both.
-pub unit-window : (has : ℕ → Bool) (pm : ℕ → ℕ) (z k to : ℕ) → k < to → to ≤ z → unitAt has pm z k ≡ unitAt has pm to k
-unit-window has pm z k to a b = unit-in has pm z k (omega arith) ∙ sym (unit-in has pm to k a)
+-- Before the end of the shorter of two segments it is the same in both.
+pub unit-segment : (has : ℕ → Bool) (pm : ℕ → ℕ) (z k to : ℕ) → k < to → to ≤ z → unitAt has pm z k ≡ unitAt has pm to k
+unit-segment has pm z k to a b = unit-in has pm z k (omega arith) ∙ sym (unit-in has pm to k a)
 
 -- The entry with the left end.
 module _ (left right : Bool) (k z next j : ℕ) where
@@ -90,7 +90,7 @@ module _ (left right : Bool) (k z next j : ℕ) where
         by-arc d e = choose-yes _ _ _ t ∙ choose-no _ _ _ (lt-leb k j a) ∙ choose-yes _ _ _ (lt-ltb k z b) ∙ choose-yes _ _ _ d
             ∙ choose-yes _ _ _ (le-leb k next e)
 
--- In a window it is what the arc takes from j.
+-- In a segment it is what the arc takes from j.
 pub by-over : (left right : ℕ → Bool) (pm : ℕ → ℕ) (z next j : ℕ) → j < z → overBy (left j) (right (pm j)) (pm j) z next j ≡ overAt left right pm z next j
 unfolding overAt
 by-over left right pm z next j a = sym (choose-yes _ _ _ (lt-ltb j z a))

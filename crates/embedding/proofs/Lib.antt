@@ -1,14 +1,16 @@
 -- The laws, each after what it needs.
-mod Answers
+pub mod Answers
 pub mod Splitting
 mod Composition
-pub mod Window
+pub mod Segment
 pub mod Recurrence
 pub mod Entries
 pub mod Arc
 pub mod Bounds
 pub mod Rows
 pub mod Computed
+pub mod WindowLaws
+pub mod Tightest
 mod VerifyLaws
 pub mod Claims
 mod Placing

@@ -1,5 +1,5 @@
 -- The entries of rows: of an empty stretch, of one base, of two stretches side by side, of an arc from its inner row alone (one
--- accumulator: the inner stretch with the right end is the inner row followed by a unit row), and for a narrower window.
+-- accumulator: the inner stretch with the right end is the inner row followed by a unit row), and for a narrower segment.
 use Prim.Native.Nat.{ℕ, suc, _≤_, _<_, min, max}
 use mathlib.Core.Path.{_≡_, sym, _∙_}
 use mathlib.Core.Bool.{Bool, true}
@@ -31,7 +31,7 @@ module _ {fit : ℕ → ℕ → Bool} {pm qm : ℕ → ℕ} {z : ℕ} where
       P : ℕ → Type 0
       P n = Best fit pm qm z k n u (suc u)
 
-  -- The row of an arc (l, r) from its inner row f. P[lo..z) is a window of a nested P; an arc that leaves it to the right is never begun.
+  -- The row of an arc (l, r) from its inner row f. P[lo..z) is a segment of a nested P; an arc that leaves it to the right is never begun.
   module _ {lo hi M n l r : ℕ} {f : ℕ → ℕ} (NP : Nested pm M) (hM : z ≤ M) (NQ : Nested qm n) (lr : l < r) (rn : r < n) (arc : qm l ≡ r)
       (A : IsRow fit pm qm lo hi z (suc l) r f) where
     -- No arc from inside ends at r.
@@ -55,7 +55,7 @@ module _ {fit : ℕ → ℕ → Bool} {pm qm : ℕ → ℕ} {z : ℕ} where
       after : j < z → fit j l ≡ true → Best fit pm qm z (suc j) (f (suc j)) (suc l) r
       after p t = A .best (suc j) (omega arith) (next p t)
 
-      -- A left end whose mate lies past the window.
+      -- A left end whose mate lies past the segment.
       blocked : (b : ℕ) → Best fit pm qm z j b (suc l) (suc r) → j < pm j → z ≤ pm j → Best fit pm qm z j b l (suc r)
       blocked b X left far =
           record {
@@ -155,7 +155,7 @@ module _ {fit : ℕ → ℕ → Bool} {pm qm : ℕ → ℕ} {lo z : ℕ} where
             (λ p t. omega (arith, D .step l j (omega arith) lr p (omega arith) t)));
       }
 
--- A row serves a narrower window P[lo′..z′), if that is closed: no entry goes past it.
+-- A row serves a narrower segment P[lo′..z′), if that is closed: no entry goes past it.
 pub narrow-row : {fit : ℕ → ℕ → Bool} {pm qm : ℕ → ℕ} {lo z lo′ z′ s e : ℕ} {f h : ℕ → ℕ} → lo ≤ lo′ → z′ ≤ z → Closed pm lo′ z′
     → IsRow fit pm qm lo z z s e f → ((j : ℕ) → lo′ ≤ j → j ≤ z′ → h j ≡ min (f j) z′) → IsRow fit pm qm lo′ z′ z′ s e h
 narrow-row {fit} {pm} {qm} {lo} {z} {lo′} {z′} {s} {e} {f} {h} la zb C F q = record {

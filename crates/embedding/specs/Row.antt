@@ -1,4 +1,4 @@
--- Only the laws of Bille and Gørtz (proofs/Window, Recurrence, Entries, Arc, Bounds, Rows and Computed of this crate) and the contracts and laws of rows,
+-- Only the laws of Bille and Gørtz (proofs/Segment, Recurrence, Entries, Arc, Bounds, Rows and Computed of this crate) and the contracts and laws of rows,
 -- arcs, placing, trace and matcher need this file: reached ends, the largest of them, rows of such ends, and bounds of the starts.
 use Prim.Native.Nat.{ℕ, suc, _≤_, _<_, max}
 use mathlib.Core.Path.{_≡_}
@@ -47,7 +47,7 @@ unitAt has pm z k = choose (ltb k z) (choose (leb (pm k) k) (choose (has k) (suc
 unfoldable pub overBy : Bool → Bool → ℕ → ℕ → ℕ → ℕ → ℕ
 overBy left right k z next j = choose left (choose (leb k j) next (choose (ltb k z) (choose right (choose (leb k next) (suc k) 0) 0) 0)) 0
 
--- The same in a window that ends at z; `left` and `right` say which positions have the letters of the ends.
+-- The same in a segment that ends at z; `left` and `right` say which positions have the letters of the ends.
 unfoldable pub overAt : (ℕ → Bool) → (ℕ → Bool) → (ℕ → ℕ) → ℕ → ℕ → ℕ → ℕ
 overAt left right pm z next j = choose (ltb j z) (overBy (left j) (right (pm j)) (pm j) z next j) 0
 

@@ -10,6 +10,7 @@ use Rattle.refusals.specs.Rules.{Refuses}
 use Rattle.strand.specs.Strands.{Inside}
 use Rattle.embedding.specs.Embedding.{fits, Emb, ClosedPrefix, IsLongest}
 use Rattle.embedding.specs.Longest.{closedTo, longest, verified, verifyVerdict, verifyAnswer, VerifySays, VerifyAccepts}
+use Rattle.embedding.specs.Windows.{WindowsSay}
 use Rattle.embedding.specs.declared.Verified.the-variants as verified
 
 -- The test of a prefix says what 01 says: it is closed when no arc of P has one end in it and one outside. Here and below the mates are in
@@ -36,6 +37,7 @@ pub record Claims : Type 0 where
       → IsLongest rule pb pm qb qm (longest rule pb pm qb qm)
   pub longest-only : (rule : ℕ → ℕ → Bool) (pb pm qb qm : List ℕ) → Inside (nth pm) (length pb)
       → (L : ℕ) → IsLongest rule pb pm qb qm L → L ≡ longest rule pb pm qb qm
+  pub windows-say : (rule : ℕ → ℕ → Bool) (pb pm qb qm : List ℕ) → Inside (nth pm) (length pb) → WindowsSay rule pb pm qb qm
   pub verified-says : (rule : ℕ → ℕ → Bool) (pb pm qb qm v : List ℕ) → VerifiedSays rule pb pm qb qm v
   pub verify-says : (p pm q qm v : List ℕ) → VerifySays p pm q qm v (verifyAnswer p pm q qm v)
   pub verify-accepts : (p pm q qm v : List ℕ) → VerifyAccepts p pm q qm v

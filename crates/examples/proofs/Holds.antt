@@ -1,4 +1,4 @@
--- The theorem of the examples of 01 and of 02, (i): every row of the table holds.
+-- The theorem of the examples of 01 and of 02, (i) and (ii): every row of the table holds.
 use mathlib.Core.Path.{refl}
 use mathlib.Core.List.{List, [], _∷_, _++_}
 use Rattle.lists.specs.Vocabulary.{choose, every, some, lowestFrom, lowest, largest, select, tab, someList, putAt}
@@ -8,8 +8,10 @@ use Rattle.strand.specs.Folds.{begins, arcCount, liesInside, isChain, depthOf}
 use Rattle.refusals.specs.Rules.{first, refuseIf, refuseAtLowest, byVerdict}
 use Rattle.embedding.specs.Longest.{longest, prefixOk, closedTo, placesOk, verified}
 use Rattle.embedding.specs.Longest as verify
+use Rattle.embedding.specs.Windows.{windowMate, carries, someCarries, firstStart, tightestLength}
 use Rattle.embedding.specs.Examples.{exampleOk, examples}
 use Rattle.matcher.specs.Answers as matcher
+use Rattle.window.specs.Answers.{windowOf, windowAnswer}
 use Rattle.block.proofs.Examples.{checksum-of-A}
 use Rattle.calls.specs.Buffers.{inRange, moleculeVerdict, motifVerdict, workVerdict, isHeld}
 use Rattle.calls.specs.Calls.{refusedBy}
@@ -20,7 +22,7 @@ use Rattle.history.specs.Examples.{sharedSlotStory}
 use Rattle.history.proofs.Computed as computed
 use Rattle.history.proofs.Stories.{by-runs}
 use Rattle.examples.specs.Table.{Row, story, screenText, VerifiedAt, Holds, AllHold, a, screenInput, screenPrints, longMotif, fewHits, numberTwo}
-use Rattle.examples.specs.Table.{addedTwice, removedEmpty, refusals, settledRows, also, folds, table, TableHolds}
+use Rattle.examples.specs.Table.{addedTwice, removedEmpty, refusals, settledRows, also, folds, windows, table, TableHolds}
 use Rattle.examples.proofs.BlockRows.{a-bytes, gc-bytes, entry-bytes}
 use Rattle.examples.proofs.BufferRows.{uneven-refused, unsound-refused}
 use Rattle.examples.proofs.ScreenRow.{screen-prints}
@@ -113,6 +115,12 @@ unfolding folds AllHold Holds checkVerdict checkAnswer matcher.lengthVerdict mat
     notLetter mateOutside notMutual crosses crossedAt lettersMatch longest largest prefixOk closedTo placesOk select begins arcCount liesInside isChain depthOf
 folds-hold = refl & refl & refl & refl & refl & refl & refl & refl & tt
 
+windows-hold : AllHold windows
+unfolding windows AllHold Holds windowAnswer windowOf tightestLength firstStart someCarries carries windowMate matcher.lengthVerdict byVerdict pairVerdict
+    strandVerdict first refuseIf refuseAtLowest choose every some someList lowestFrom lowest tab isLetter notLetter mateOutside notMutual crosses crossedAt
+    lettersMatch longest largest prefixOk closedTo placesOk select begins arcCount liesInside isChain depthOf
+windows-hold = refl & refl & refl & refl & refl & refl & refl & refl & refl & refl & tt
+
 both : (rs ss : List Row) → AllHold rs → AllHold ss → AllHold (rs ++ ss)
 unfolding AllHold
 both [] ss h k = k
@@ -124,4 +132,4 @@ screen-hold = (screen-prints, settled-hold)
 
 pub holds : TableHolds
 unfolding table
-holds = both _ folds (both _ also (both refusals _ refusals-hold screen-hold) also-hold) folds-hold
+holds = both _ windows (both _ folds (both _ also (both refusals _ refusals-hold screen-hold) also-hold) folds-hold) windows-hold

@@ -1,7 +1,7 @@
 -- All of 01's examples, in its order: the small examples of the table of refusals, row 8's with 136 entries, the printed example of the
 -- screen program, the nine rows of the table of settled examples, the check 1888, three blocks byte by byte, the keys 139, the story with
 -- B = 2 and S = 1, the last of the plausible and false ways, a number used again (the others are in rows 6, 3, 7 and in the story), and a
--- story with S = 2. Behind them rows for 02, (i). Each is a row of `table`; that they all hold is `TableHolds`, and `holds`, in proofs/Holds,
+-- story with S = 2. Behind them rows for 02, (i) and (ii). Each is a row of `table`; that they all hold is `TableHolds`, and `holds`, in proofs/Holds,
 -- proves it by the definitions that the contracts of the calls cite.
 use Prim.Native.Nat.{ℕ}
 use mathlib.Core.Path.{_≡_}
@@ -23,6 +23,9 @@ use Rattle.embedding.specs.Examples.{Example, exampleOk, examples}
 use Rattle.matcher.specs.declared.Matched.{Matched}
 use Rattle.matcher.specs.declared.Matched.the-variants as matched
 use Rattle.matcher.specs.Answers.{lengthAnswer, showAnswer}
+use Rattle.window.specs.declared.Windowed.{Windowed}
+use Rattle.window.specs.declared.Windowed.the-variants as windowed
+use Rattle.window.specs.Answers.{windowAnswer}
 use Rattle.octets.specs.Octets.{word32}
 use Rattle.block.specs.Content.{blockSize, checksumAt, rechecked, emptyBlock, encodeMolecule, encodeEntry}
 use Rattle.block.specs.Block.{putBlock}
@@ -30,7 +33,7 @@ use Rattle.calls.specs.Buffers.{motifVerdict}
 use Rattle.calls.specs.Calls.{Result, refused, done}
 use Rattle.history.specs.Model.{Call, add, remove, query, Event, call, Line, gave}
 use Rattle.history.specs.History.{Buffers, zeroed, Ran}
-use Rattle.history.specs.Examples.{Story, ByModel, ByRuns, gac, bonded, unbonded, ask, settledStory, reusedStory, sharedSlotStory}
+use Rattle.history.specs.Examples.{Story, ByModel, ByRuns, gac, ggc, bonded, unbonded, ask, settledStory, reusedStory, sharedSlotStory}
 use Rattle.screening.specs.Screen.{screenOutput}
 
 -- The kinds of example, each with what it should come to.
@@ -41,6 +44,8 @@ pub data Row : Type 0 where
   lengthCall : (p q : Strand) (work : ℕ) → Matched → Row
   showCall : (p q : Strand) (places work : ℕ) → Matched → Row
   verifyCall : (p q : Strand) (places : List ℕ) → Verified → Row
+  -- the call window on P and Q, with a work slice of so many entries
+  windowCall : (p q : Strand) (work : ℕ) → Windowed → Row
   -- add, remove or query on given bytes
   bufferCall : Buffers → Call → Result → Row
   -- calls from zeroed buffers
@@ -76,6 +81,7 @@ Holds (refusedStrand q number place) =
 Holds (lengthCall p q work answer) = lengthAnswer (p .bases) (p .mates) (q .bases) (q .mates) work ≡ answer
 Holds (showCall p q places work answer) = showAnswer (p .bases) (p .mates) (q .bases) (q .mates) places work ≡ answer
 Holds (verifyCall p q places answer) = verifyAnswer (p .bases) (p .mates) (q .bases) (q .mates) places ≡ answer
+Holds (windowCall p q work answer) = windowAnswer (p .bases) (p .mates) (q .bases) (q .mates) work ≡ answer
 -- of every run of the call on these buffers
 Holds (bufferCall buffers c result) = (log : List Line) → Ran embeds buffers (call c ∷ []) log → log ≡ gave c result ∷ []
 -- by the model, and by every run
@@ -289,9 +295,33 @@ folds =
     ∷ verifyCall bonded beside (1 ∷ 2 ∷ []) (verified.No (fold 2 1))
     ∷ []
 
+-- 02, (ii), which has no examples of its own: "the start and length of a window of Q that carries an embedding of P", and none.
+unfoldable pub windows : List Row
+windows =
+    -- GC, 1 0, in GAC, 2 1 0: the whole arc
+    windowCall bonded gac 216 (windowed.At 0 3 (fold 1 1))
+    -- GC, 0 1, in GGC, 2 1 0: "A window has the arcs with both ends in it", and in this one C is unbonded
+    ∷ windowCall unbonded ggc 216 (windowed.At 1 2 (fold 1 1))
+    -- GC, 0 1, in GCC, 2 1 0: the window ends inside the arc of Q, and G is unbonded in it
+    ∷ windowCall unbonded (strandOf (71 ∷ 67 ∷ 67 ∷ []) (2 ∷ 1 ∷ 0 ∷ [])) 216 (windowed.At 0 2 (fold 1 1))
+    -- GC, 1 0, in GGC, 2 1 0: the shorter window from 1 has the letters and not the arc
+    ∷ windowCall bonded ggc 216 (windowed.At 0 3 (fold 1 1))
+    -- A, 0, in AA, 0 1: "none of that length starts earlier"
+    ∷ windowCall a (strandOf (65 ∷ 65 ∷ []) (0 ∷ 1 ∷ [])) 144 (windowed.At 0 1 (fold 0 0))
+    -- GC, 1 0, in GACGC, 2 1 0 4 3: "No shorter window of Q carries an embedding of P"
+    ∷ windowCall bonded (strandOf (71 ∷ 65 ∷ 67 ∷ 71 ∷ 67 ∷ []) (2 ∷ 1 ∷ 0 ∷ 4 ∷ 3 ∷ [])) 232 (windowed.At 3 2 (fold 2 1))
+    -- GC, 1 0, in GC, 0 1: P does not embed
+    ∷ windowCall bonded unbonded 208 (windowed.Nowhere (fold 0 0))
+    -- "Inputs, limits, refusals and their order are those of length": 8 with 135 entries, and with 136 the call goes on
+    ∷ windowCall a a 135 (windowed.Refused (directRefusal 8))
+    ∷ windowCall a a 136 (windowed.At 0 1 (fold 0 0))
+    -- a refusal of the motif, before one of the molecule
+    ∷ windowCall (strandOf [] []) (strandOf (65 ∷ []) (1 ∷ [])) 136 (windowed.Refused (record { number = 2; side = motifSide; place = 0 }))
+    ∷ []
+
 -- All rows.
 unfoldable pub table : List Row
-table = refusals ++ (screenText screenInput screenPrints ∷ settledRows examples) ++ also ++ folds
+table = refusals ++ (screenText screenInput screenPrints ∷ settledRows examples) ++ also ++ folds ++ windows
 
 -- The claim: every row of the table holds.
 abbrev pub TableHolds : Type 0

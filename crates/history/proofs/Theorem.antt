@@ -5,7 +5,7 @@ use borrow.Author.Tests.{eqb-true, eq-eqb}
 use Rattle.strand.specs.Strands.{Strand, lettersMatch, leastMotif}
 use Rattle.refusals.specs.Rules.{motifSide}
 use Rattle.strand.proofs.VerdictLaws.{accepted-proper}
-use Rattle.embedding.proofs.Claims.{whole-iff}
+use Rattle.embedding.proofs.Computed.{whole-iff}
 use Rattle.calls.specs.Buffers.{mostMotifBases, motifVerdict}
 use Rattle.embedding.specs.Longest.{embeds}
 use Rattle.embedding.specs.Embedding.{EmbedsIn}

@@ -37,7 +37,7 @@ ByRuns t = (log : List Line) → Ran embeds (zeroed (t .blocks) (t .slots)) (t .
 abbrev pub gac : Strand
 gac = strandOf (71 ∷ 65 ∷ 67 ∷ []) (2 ∷ 1 ∷ 0 ∷ [])
 
-abbrev ggc : Strand
+abbrev pub ggc : Strand
 ggc = strandOf (71 ∷ 71 ∷ 67 ∷ []) (2 ∷ 1 ∷ 0 ∷ [])
 
 -- GC with an arc, and without: both have key 139.

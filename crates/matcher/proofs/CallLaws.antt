@@ -32,7 +32,7 @@ pub whole-setting : {p pm q qm : List ℕ} → Proper motifSide leastMotif great
     → Setting p pm q qm 0 (length p)
 whole-setting P Q =
     record {
-      window = record { same = P .same; small = (let z = P .small in omega arith); order = omega arith; ends = omega arith };
+      segment = record { same = P .same; small = (let z = P .small in omega arith); order = omega arith; ends = omega arith };
       motif = P .nested;
       equal = Q .same;
       short = (let z = Q .small in omega arith);

@@ -1,3 +1,5 @@
+mod Hairpins
 mod Whole
+mod WindowWalk
 mod CallLaws
 pub mod Claims

@@ -1,21 +1,25 @@
 // One call: length or show on the strands and with the slices of a line, its answer against the wanted one, and every slice that it gets.
-use super::brute;
-use super::strands;
 use embedding::Verified;
 use matcher::Matched;
 use testing::answer::WRONG;
 use testing::answer::is_refused;
 use testing::answer::refused;
-use testing::answer::two;
+use testing::brute;
 use testing::input::digit_at;
 use testing::input::kind;
 use testing::input::number;
+use testing::pairs;
+use testing::pairs::Told;
+use testing::pairs::WORK_ROOM;
+use testing::pairs::with_fold;
+use testing::pairs::without_fold;
+use testing::slices::FILL;
+use testing::slices::untouched;
+use testing::strands;
+use testing::strands::STRAND_ROOM;
 
-// An answer: its length or the number of its refusal, and the arcs and the depth that it has as one number, 0 after a refusal.
-pub struct Told {
-    pub got: usize,
-    pub fold: usize,
-}
+// More places than any motif asks for.
+const PLACES_ROOM: usize = 4100;
 
 // What a call answered, how many bases its motif has, and whether all is as it should be.
 pub struct Asked {
@@ -24,31 +28,12 @@ pub struct Asked {
     pub right: bool,
 }
 
-// A refusal, or a line that cannot be asked: it has no fold.
-fn without_fold(got: usize) -> Told {
-    Told { got, fold: 0 }
-}
-
+// What an answer found is its length.
 fn told_of(a: Matched) -> Told {
     match a {
-        Matched::Prefix { length, fold } => Told {
-            got: length,
-            fold: two(fold.arcs, fold.depth),
-        },
+        Matched::Prefix { length, fold } => with_fold(length, fold.arcs, fold.depth),
         Matched::Refused(r) => without_fold(refused(r.number as usize, r.side as usize, r.place)),
     }
-}
-
-// All slices are filled with 51966, which is no position.
-fn untouched(s: &[u16], from: usize) -> bool {
-    let mut i = from;
-    while i < s.len() {
-        if s[i] != 51966 {
-            return false;
-        }
-        i += 1;
-    }
-    true
 }
 
 // The first k places are an embedding of the first k bases.
@@ -94,17 +79,6 @@ fn searched(p: &[u8], pm: &[u16], q: &[u8], qm: &[u16]) -> usize {
     brute::longest(p, pm, q, qm, &mut at, 0, 0)
 }
 
-// The arcs and the depth that the line wants. Rounds `r` have none of their own: what they answer shows in the sums of their group.
-fn wanted_fold(line: &[u8], told: Told) -> usize {
-    if kind(line) == b'r' {
-        return told.fold;
-    }
-    if is_refused(told.got) {
-        return 0;
-    }
-    two(number(line, 77, 4), number(line, 82, 4))
-}
-
 // The answer that the line wants, in rounds `r` by brute force.
 fn wanted(line: &[u8], p: &[u8], pm: &[u16], q: &[u8], qm: &[u16]) -> usize {
     if kind(line) == b'r' {
@@ -128,7 +102,7 @@ fn right(
     if got != wanted(line, p, pm, q, qm) {
         return false;
     }
-    if told.fold != wanted_fold(line, told) {
+    if told.fold != pairs::wanted_fold(line, 77, told) {
         return false;
     }
     if !kept(line, call, got, places, work) {
@@ -170,8 +144,8 @@ fn answer(
 
 // The call and its judgement, over fresh slices.
 fn with_pair(line: &[u8], call: usize, p: &[u8], pm: &[u16], q: &[u8], qm: &[u16]) -> Asked {
-    let mut places = [51966u16; 4100];
-    let mut work = [51966u16; 294980];
+    let mut places = [FILL; PLACES_ROOM];
+    let mut work = [FILL; WORK_ROOM];
     let told = answer(line, call, p, pm, q, qm, &mut places, &mut work);
     Asked {
         told,
@@ -182,29 +156,31 @@ fn with_pair(line: &[u8], call: usize, p: &[u8], pm: &[u16], q: &[u8], qm: &[u16
 
 // Makes the molecule of round i.
 fn with_motif(line: &[u8], i: usize, call: usize, p: &[u8], pm: &[u16]) -> Asked {
-    let mut q = [0u8; 4097];
-    let mut qm = [0u16; 4097];
-    strands::make(line, 27, i, &mut q, &mut qm);
+    let mut q = [0u8; STRAND_ROOM];
+    let mut qm = [0u16; STRAND_ROOM];
+    let field = pairs::molecule(line);
+    strands::make(field, i, &mut q, &mut qm);
     with_pair(
         line,
         call,
         p,
         pm,
-        strands::bases_of(line, 27, &q),
-        strands::mates_of(line, 27, &qm),
+        strands::bases_of(field, &q),
+        strands::mates_of(field, &qm),
     )
 }
 
 // The call of round i.
 pub fn ask(line: &[u8], i: usize, call: usize) -> Asked {
-    let mut p = [0u8; 4097];
-    let mut pm = [0u16; 4097];
-    strands::make(line, 2, i, &mut p, &mut pm);
+    let mut p = [0u8; STRAND_ROOM];
+    let mut pm = [0u16; STRAND_ROOM];
+    let field = pairs::motif(line);
+    strands::make(field, i, &mut p, &mut pm);
     with_motif(
         line,
         i,
         call,
-        strands::bases_of(line, 2, &p),
-        strands::mates_of(line, 2, &pm),
+        strands::bases_of(field, &p),
+        strands::mates_of(field, &pm),
     )
 }

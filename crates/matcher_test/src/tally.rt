@@ -1,11 +1,11 @@
 // Counts of calls, and their report.
 use super::ask::Asked;
-use super::ask::Told;
 use testing::answer::first_of;
 use testing::answer::is_refused;
 use testing::answer::second_of;
 use testing::output::number;
 use testing::output::say;
+use testing::pairs;
 
 // How many calls were made, refused, answered with the whole motif or with no prefix; the arcs and the depths that they answered; how many were wrong.
 pub struct Tally {
@@ -56,19 +56,10 @@ pub fn report(t: Tally) {
     say(b"\n");
 }
 
-// A wrong call: its line, then the numbers that it answered.
-fn tell(line: &[u8], told: Told) {
-    say(b"wrong: ");
-    say(line);
-    number(b" gave ", told.got);
-    number(b" ", told.fold);
-    say(b"\n");
-}
-
 // The tally with one more call, which is told where it is wrong.
 pub fn judged(t: Tally, line: &[u8], a: Asked) -> Tally {
     if !a.right {
-        tell(line, a.told);
+        pairs::tell(line, a.told);
     }
     counted(t, a)
 }

@@ -21,7 +21,7 @@ use Rattle.rows.proofs.Parts.{part, back, part-length, part-at, back-under, bac
 use Rattle.arcs.proofs.Arcs.{heavy-left, room-any}
 use Rattle.placing.specs.declared.take.ArcTake.{ArcTake}
 use Rattle.placing.specs.Placing.{Takes, Taken, Ended, Laid, LaidBut, KeptAround, SecondRow}
-use Rattle.placing.proofs.Top.{window-low, window-high, window-best}
+use Rattle.placing.proofs.Top.{segment-low, segment-high, segment-best}
 use Rattle.placing.proofs.TakeLaws.{shift, no-base, taken, laid-none, laid-wide}
 
 module _ {p pm q qm : List ℕ} where
@@ -133,25 +133,25 @@ module _ {p pm q qm : List ℕ} where
             (λ o. g (t .to) (omega (arith, X .high)) o ∙ X .after (t .to) (omega arith) ∙ Q .here o);
       }
 
-  -- What an arc takes, from its inner row for all of the window.
-  pub taken-window : {j to s r : ℕ} {row : ℕ → ℕ} (t : ArcTake) → Setting p pm q qm j to → j < to → s < r → r < length q → nth qm s ≡ r
+  -- What an arc takes, from its inner row for all of the segment.
+  pub taken-segment : {j to s r : ℕ} {row : ℕ → ℕ} (t : ArcTake) → Setting p pm q qm j to → j < to → s < r → r < length q → nth qm s ≡ r
       → IsRow (lettersFit p q) (nth pm) (nth qm) j to to (s + 1) r row
       → Takes (matches p (nth q s)) (matches p (nth q r)) (nth pm) j to (row j) (row (j + 1)) t → Taken p pm q qm j to s r t
-  taken-window {j} {to} {s} {r} {row} t S jt sr rn arc A T =
+  taken-segment {j} {to} {s} {r} {row} t S jt sr rn arc A T =
       let A′ : IsRow (lettersFit p q) (nth pm) (nth qm) j to to (suc s) r row = rw (← (add-one s)) A in
       taken to s r S jt (omega arith) sr rn arc A
-      (rw (add-one r, add-one j) (arc-best (S .motif) (S .window .ends) (S .molecule) sr rn arc A′ j (omega arith) (omega arith) (λ a t. a))) t T
+      (rw (add-one r, add-one j) (arc-best (S .motif) (S .segment .ends) (S .molecule) sr rn arc A′ j (omega arith) (omega arith) (λ a t. a))) t T
 
-  -- The same, from its inner row for a window that is as long as the arc.
+  -- The same, from its inner row for a segment that is as long as the arc.
   pub taken-at : {j to : ℕ} {row : ℕ → ℕ} (z s r : ℕ) (t : ArcTake) → Setting p pm q qm j to → j < to → z ≡ min to (j + (r + 1 - s)) → s < r → r < length q
       → nth qm s ≡ r
       → IsRow (lettersFit p q) (nth pm) (nth qm) j z z (s + 1) r row
       → Takes (matches p (nth q s)) (matches p (nth q r)) (nth pm) j z (row j) (row (j + 1)) t → Taken p pm q qm j to s r t
   taken-at z s r t S jt e sr rn arc A T =
-      taken z s r S (window-low z s r S jt e sr rn arc) (window-high z s r S jt e sr rn arc) sr rn arc A (window-best z s r S jt e sr rn arc A) t T
+      taken z s r S (segment-low z s r S jt e sr rn arc) (segment-high z s r S jt e sr rn arc) sr rn arc A (segment-best z s r S jt e sr rn arc A) t T
 
 module _ {fit : ℕ → ℕ → Bool} {f g : ℕ → ℕ} where
-  -- All of the window is taken.
+  -- All of the segment is taken.
   all-taken : {t j k s e : ℕ} → Best fit f g t j k s e → Reach fit f g t j t s e → k ≡ t
   all-taken {t} B R = omega (arith, B .most t R, B .reach .upto)
 

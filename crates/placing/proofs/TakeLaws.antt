@@ -15,7 +15,7 @@ use Rattle.embedding.specs.Embedding.{Emb, lettersFit}
 use Rattle.embedding.specs.Row.{Closed, Split, Best, IsRow, unitAt, overAt, arcAt, overBy}
 use Rattle.embedding.proofs.Splitting.{restrict, agree, join}
 use Rattle.embedding.proofs.Arc.{inner-closed, upon-arc}
-use Rattle.embedding.proofs.Window.{cut-to}
+use Rattle.embedding.proofs.Segment.{cut-to}
 use Rattle.embedding.proofs.Rows.{before-right, row-from}
 use Rattle.placing.specs.declared.take.ArcTake.{ArcTake}
 use Rattle.rows.specs.Rows.{Tables, matches}
@@ -52,7 +52,7 @@ over-known {p} {pm} x y z next j o a b P e =
     e ∙ ap (λ (d : ℕ). overBy (lettersMatch (nth p j) x) (lettersMatch d y) (nth pm j) z next j) (P .letter j (omega arith))
     ∙ by-over (matches p x) (matches p y) (nth pm) z next j a
 
--- The position after the span inside is one of the window.
+-- The position after the span inside is one of the segment.
 pub takes-end : {left right : ℕ → Bool} {pm : ℕ → ℕ} {z j here next : ℕ} (t : ArcTake) → Takes left right pm j z here next t → t .to < t .next → t .to < z
 takes-end t (upon a b d x y w) h = d
 takes-end t (left-end a b d) h = absurd (omega arith)
@@ -83,7 +83,7 @@ module _ {fit : ℕ → ℕ → Bool} {f g : ℕ → ℕ} where
         arcs = λ x y a b d. absurd (omega arith);
       }
 
--- What an arc takes, from its inner row for a narrower window that the arc does not fill, or for all of the window.
+-- What an arc takes, from its inner row for a narrower segment that the arc does not fill, or for all of the segment.
 module _ {p pm q qm : List ℕ} {j to : ℕ} (z l r : ℕ) (S : Setting p pm q qm j to) (jz : j < z) (zt : z ≤ to)
     (lr : l < r) (rn : r < length q) (arc : nth qm l ≡ r) {row : ℕ → ℕ} (A : IsRow (lettersFit p q) (nth pm) (nth qm) j z z (l + 1) r row)
     (best : Best (lettersFit p q) (nth pm) (nth qm) to j (arcAt (matches p (nth q l)) (matches p (nth q r)) (nth pm) z (row j) (row (j + 1)) j) l (r + 1)) where
@@ -96,7 +96,7 @@ module _ {p pm q qm : List ℕ} {j to : ℕ} (z l r : ℕ) (S : Setting p pm q q
   split-right : Split (nth qm) (l + 1) r (r + 1)
   split-right u a b d =
       let A′ : IsRow (lettersFit p q) (nth pm) (nth qm) j z z (suc l) r row = rw (← (add-one l)) A in
-      omega (arith, before-right {z = z} (S .motif) (omega (arith, zt, S .window .ends)) (S .molecule) lr rn arc A′ u (omega arith) b d)
+      omega (arith, before-right {z = z} (S .motif) (omega (arith, zt, S .segment .ends)) (S .molecule) lr rn arc A′ u (omega arith) b d)
 
   taken-inside : overAt (matches p (nth q l)) (matches p (nth q r)) (nth pm) z (row (j + 1)) j ≤ unitAt (matches p (nth q r)) (nth pm) z (row j)
       → Taken p pm q qm j to l r (record { from = j; to = row j; next = unitAt (matches p (nth q r)) (nth pm) z (row j) })
@@ -164,7 +164,7 @@ module _ {p pm q qm : List ℕ} {j to : ℕ} (z l r : ℕ) (S : Setting p pm q q
         inner = record {
           from = omega arith;
           upto = omega arith;
-          closed = λ x a b. inner-closed (S .motif) j (omega (arith, S .window .ends)) up x (omega arith) b;
+          closed = λ x a b. inner-closed (S .motif) j (omega (arith, S .segment .ends)) up x (omega arith) b;
           embeds = (
             A .best (j + 1) (omega arith) (omega (arith, jz)) .reach .embeds .0,
             restrict (j + 1) (nth pm j) (l + 1) r (omega arith) fit (omega arith) (omega arith)
@@ -173,7 +173,7 @@ module _ {p pm q qm : List ℕ} {j to : ℕ} (z l r : ℕ) (S : Setting p pm q q
         };
         lay = λ h E el er.
             shift j (nth pm j + 1) l (r + 1) refl (omega arith) refl (omega arith)
-            (upon-arc (S .motif) (S .molecule) j l r (omega (arith, S .window .ends)) up lr rn arc (sym (el (omega arith))) (sym (er (omega arith))) tl tr
+            (upon-arc (S .motif) (S .molecule) j l r (omega (arith, S .segment .ends)) up lr rn arc (sym (el (omega arith))) (sym (er (omega arith))) tl tr
             (shift (suc j) (nth pm j) (suc l) r (omega arith) refl (omega arith) refl E));
       }
 

@@ -11,18 +11,18 @@ use Rattle.strand.specs.Strands.{Nested}
 use Rattle.embedding.specs.Embedding.{lettersFit}
 use Rattle.embedding.specs.Row.{Best, IsRow, unitAt, arcAt}
 use Rattle.embedding.proofs.Recurrence.{later, empty, combine}
-use Rattle.embedding.proofs.Window.{widen}
+use Rattle.embedding.proofs.Segment.{widen}
 use Rattle.embedding.proofs.Rows.{unit-best, arc-best}
 use Rattle.rows.specs.Rows.{matches}
 use Rattle.arcs.specs.Arcs.{Setting, Sealed}
 use Rattle.arcs.proofs.Arcs.{seal-on}
 use Rattle.placing.specs.Placing.{Walked}
 
--- A window within a window.
+-- A segment within a segment.
 pub narrow : {p pm q qm : List ℕ} {from to : ℕ} (a z : ℕ) → Setting p pm q qm from to → a ≤ z → z ≤ length p → Setting p pm q qm a z
 narrow a z S h g =
     record {
-      window = record { same = S .window .same; small = S .window .small; order = h; ends = g };
+      segment = record { same = S .segment .same; small = S .segment .small; order = h; ends = g };
       motif = S .motif;
       equal = S .equal;
       short = S .short;
@@ -53,28 +53,28 @@ module _ {fit : ℕ → ℕ → Bool} {f g : ℕ → ℕ} {m : ℕ} where
   pub best-end : {j k lo s e : ℕ} → s ≤ e → e ≤ s → Best fit f g m j k lo s → Best fit f g m j k lo e
   best-end {j} {k} {lo} {s} {e} a b B = let i : s ≡ e = omega arith in rw i at B
 
--- An arc's entry in a window that is as long as the arc.
+-- An arc's entry in a segment that is as long as the arc.
 module _ {p pm q qm : List ℕ} {j to : ℕ} (z l r : ℕ) (S : Setting p pm q qm j to) (jt : j < to) (e : z ≡ min to (j + (r + 1 - l)))
     (lr : l < r) (rn : r < length q) (arc : nth qm l ≡ r) where
-  pub window-low : j < z
-  window-low = omega arith
+  pub segment-low : j < z
+  segment-low = omega arith
 
-  pub window-high : z ≤ to
-  window-high = omega arith
+  pub segment-high : z ≤ to
+  segment-high = omega arith
 
-  pub window-of : Setting p pm q qm j z
-  window-of = narrow j z S (omega (arith, window-low)) (omega (arith, window-high, S .window .ends))
+  pub segment-of : Setting p pm q qm j z
+  segment-of = narrow j z S (omega (arith, segment-low)) (omega (arith, segment-high, S .segment .ends))
 
   module _ {row : ℕ → ℕ} (A : IsRow (lettersFit p q) (nth pm) (nth qm) j z z (l + 1) r row) where
     inner : IsRow (lettersFit p q) (nth pm) (nth qm) j z z (suc l) r row
     inner = rw (← (add-one l)) A
 
-    pub window-best : Best (lettersFit p q) (nth pm) (nth qm) to j (arcAt (matches p (nth q l)) (matches p (nth q r)) (nth pm) z (row j) (row (j + 1)) j) l
+    pub segment-best : Best (lettersFit p q) (nth pm) (nth qm) to j (arcAt (matches p (nth q l)) (matches p (nth q r)) (nth pm) z (row j) (row (j + 1)) j) l
         (r + 1)
-    window-best =
+    segment-best =
         rw (add-one r, add-one j)
-        (widen window-high (λ h. omega arith)
-        (arc-best (S .motif) (omega (arith, window-high, S .window .ends)) (S .molecule) lr rn arc inner j (omega arith) (omega (arith, window-low))
+        (widen segment-high (λ h. omega arith)
+        (arc-best (S .motif) (omega (arith, segment-high, S .segment .ends)) (S .molecule) lr rn arc inner j (omega arith) (omega (arith, segment-low))
         (λ a t. a)))
 
 module _ {p pm q qm : List ℕ} {to from lo hi : ℕ} where

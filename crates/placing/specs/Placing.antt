@@ -18,7 +18,7 @@ pub record Walked (p pm q qm : List ℕ) (to from lo hi j i : ℕ) : Type 0 wher
   pub seal : Sealed qm lo i
   pub best : Best (lettersFit p q) (nth pm) (nth qm) to from j lo i
 
--- What an arc can take of the window P[from..to): an arc of P upon it; a position with its left end; or nothing with its left end, and one with its right end
+-- What an arc can take of the segment P[from..to): an arc of P upon it; a position with its left end; or nothing with its left end, and one with its right end
 -- where that is taken.
 pub data Takes (left right : ℕ → Bool) (pm : ℕ → ℕ) (from to here next : ℕ) : ArcTake → Type 0 where
   upon : left from ≡ true → from < pm from → pm from < to → right (pm from) ≡ true → pm from ≤ next → unitAt right pm to here ≤ pm from
@@ -61,7 +61,7 @@ pub record Laid (p pm q qm : List ℕ) (from to lo hi : ℕ) (old new : List ℕ
   pub after : (x : ℕ) → to ≤ x → nth new x ≡ nth old x
   pub embeds : Emb (lettersFit p q) (nth pm) (nth qm) from to lo hi (nth new)
 
--- The first row of the work slice is the row inside the kept arc, whose left end is `kept`, for a window around P[from..to). No arc is kept where `kept` is
+-- The first row of the work slice is the row inside the kept arc, whose left end is `kept`, for a segment around P[from..to). No arc is kept where `kept` is
 -- the length of Q.
 pub record KeptAround (p pm q qm : List ℕ) (from to kept : ℕ) (work : List ℕ) : Type 0 where
   pub wide-from : ℕ
@@ -71,7 +71,7 @@ pub record KeptAround (p pm q qm : List ℕ) (from to kept : ℕ) (work : List �
   pub ends : wide-to ≤ length p
   pub first-row : KeptRow p pm q qm wide-from wide-to kept work
 
--- Past the first row of the work slice, which is as before, is the row inside the arc (l, r) for the window P[from..to).
+-- Past the first row of the work slice, which is as before, is the row inside the arc (l, r) for the segment P[from..to).
 pub record SecondRow (p pm q qm : List ℕ) (from to l r : ℕ) (old new : List ℕ) : Type 0 where
   pub under : (k : ℕ) → k < length p + 1 → nth new k ≡ nth old k
   pub row : IsRow (lettersFit p q) (nth pm) (nth qm) from to to (l + 1) r (λ k. nth new (length p + 1 + k))
@@ -134,7 +134,7 @@ pub record LaidBut (p pm q qm : List ℕ) (from to lo hi a b s e : ℕ) (old new
   pub embeds : (h : ℕ → ℕ) → ((x : ℕ) → from ≤ x → x < a → h x ≡ nth new x) → ((x : ℕ) → b ≤ x → x < to → h x ≡ nth new x)
       → Emb (lettersFit p q) (nth pm) (nth qm) a b s e h → Emb (lettersFit p q) (nth pm) (nth qm) from to lo hi h
 
--- What the walk asks at the arc (l, r) that is the kept arc or holds it, for the closed window P[from..to).
+-- What the walk asks at the arc (l, r) that is the kept arc or holds it, for the closed segment P[from..to).
 pub record AtArc (p pm q qm : List ℕ) (from to l r kept places : ℕ) (work tables : List ℕ) : Type 0 where
   pub setting : Setting p pm q qm from to
   pub closed : (from < to) × Closed (nth pm) from to

@@ -47,7 +47,7 @@ fn lower(qm: &[u16], l: usize, kept: usize) -> usize
 }
 
 // The innermost arc of the path from l to the kept arc that halves the bases of l..hi outside of the kept arc, or l where there is none. Where no arc is kept,
-// and the arc from l is much shorter than the motif's window, which has `bases` bases, l too: rows for its own window cost less.
+// and the arc from l is much shorter than the motif's segment, which has `bases` bases, l too: rows for its own segment cost less.
 pub fn middle(qm: &[u16], bases: usize, l: usize, hi: usize, kept: usize) -> usize
     requires { ⌜ Nested (nth (now qm)) (length (now qm)) ⌝ }
     requires { ⌜ (l < hi) × ((hi ≤ length (now qm)) × (l < nth (now qm) l)) ⌝ }
@@ -72,7 +72,7 @@ pub fn middle(qm: &[u16], bases: usize, l: usize, hi: usize, kept: usize) -> usi
     mid
 }
 
-// Leaves the row inside the arc l, r for the window from..to past the first row of work.
+// Leaves the row inside the arc l, r for the segment from..to past the first row of work.
 pub fn keep(
     p: &[u8],
     pm: &[u16],

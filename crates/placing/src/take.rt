@@ -10,7 +10,7 @@ ghost use Rattle.rows.specs.Rows.{Tables, matches};
 ghost use Rattle.arcs.specs.Arcs.{Setting, AllStarts};
 ghost use Rattle.placing.specs.Placing.{Takes, Taken, PlacePut, Ended, KeptAround};
 
-// What an arc l, r takes of a window of the motif: the span from..to goes inside it, the position before it to l if that is one of the window, the one
+// What an arc l, r takes of a segment of the motif: the span from..to goes inside it, the position before it to l if that is one of the segment, the one
 // after it to r if next is past `to`.
 pub struct ArcTake {
     pub from: usize,
@@ -18,7 +18,7 @@ pub struct ArcTake {
     pub next: usize,
 }
 
-// What an arc with the bases x and y takes of the window from..to, from its inner row's entries for `from` and from + 1.
+// What an arc with the bases x and y takes of the segment from..to, from its inner row's entries for `from` and from + 1.
 fn choose_take(
     p: &[u8],
     pm: &[u16],
@@ -61,7 +61,7 @@ fn choose_take(
     }
 }
 
-// What the arc l, r takes of the window from..to, from its inner row's entries for `from` and from + 1: the places of the arc's ends are written.
+// What the arc l, r takes of the segment from..to, from its inner row's entries for `from` and from + 1: the places of the arc's ends are written.
 fn write_take(
     p: &[u8],
     pm: &[u16],
@@ -88,7 +88,7 @@ fn write_take(
     t
 }
 
-// What the arc l, r takes of the window from..to: the places of the arc's ends are written.
+// What the arc l, r takes of the segment from..to: the places of the arc's ends are written.
 pub fn take_at(
     p: &[u8],
     pm: &[u16],
@@ -127,7 +127,7 @@ pub fn take_at(
     )
 }
 
-// As `take_at`, where the window is closed and the arc is the kept arc or holds it: the inner row is made from the kept one, which stays.
+// As `take_at`, where the segment is closed and the arc is the kept arc or holds it: the inner row is made from the kept one, which stays.
 pub fn take_kept(
     p: &[u8],
     pm: &[u16],

@@ -1,4 +1,4 @@
--- The passes that close an arc over a long window: what each writes beside the row, and that together they make the row of the arc.
+-- The passes that close an arc over a long segment: what each writes beside the row, and that together they make the row of the arc.
 use mathlib.Core.Path.{_≡_, sym, ap, ap₂, _∙_}
 use mathlib.Core.Bool.{Bool}
 use mathlib.Core.List.{List}

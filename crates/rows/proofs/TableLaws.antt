@@ -1,4 +1,4 @@
--- The tables of a motif: where the row of a base starts, that the passes which fill the tables make them, and what a base's row says in a window that
+-- The tables of a motif: where the row of a base starts, that the passes which fill the tables make them, and what a base's row says in a segment that
 -- ends before the motif does.
 use mathlib.Core.Path.{_≡_, refl, sym, ap, subst, _∙_}
 use mathlib.Core.Bool.{Bool, true, false, _||_}
@@ -18,7 +18,7 @@ use Rattle.embedding.specs.Row.{unitAt}
 use Rattle.rows.specs.Rows.{Written, Tables, Steps, stepsAt, matches}
 use Rattle.rows.proofs.Pass.{pass-end}
 use Rattle.rows.proofs.Parts.{part, part-at, part-length}
-use Rattle.embedding.proofs.Entries.{unit-end, unit-small, unit-from, unit-next, unit-window}
+use Rattle.embedding.proofs.Entries.{unit-end, unit-small, unit-from, unit-next, unit-segment}
 
 -- The four letters.
 by-letter : (P : ℕ → Type 0) (side b : ℕ) → isLetter side b ≡ true → P 65 → P 67 → P 71 → P 85 → P b
@@ -55,7 +55,7 @@ module _ (m : ℕ) where
   unfolding stepsAt
   steps-G = omega arith
 
--- The row of the base b, as the part of the tables from its start on, in a window that ends at `to`.
+-- The row of the base b, as the part of the tables from its start on, in a segment that ends at `to`.
 module _ (p pm tables : List ℕ) (b at to : ℕ) (T : Tables p pm tables) (L : isLetter moleculeSide b ≡ true) (e : at ≡ stepsAt (length p) b)
     (le : to ≤ length p) where
   room : at + length p < length tables
@@ -72,7 +72,7 @@ module _ (p pm tables : List ℕ) (b at to : ℕ) (T : Tables p pm tables) (L : 
   }
 
   pub step-unit : (j : ℕ) → j < to → nth (part at tables) j ≡ unitAt (matches p b) (nth pm) to j
-  step-unit j h = entry j (omega arith) ∙ unit-window (matches p b) (nth pm) (length p) j to h le
+  step-unit j h = entry j (omega arith) ∙ unit-segment (matches p b) (nth pm) (length p) j to h le
 
   pub step-capped : (j : ℕ) → j ≤ to → min (nth (part at tables) j) to ≡ unitAt (matches p b) (nth pm) to j
   step-capped j h = elim (decLt j to) [

@@ -1,4 +1,4 @@
--- Only the contracts and laws of this crate and of those above it that search need this file: windows, what a pass over a row writes, and the tables of a
+-- Only the contracts and laws of this crate and of those above it that search need this file: segments, what a pass over a row writes, and the tables of a
 -- motif.
 use Prim.Native.Nat.{ℕ, _+_, _*_, _/_, _%_, _≤_, _<_, min}
 use mathlib.Core.Path.{_≡_}
@@ -10,9 +10,9 @@ use Rattle.strand.specs.Strands.{isLetter, lettersMatch}
 use Rattle.refusals.specs.Rules.{moleculeSide}
 use Rattle.embedding.specs.Row.{unitAt}
 
--- A window P[from..to) of the motif. A row has an entry for each start from `from` to its last one, which is `to` or less, at that index of its stretch of
+-- A segment P[from..to) of the motif. A row has an entry for each start from `from` to its last one, which is `to` or less, at that index of its stretch of
 -- the work slice.
-pub record Window (p pm : List ℕ) (from to : ℕ) : Type 0 where
+pub record Segment (p pm : List ℕ) (from to : ℕ) : Type 0 where
   pub same : length pm ≡ length p
   pub small : length p ≤ 4096
   pub order : from ≤ to
@@ -56,6 +56,6 @@ pub record Steps (steps : List ℕ) (to : ℕ) : Type 0 where
 unfoldable pub boundAt : ℕ → List ℕ → ℕ → ℕ
 boundAt m tables i = nth tables (5 * (m + 1) + i)
 
--- The last start of the rows of stretches that begin at base i, in a window that ends at `to`.
+-- The last start of the rows of stretches that begin at base i, in a segment that ends at `to`.
 abbrev pub lastAt : ℕ → List ℕ → ℕ → ℕ → ℕ
 lastAt m tables to i = min to (boundAt m tables i)

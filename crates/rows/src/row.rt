@@ -1,4 +1,4 @@
-// The row operations. A row for the motif's window from..to has an entry for each start from `from` to `last`, which is `to` or less, at that index of the
+// The row operations. A row for the motif's segment from..to has an entry for each start from `from` to `last`, which is `to` or less, at that index of the
 // slice that the operation borrows; a second row starts `at` entries further on. The bodies of the loops are functions of values, with early returns: the
 // compiler makes vector code of them.
 use crate::tables;
@@ -11,7 +11,7 @@ ghost use mathlib.Core.Bool.{true};
 ghost use Rattle.strand.specs.Strands.{isLetter, lettersMatch};
 ghost use Rattle.refusals.specs.Rules.{moleculeSide};
 ghost use Rattle.embedding.specs.Row.{unitAt, overAt, arcAt, overBy};
-ghost use Rattle.rows.specs.Rows.{Window, Written, Remade, Tables, Steps, matches};
+ghost use Rattle.rows.specs.Rows.{Segment, Written, Remade, Tables, Steps, matches};
 
 // The larger and the smaller of two entries.
 fn larger(a: u16, b: u16) -> u16
@@ -26,7 +26,7 @@ fn smaller(a: u16, b: u16) -> u16
     if a < b { a } else { b }
 }
 
-// Where the loops over the starts from `from` to `last` end that leave the window's end `to` out.
+// Where the loops over the starts from `from` to `last` end that leave the segment's end `to` out.
 fn end_of(last: usize, to: usize) -> usize
     ensures { λ r. ⌜ r ≡ min (last + 1) to ⌝ }
 {
@@ -79,7 +79,7 @@ pub fn extend(
     b: u8,
     row: &mut [u16],
 )
-    requires { ⌜ Window (now p) (now pm) from to ⌝ }
+    requires { ⌜ Segment (now p) (now pm) from to ⌝ }
     requires { ⌜ (from ≤ last) × (last ≤ to) ⌝ }
     requires { ⌜ Tables (now p) (now pm) (now tables) ⌝ }
     requires { ⌜ isLetter moleculeSide b ≡ true ⌝ }
@@ -105,7 +105,7 @@ fn copy_steps(steps: &[u16], from: usize, end: usize, row: &mut [u16])
     }
 }
 
-// The row of the unbonded base b (003: initialize). Of its entries in the tables only the one for `to` may be past the window.
+// The row of the unbonded base b (003: initialize). Of its entries in the tables only the one for `to` may be past the segment.
 pub fn single(
     p: &[u8],
     pm: &[u16],
@@ -116,7 +116,7 @@ pub fn single(
     b: u8,
     row: &mut [u16],
 )
-    requires { ⌜ Window (now p) (now pm) from to ⌝ }
+    requires { ⌜ Segment (now p) (now pm) from to ⌝ }
     requires { ⌜ (from ≤ last) × (last ≤ to) ⌝ }
     requires { ⌜ Tables (now p) (now pm) (now tables) ⌝ }
     requires { ⌜ isLetter moleculeSide b ≡ true ⌝ }
@@ -144,7 +144,7 @@ pub fn combine(from: usize, last: usize, first: usize, then: usize, row: &mut [u
     }
 }
 
-// Writes at `at` the row for the window that ends at `to`: no entry goes past it.
+// Writes at `at` the row for the segment that ends at `to`: no entry goes past it.
 pub fn cut(from: usize, to: usize, at: usize, row: &mut [u16])
     requires { ⌜ (from ≤ to) × ((to ≤ 4096) × ((to < at) × (at + to < length (now row)))) ⌝ }
     ensures { λ _. ⌜ Written (λ k. min (nth (now (row .entry)) (k - at)) to) (now (row .entry)) (now (row .exit)) (at + from) (at + to + 1) ⌝ }
@@ -156,7 +156,7 @@ pub fn cut(from: usize, to: usize, at: usize, row: &mut [u16])
     }
 }
 
-// Where an unbonded base y takes the motif's window from..to: from + 1 or `from`.
+// Where an unbonded base y takes the motif's segment from..to: from + 1 or `from`.
 pub fn unit(p: &[u8], pm: &[u16], from: usize, to: usize, y: u8) -> usize
     requires { ⌜ (length (now pm) ≡ length (now p)) × (to ≤ length (now p)) ⌝ }
     ensures { λ r. ⌜ r ≡ unitAt (matches (now (p .entry)) y) (nth (now (pm .entry))) to from ⌝ }
@@ -244,7 +244,7 @@ fn over(
     at: usize,
     row: &mut [u16],
 )
-    requires { ⌜ Window (now p) (now pm) from to ⌝ }
+    requires { ⌜ Segment (now p) (now pm) from to ⌝ }
     requires { ⌜ Tables (now p) (now pm) (now tables) ⌝ }
     requires { ⌜ (from ≤ end) × ((end ≤ to) × ((to < at) × ((at ≤ 4097) × (at + to < length (now row))))) ⌝ }
     ensures { λ _. ⌜ Written (λ k. overAt (matches (now (p .entry)) x) (matches (now (p .entry)) y) (nth (now (pm .entry))) to
@@ -322,7 +322,7 @@ fn close_short(
     y: u8,
     row: &mut [u16],
 )
-    requires { ⌜ Window (now p) (now pm) from to ⌝ }
+    requires { ⌜ Segment (now p) (now pm) from to ⌝ }
     requires { ⌜ Tables (now p) (now pm) (now tables) ⌝ }
     requires { ⌜ Steps (now steps) to ⌝ }
     requires { ⌜ (from ≤ end) × ((end ≤ to) × (to < length (now row))) ⌝ }
@@ -368,7 +368,7 @@ pub fn close_arc(
     y: u8,
     row: &mut [u16],
 )
-    requires { ⌜ Window (now p) (now pm) from to ⌝ }
+    requires { ⌜ Segment (now p) (now pm) from to ⌝ }
     requires { ⌜ (from ≤ last) × (last ≤ to) ⌝ }
     requires { ⌜ Tables (now p) (now pm) (now tables) ⌝ }
     requires { ⌜ isLetter moleculeSide y ≡ true ⌝ }

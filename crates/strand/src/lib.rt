@@ -94,7 +94,7 @@ pub fn check(bases: &[u8], mates: &[u16]) -> Checked
     Checked::Nested(depth::fold_of(mates))
 }
 
-// What length, show and verify refuse first: the motif, then the molecule.
+// What length, show, window and verify refuse first: the motif, then the molecule.
 pub fn check_pair(p: &[u8], pm: &[u16], q: &[u8], qm: &[u16]) -> Verdict
     ensures { λ r. ⌜ r ≡ pairVerdict (now (p .entry)) (now (pm .entry)) (now (q .entry)) (now (qm .entry)) ⌝ }
 {

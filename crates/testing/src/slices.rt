@@ -1,5 +1,8 @@
 // Entries and parts of slices, for every index and every length.
 
+// What slices are filled with before a call that may write them; no position.
+pub const FILL: u16 = 51966;
+
 // The byte at i, and 0 past the end.
 pub fn byte_at(s: &[u8], i: usize) -> usize {
     if i < s.len() {
@@ -55,6 +58,18 @@ pub fn first(s: &[u16], n: usize) -> &[u16] {
         return s;
     }
     &s[from..n]
+}
+
+// No entry from a place on is changed in a slice that was filled with FILL.
+pub fn untouched(s: &[u16], from: usize) -> bool {
+    let mut i = from;
+    while i < s.len() {
+        if s[i] != FILL {
+            return false;
+        }
+        i += 1;
+    }
+    true
 }
 
 // A sum below 2 ^ 32, one number further on. Every number counts: one other changes the sum.

@@ -98,7 +98,7 @@ fn place_arc(
     t.next
 }
 
-// What the arc l, r, which is the kept arc or holds it, takes of the window from..to, and the span of it that falls inside the kept arc: all else is placed.
+// What the arc l, r, which is the kept arc or holds it, takes of the segment from..to, and the span of it that falls inside the kept arc: all else is placed.
 fn enter(
     p: &[u8],
     pm: &[u16],
@@ -219,7 +219,7 @@ fn along(
     )
 }
 
-// Writes the places of the window from..to of the motif, which embeds in lo..hi, all but those of the span that falls inside the kept arc, and gives that
+// Writes the places of the segment from..to of the motif, which embeds in lo..hi, all but those of the span that falls inside the kept arc, and gives that
 // span.
 fn descend(
     p: &[u8],

@@ -1,5 +1,5 @@
 //! Times the library against plain Rust (tests/compare/plain) and plain C (benches/peers) on the same inputs in one run, all at optimization level 3, and
-//! prints tables and the goals. `cargo bench --features c-peers`; words after `--` choose the tables: length, show, soundness, query.
+//! prints tables and the goals. `cargo bench --features c-peers`; words after `--` choose the tables: length, window, show, soundness, query.
 #[allow(dead_code)]
 #[path = "../../tests/compare/make.rs"]
 mod make;
@@ -12,16 +12,18 @@ mod plain;
 mod random;
 mod timing;
 
-use lakhido::{BLOCK, BLOCKS_MOST, MOLECULE_MOST, MOTIF_MOST, SLOTS_MOST};
+use lakhido::{BLOCK, BLOCKS_MOST, MOLECULE_MOST, MOST, MOTIF_MOST, SLOTS_MOST};
 use peers::By;
 use plain::block::{self, Owned};
 use plain::calls;
 use plain::strand::{Fold, Strand, fold_of};
+use plain::windows::{Window, cut_out};
 use random::Random;
 use timing::{TURNS, Version, least};
 
 const SEED: u64 = 20;
 const SIZES: [(usize, usize); 5] = [(160, 20), (160, 120), (1500, 200), (4096, 512), (4096, 4096)];
+const WINDOW_SIZES: [(usize, usize); 4] = [(160, 20), (160, 60), (1500, 100), (4096, 512)];
 const SHAPES: [&str; 5] = ["no arcs", "random fold", "stem", "comb", "balanced"];
 
 fn fold(r: &mut Random, shape: &str, n: usize) -> Vec<u16> {
@@ -46,7 +48,8 @@ struct Case {
     q: Owned,
 }
 
-fn cases(sizes: &[(usize, usize)]) -> Vec<Case> {
+/// The cases of every shape and these sizes; `taken` takes a motif of m bases out of a molecule.
+fn cases(sizes: &[(usize, usize)], taken: fn(&mut Random, &Owned, usize) -> Owned) -> Vec<Case> {
     let mut r = Random::new(SEED);
     let mut cases = Vec::new();
     for shape in SHAPES {
@@ -55,10 +58,17 @@ fn cases(sizes: &[(usize, usize)]) -> Vec<Case> {
             if n != m {
                 cases.push(Case { shape, motif: "unrelated", p: strand(&mut r, shape, m), q: q.clone() });
             }
-            cases.push(Case { shape, motif: "embeds", p: make::taken_out(&mut r, &q, m), q });
+            cases.push(Case { shape, motif: "embeds", p: taken(&mut r, &q, m), q });
         }
     }
     cases
+}
+
+/// A motif taken out of a stretch in the middle of the molecule, two to three times as long as the motif, so that a window of no more bases carries it.
+fn taken_near(r: &mut Random, q: &Owned, m: usize) -> Owned {
+    let n = q.bases.len();
+    let width = r.between(2 * m, n.min(3 * m));
+    make::taken_out(r, &cut_out(q.lend(), Window { start: (n - width) / 2, length: width }), m)
 }
 
 /// The rows of a table that miss a goal.
@@ -121,17 +131,17 @@ fn lengths() {
     print_head("shape | n | m | motif | L | checks | library | C, 003's rows | C, same algorithm | Rust, 003's rows | / C rows | / C same | / Rust");
     let mut by_rows = Goal::new("length / C of 003's rows", 0.5);
     let mut by_same = Goal::new("length / C of the same algorithm", 1.05);
-    for Case { shape, motif, p, q } in cases(&SIZES) {
+    for Case { shape, motif, p, q } in cases(&SIZES, make::taken_out) {
         let (p, q) = (p.lend(), q.lend());
         let size = lakhido::work_size(p.len(), q.len());
-        let (mut ours, mut rows, mut windows) = (vec![0; size], vec![0; size], vec![0; size]);
+        let (mut ours, mut rows, mut segments) = (vec![0; size], vec![0; size], vec![0; size]);
         let fold = fold_of(q.mates);
         let versions: Vec<Version> = vec![
             Box::new(move || told(lakhido::length(lent(p), lent(q), &mut ours), fold)),
             // SAFETY: the strands are valid: the first version, which is called first, panics on others.
             Box::new(move || unsafe { peers::rows_length(p, q, &mut rows) }),
             Box::new(move || {
-                let (length, counted) = peers::windows_length(p, q, &mut windows).expect("valid strands");
+                let (length, counted) = peers::segments_length(p, q, &mut segments).expect("valid strands");
                 assert_eq!(counted, fold);
                 length
             }),
@@ -160,6 +170,68 @@ fn told(answer: Result<lakhido::Matched, lakhido::Refusal>, fold: Fold) -> usize
     found.length
 }
 
+/// A window, or none, as one number by which the versions are compared: a window has a base.
+fn number(window: Option<lakhido::Window>) -> usize {
+    window.map_or(0, |w| w.start * (MOST + 1) + w.length)
+}
+
+/// The window that an accepted call answers, as a number; its fold must be this.
+fn told_window(answer: Result<lakhido::Windowed, lakhido::Refusal>, fold: Fold) -> usize {
+    let found = answer.expect("accepted");
+    assert_eq!((found.fold.arcs, found.fold.depth), (fold.arcs, fold.depth));
+    number(found.window)
+}
+
+/// The library's window, that of C, and the library's length, which must tell by the whole motif whether there is a window.
+fn window_versions<'a>(p: Strand<'a>, q: Strand<'a>) -> Vec<Version<'a>> {
+    let size = lakhido::work_size(p.len(), q.len());
+    let (mut ours, mut of_c, mut other) = (vec![0; size], vec![0; size], vec![0; size]);
+    let fold = fold_of(q.mates);
+    let found = told_window(lakhido::window(lent(p), lent(q), &mut ours), fold);
+    vec![
+        Box::new(move || told_window(lakhido::window(lent(p), lent(q), &mut ours), fold)),
+        Box::new(move || {
+            let (window, counted) = peers::window_tightest(p, q, &mut of_c).expect("valid strands");
+            assert_eq!(counted, fold);
+            number(window)
+        }),
+        Box::new(move || {
+            let length = told(lakhido::length(lent(p), lent(q), &mut other), fold);
+            assert_eq!(length == p.len(), found != 0);
+            found
+        }),
+    ]
+}
+
+fn windows() {
+    println!(
+        "\n### Window\n\nMicroseconds; the work slice is not cleared before a call, by either version. A motif that embeds is taken out of a stretch of 2 m to"
+    );
+    println!(
+        "3 m bases in the middle of the molecule. Both versions check both strands first and count the molecule's arcs and depth. The column checks is"
+    );
+    println!(
+        "the library's part for the two checks alone (a call with no work slice, which is refused after them). The last column of times is the library's"
+    );
+    println!("length, timed in the same turns.");
+    print_head("shape | n | m | motif | start | length | checks | library | C, same algorithm | library's length | / C same | / length");
+    let mut goal = Goal::new("window / C of the same algorithm", 1.1);
+    for Case { shape, motif, p, q } in cases(&WINDOW_SIZES, taken_near) {
+        let (p, q) = (p.lend(), q.lend());
+        let row = format!("{shape} ({}, {}) {motif}", q.len(), p.len());
+        let checks: Version = Box::new(move || lakhido::window(lent(p), lent(q), &mut []).expect_err("refused").reason.number() as usize);
+        let checks = microseconds(least(&row, vec![checks]).1[0]);
+        let (found, times) = least(&format!("window, {row}"), window_versions(p, q));
+        let [start, length] = match found {
+            0 => ["none".into(), "none".into()],
+            _ => [found / (MOST + 1), found % (MOST + 1)].map(|x| x.to_string()),
+        };
+        print_row(&[shape.into(), q.len().to_string(), p.len().to_string(), motif.into(), start, length, checks], &times);
+        goal.hold(&row, times[0] / times[1]);
+    }
+    goal.told();
+}
+
 fn shows() {
     println!(
         "\n### Show\n\nMicroseconds; no buffer is cleared before a call. The library works in its work slice of 64 (m + 1) + 8 n numbers; the C and Rust versions keep a table of"
@@ -170,7 +242,7 @@ fn shows() {
     println!("The last column of times is the library's length, timed in the same turns.");
     print_head("shape | n | m | motif | L | library | C, table | Rust, table | length | / C table | / Rust table | / length");
     let mut goal = Goal::new("show / length", 6.0);
-    for Case { shape, motif, p, q } in cases(&SIZES) {
+    for Case { shape, motif, p, q } in cases(&SIZES, make::taken_out) {
         let (p, q) = (p.lend(), q.lend());
         let size = lakhido::work_size(p.len(), q.len());
         let (mut work, mut other) = (vec![0; size], vec![0; size]);
@@ -274,7 +346,7 @@ fn query_versions<'a>(catalog: &'a [u8], p: Strand<'a>, cold: bool) -> Vec<Versi
             sum(found.count, found.searched, &hits)
         }),
         of_c(By::Rows),
-        of_c(By::Windows),
+        of_c(By::Segments),
         Box::new(move || {
             clear(&mut cache2);
             let (count, searched) = calls::query(catalog, &mut cache2, p, size, &mut hits2).expect("accepted");
@@ -291,7 +363,7 @@ fn queries() {
     print_head("shape | m | motif | cache | library | C, 003's rows | C, same algorithm | Rust, 003's rows | / C rows | / C same | / Rust");
     let mut by_rows = Goal::new("cold query / C of 003's rows", 1.0);
     let mut by_same = Goal::new("cold query / C of the same algorithm", 0.95);
-    for Case { shape, motif, p, q } in cases(&SIZES[..2]) {
+    for Case { shape, motif, p, q } in cases(&SIZES[..2], make::taken_out) {
         let mut r = Random::new(SEED + p.bases.len() as u64);
         let mut bytes = catalog(&mut r, shape);
         if motif == "embeds" {
@@ -322,7 +394,7 @@ fn main() {
         "Plain C by {} at -O3, plain Rust at opt-level 3, both for plain x86-64; processor time, the least of {TURNS} turns; seed {SEED}.",
         env!("LAKHIDO_PEER_COMPILER")
     );
-    let tables: [(&str, fn()); 4] = [("length", lengths), ("show", shows), ("soundness", soundness), ("query", queries)];
+    let tables: [(&str, fn()); 5] = [("length", lengths), ("window", windows), ("show", shows), ("soundness", soundness), ("query", queries)];
     for (name, table) in tables {
         if wanted(name) {
             table();

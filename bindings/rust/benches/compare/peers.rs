@@ -1,6 +1,6 @@
 //! The plain C versions of benches/peers, compiled at -O3 by build.rs, with slices in the place of pointers.
 use crate::plain::strand::{Fold, Strand};
-use lakhido::{BLOCK, BLOCKS_MOST, MOST, MOTIF_MOST};
+use lakhido::{BLOCK, BLOCKS_MOST, MOST, MOTIF_MOST, Window};
 
 mod c {
     /// The fold of a molecule.
@@ -11,6 +11,14 @@ mod c {
         pub depth: usize,
     }
 
+    /// A window of a molecule.
+    #[derive(Default)]
+    #[repr(C)]
+    pub struct Window {
+        pub start: usize,
+        pub length: usize,
+    }
+
     /// A motif with what a search works out of it, which only C looks into.
     #[repr(C)]
     pub struct Motif {
@@ -18,11 +26,11 @@ mod c {
     }
 
     type Embeds = unsafe extern "C" fn(*mut Motif, *const u8, *const u16, usize, *mut u16) -> std::ffi::c_int;
-    pub const SEARCHES: [Embeds; 2] = [rows_embeds, windows_embeds];
+    pub const SEARCHES: [Embeds; 2] = [rows_embeds, segments_embeds];
 
     unsafe extern "C" {
         pub fn rows_length(p: *const u8, pm: *const u16, m: usize, q: *const u8, qm: *const u16, n: usize, work: *mut u16) -> usize;
-        pub fn windows_length(
+        pub fn segments_length(
             p: *const u8,
             pm: *const u16,
             m: usize,
@@ -33,8 +41,19 @@ mod c {
             length: *mut usize,
             fold: *mut Fold,
         ) -> std::ffi::c_int;
+        pub fn window_tightest(
+            p: *const u8,
+            pm: *const u16,
+            m: usize,
+            q: *const u8,
+            qm: *const u16,
+            n: usize,
+            work: *mut u16,
+            window: *mut Window,
+            fold: *mut Fold,
+        ) -> std::ffi::c_int;
         fn rows_embeds(motif: *mut Motif, q: *const u8, qm: *const u16, n: usize, work: *mut u16) -> std::ffi::c_int;
-        fn windows_embeds(motif: *mut Motif, q: *const u8, qm: *const u16, n: usize, work: *mut u16) -> std::ffi::c_int;
+        fn segments_embeds(motif: *mut Motif, q: *const u8, qm: *const u16, n: usize, work: *mut u16) -> std::ffi::c_int;
         pub fn table_show(
             p: *const u8,
             pm: *const u16,
@@ -70,7 +89,7 @@ pub enum By {
     /// Document 003's rows.
     Rows = 0,
     /// The library's own algorithm.
-    Windows = 1,
+    Segments = 1,
 }
 
 fn assert_lengths(s: Strand, most: usize) {
@@ -99,12 +118,12 @@ pub unsafe fn rows_length(p: Strand, q: Strand, work: &mut [u16]) -> usize {
 }
 
 /// The same by the library's own algorithm, with the fold of the molecule; none where a strand is not valid.
-pub fn windows_length(p: Strand, q: Strand, work: &mut [u16]) -> Option<(usize, Fold)> {
+pub fn segments_length(p: Strand, q: Strand, work: &mut [u16]) -> Option<(usize, Fold)> {
     assert_pair(p, q, work);
     let (mut length, mut fold) = (0, c::Fold::default());
     // SAFETY: strands of any content, which the peer checks, no longer than its tables, and a work slice as large as the library's.
     let valid = unsafe {
-        c::windows_length(
+        c::segments_length(
             p.bases.as_ptr(),
             p.mates.as_ptr(),
             p.len(),
@@ -117,6 +136,30 @@ pub fn windows_length(p: Strand, q: Strand, work: &mut [u16]) -> Option<(usize, 
         )
     };
     (valid != 0).then(|| (length, folded(fold)))
+}
+
+/// The tightest window that carries the motif, if there is one, by the library's own algorithm, with the fold of the molecule; none where a strand is not
+/// valid.
+pub fn window_tightest(p: Strand, q: Strand, work: &mut [u16]) -> Option<(Option<Window>, Fold)> {
+    assert_pair(p, q, work);
+    assert!(0 < p.len());
+    let (mut window, mut fold) = (c::Window::default(), c::Fold::default());
+    // SAFETY: strands of any content, which the peer checks, no longer than its tables, a motif with a base, and a work slice as large as the library's.
+    let valid = unsafe {
+        c::window_tightest(
+            p.bases.as_ptr(),
+            p.mates.as_ptr(),
+            p.len(),
+            q.bases.as_ptr(),
+            q.mates.as_ptr(),
+            q.len(),
+            work.as_mut_ptr(),
+            &mut window,
+            &mut fold,
+        )
+    };
+    let found = (window.length <= q.len()).then_some(Window { start: window.start, length: window.length });
+    (valid != 0).then(|| (found, folded(fold)))
 }
 
 /// The length, with the fold of the molecule; and writes the places of an embedding.

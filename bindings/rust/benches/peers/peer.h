@@ -14,13 +14,13 @@ typedef struct {
 // The length of the longest closed prefix of the motif that embeds in the molecule, by document 003's rows (rows.c).
 size_t rows_length(const uint8_t *p, const uint16_t *pm, size_t m, const uint8_t *q, const uint16_t *qm, size_t n, uint16_t *work);
 
-// The same by the library's own algorithm and with every step of its call (windows.c): both strands are checked, and the molecule's fold is counted. Gives
+// The same by the library's own algorithm and with every step of its call (segments.c): both strands are checked, and the molecule's fold is counted. Gives
 // whether the strands are valid; where one is not, nothing is written.
-int windows_length(const uint8_t *p, const uint16_t *pm, size_t m, const uint8_t *q, const uint16_t *qm, size_t n, uint16_t *work, size_t *length,
-                   peer_fold *fold);
+int segments_length(const uint8_t *p, const uint16_t *pm, size_t m, const uint8_t *q, const uint16_t *qm, size_t n, uint16_t *work, size_t *length,
+                    peer_fold *fold);
 
 // A motif for a search of many molecules. Of its tables (the letters of its mates, for each letter the row of an unbonded base) and of the bounds of the
-// molecule at hand only windows.c makes use.
+// molecule at hand only segments.c makes use.
 enum { PEER_MOST = 4096 };
 typedef struct {
     const uint8_t *p;
@@ -34,7 +34,20 @@ void peer_prepare(peer_motif *motif, const uint8_t *p, const uint16_t *pm, size_
 
 // Whether the motif embeds in the molecule.
 typedef int peer_embeds(peer_motif *motif, const uint8_t *q, const uint16_t *qm, size_t n, uint16_t *work);
-peer_embeds rows_embeds, windows_embeds;
+peer_embeds rows_embeds, segments_embeds;
+
+// Whether the window lo..hi of the molecule carries the motif (segments.c).
+int segments_carries(peer_motif *motif, const uint8_t *q, const uint16_t *qm, int lo, int hi, uint16_t *work);
+
+// A window of a molecule.
+typedef struct {
+    size_t start, length;
+} peer_window;
+
+// The shortest window of the molecule that carries the motif, of these the first, by the library's own algorithm and with every step of its call (window.c),
+// as segments_length has them; where none carries it, the length is n + 1. The motif has a base.
+int window_tightest(const uint8_t *p, const uint16_t *pm, size_t m, const uint8_t *q, const uint16_t *qm, size_t n, uint16_t *work, peer_window *window,
+                    peer_fold *fold);
 
 // The left end of the longest arc directly in lo..hi, or hi. It stands here so that both matchers may have it inline.
 static inline int peer_heaviest(const uint16_t *qm, int lo, int hi) {

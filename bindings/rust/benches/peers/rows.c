@@ -1,5 +1,5 @@
 // Document 003's rows in plain C: for each arc the row of what lies inside it and, beside it, the row of that with the arc's right end; every row for all
-// suffixes of the motif; the heavy child first, which here is the longest and in 003 and the plain Rust the one with the most arcs. No window of the motif
+// suffixes of the motif; the heavy child first, which here is the longest and in 003 and the plain Rust the one with the most arcs. No segment of the motif
 // and no table.
 #include "peer.h"
 

@@ -1,16 +1,16 @@
-//! Holds the layout of [`Answer`] to that of `lakhido_answer`, which a small C program prints from the header (bindings/c/layout.c). CC names the compiler;
-//! else it is cc.
-use super::Answer;
+//! Holds the layout of [`Answer`] to that of `lakhido_answer`, and that of [`WindowAnswer`] to that of `lakhido_window_answer`, which a small C program prints
+//! from the header (bindings/c/layout.c). CC names the compiler; else it is cc.
+use super::{Answer, WindowAnswer};
 use std::mem::offset_of;
 use std::path::Path;
 use std::process::Command;
 
-/// The lines of the wrapper's struct for the fields of a list, which names each field once or does not compile.
+/// The lines of a struct of the wrapper, under its name in C, for the fields of a list, which names each field once or does not compile.
 macro_rules! lines {
-    ($($field:ident)*) => {{
-        let Answer { $($field),* } = Answer { $($field: 0),* };
-        let fields = [$(format!("{}: offset {}, bytes {}", stringify!($field), offset_of!(Answer, $field), size_of_val(&$field))),*];
-        fields.into_iter().chain([format!("size {}", size_of::<Answer>())]).collect()
+    ($type:ident, $c:literal, $($field:ident)*) => {{
+        let $type { $($field),* } = $type { $($field: 0),* };
+        let fields = [$(format!("{}.{}: offset {}, bytes {}", $c, stringify!($field), offset_of!($type, $field), size_of_val(&$field))),*];
+        fields.into_iter().chain([format!("{}: size {}", $c, size_of::<$type>())])
     }};
 }
 
@@ -21,7 +21,7 @@ fn printed(command: &mut Command) -> String {
     String::from_utf8(output.stdout).expect("text")
 }
 
-/// The lines of the header's struct.
+/// The lines of the header's structs.
 fn of_header() -> Vec<String> {
     let bindings = Path::new(env!("CARGO_MANIFEST_DIR")).join("..");
     let program = Path::new(env!("OUT_DIR")).join("layout");
@@ -33,10 +33,12 @@ fn of_header() -> Vec<String> {
 }
 
 #[test]
-fn answer_is_laid_out_as_in_c() {
-    let (header, wrapper): (_, Vec<String>) = (of_header(), lines!(refusal side place value searched arcs depth));
+fn answers_are_laid_out_as_in_c() {
+    let answer = lines!(Answer, "lakhido_answer", refusal side place value searched arcs depth);
+    let window = lines!(WindowAnswer, "lakhido_window_answer", refusal side place found start length arcs depth);
+    let (header, wrapper): (_, Vec<String>) = (of_header(), answer.chain(window).collect());
     for (k, (c, rust)) in header.iter().zip(&wrapper).enumerate() {
-        assert_eq!(c, rust, "line {} of the layout of an answer: include/lakhido.h (left) and ffi::Answer (right) differ", k + 1);
+        assert_eq!(c, rust, "line {} of the layout of the answers: include/lakhido.h (left) and src/ffi.rs (right) differ", k + 1);
     }
-    assert_eq!(header.len(), wrapper.len(), "lines of bindings/c/layout.c (left) and of ffi::Answer (right)");
+    assert_eq!(header.len(), wrapper.len(), "lines of bindings/c/layout.c (left) and of src/ffi.rs (right)");
 }

@@ -10,21 +10,21 @@ use crate::random::{Random, rounds, seeded};
 use crate::{folded, lent, refused, report};
 
 /// Inputs between guards, so that a write to them or beside them shows.
-struct Lent {
+pub struct Lent {
     bases: Guarded<u8>,
     mates: Guarded<u16>,
 }
 
 impl Lent {
-    fn new(s: Strand) -> Self {
+    pub fn new(s: Strand) -> Self {
         Lent { bases: Guarded::new(s.bases), mates: Guarded::new(s.mates) }
     }
 
-    fn strand(&self) -> lakhido::Strand<'_> {
+    pub fn strand(&self) -> lakhido::Strand<'_> {
         lakhido::Strand::new(self.bases.content(), self.mates.content())
     }
 
-    fn kept(&self) -> bool {
+    pub fn kept(&self) -> bool {
         self.bases.kept() && self.mates.kept()
     }
 }
@@ -37,7 +37,7 @@ pub fn check(s: Strand) {
 }
 
 /// What a work slice holds before a call: no answer may depend on it.
-fn work_of(size: usize) -> Vec<u16> {
+pub fn work_of(size: usize) -> Vec<u16> {
     (0..size).map(|i| (i as u16).wrapping_mul(40503) ^ size as u16).collect()
 }
 
@@ -120,7 +120,7 @@ fn words(alphabet: &[u8], n: usize) -> Vec<Vec<u8>> {
 }
 
 /// All nested strands of 1 to n bases in two letters.
-fn small_strands(n: usize) -> Vec<Owned> {
+pub fn small_strands(n: usize) -> Vec<Owned> {
     (1..=n)
         .flat_map(|n| {
             let words = words(b"GC", n);

@@ -1,4 +1,5 @@
-//! Holds the library to `plain`, an independent implementation of document 01 and request (i) of 02: the same inputs, answers and all buffers compared byte for byte.
+//! Holds the library to `plain`, an independent implementation of document 01 and the requests (i) and (ii) of 02: the same inputs, answers and all
+//! buffers compared byte for byte.
 //!
 //! Each test prints its seed and how many comparisons it made (`cargo test --release -- --nocapture`). LAKHIDO_SEED sets the seed; otherwise it is taken
 //! from the clock. LAKHIDO_ROUNDS multiplies the random cases. A difference prints the input that shows it.
@@ -13,6 +14,7 @@ mod plain;
 mod plain_alone;
 mod random;
 mod settled;
+mod windows;
 
 use plain::strand::{Fold, Refused};
 

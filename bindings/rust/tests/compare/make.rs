@@ -1,5 +1,6 @@
 //! Random strands: shapes of folds, motifs taken out of molecules, and damage for each row of the table of refusals.
 use crate::plain::block::Owned;
+use crate::plain::windows::{Window, cut_out};
 use crate::random::Random;
 
 const LETTERS: [u8; 4] = *b"ACGU";
@@ -147,6 +148,24 @@ pub fn pair(r: &mut Random, n: usize, most: usize) -> (Owned, Owned) {
     let q = strand(r, n);
     let m = r.between(1, most);
     (motif(r, &q, m), q)
+}
+
+/// A molecule of n bases, and before it a motif of about 1 to `most`: mostly taken out of a stretch that is not much longer, so that it embeds in a window,
+/// sometimes nudged; else as in `pair`.
+pub fn window_pair(r: &mut Random, n: usize, most: usize) -> (Owned, Owned) {
+    let q = strand(r, n);
+    let m = r.between(1, most.min(n));
+    if r.one_in(4) {
+        return (motif(r, &q, m), q);
+    }
+    let spread = 1 + m * r.below(4);
+    let length = r.between(m, (m + spread).min(n));
+    let stretch = cut_out(q.lend(), Window { start: r.below(n - length + 1), length });
+    let mut p = taken_out(r, &stretch, m);
+    if r.one_in(4) {
+        nudge(r, &mut p);
+    }
+    (p, q)
 }
 
 /// Damages a strand so that the given row, 1 to 7, applies to it, as far as its length allows. To damage it by several rows, take the higher first.

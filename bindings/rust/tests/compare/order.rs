@@ -8,6 +8,7 @@ use crate::plain::calls::{self, LONGEST, work_size};
 use crate::plain::strand::Refused;
 use crate::random::{Random, rounds, seeded};
 use crate::report;
+use crate::windows;
 
 /// A row with its side.
 type Label = (u32, u32);
@@ -96,6 +97,17 @@ fn of_length() {
         let (p, q) = pair(r, labels, LONGEST);
         let (p, q, size) = (p.lend(), q.lend(), sizes(labels, r, &p, q.bases.len()));
         direct::length(p, q, size, calls::length(p, q, size));
+        calls::all(calls::length_rows(p, q, size))
+    });
+}
+
+#[test]
+fn of_window() {
+    let labels = [strand_labels(MOTIF), strand_labels(MOLECULE_SIDE), other_labels(&[8])].concat();
+    every_pair("window", &labels, &[], 6, |r, labels| {
+        let (p, q) = pair(r, labels, LONGEST);
+        let (p, q, size) = (p.lend(), q.lend(), sizes(labels, r, &p, q.bases.len()));
+        windows::window(p, q, size, calls::window(p, q, size));
         calls::all(calls::length_rows(p, q, size))
     });
 }

@@ -1,7 +1,8 @@
-//! The plain implementation against itself: each quick way against the words of document 01 and request (i) of 02.
+//! The plain implementation against itself: each quick way against the words of document 01 and of the requests (i) and (ii) of 02.
 use crate::make;
 use crate::plain::embedding::{closed, longest_by_trying, verify, verify_linear};
 use crate::plain::strand::{Fold, Strand, depth_by_trying, fold_of, lowest_crossing, lowest_crossing_by_pairs};
+use crate::plain::windows::{tightest, tightest_by_definition};
 use crate::plain::{rows, table::Table};
 use crate::random::{rounds, seeded};
 
@@ -48,6 +49,25 @@ fn the_verifiers_agree() {
         assert_eq!(answer, verify_linear(p.lend(), q.lend(), &places), "{p:?}, {q:?}, {places:?}");
     }
     assert!(1_000 < yes);
+}
+
+#[test]
+fn the_windows_agree() {
+    let mut r = seeded();
+    let (mut found, mut narrower) = (0, 0);
+    for case in 0..rounds(40_000) {
+        let n = if case % 20 == 0 { r.between(1, 40) } else { r.between(1, 14) };
+        let (p, q) = make::window_pair(&mut r, n, n.min(12));
+        let (p, q) = (p.lend(), q.lend());
+        let answer = tightest_by_definition(p, q, rows::length);
+        assert_eq!(tightest(p, q), answer, "two pointers and definition: {p:?}, {q:?}");
+        if n < 10 {
+            assert_eq!(tightest_by_definition(p, q, longest_by_trying), answer, "trying and rows: {p:?}, {q:?}");
+        }
+        found += answer.is_some() as usize;
+        narrower += answer.is_some_and(|window| window.length < n) as usize;
+    }
+    assert!(1_000 < narrower && narrower < found && found < rounds(40_000));
 }
 
 #[test]

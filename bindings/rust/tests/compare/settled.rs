@@ -1,8 +1,10 @@
-//! The settled examples of document 01, and small ones of the fold of a molecule, on the library.
+//! The settled examples of document 01, and small ones of the fold of a molecule and of the tightest window, on the library.
 use crate::direct;
+use crate::plain::calls;
 use crate::plain::strand::{self, Refused, Strand};
+use crate::windows;
 use crate::{lent, refused};
-use lakhido::{BLOCK, Fold, Found, Matched, Reason, Verified};
+use lakhido::{BLOCK, Fold, Found, Matched, Reason, Verified, Window, Windowed};
 
 fn s<'a>(bases: &'a str, mates: &'a [u16]) -> Strand<'a> {
     Strand::new(bases.as_bytes(), mates)
@@ -83,6 +85,43 @@ fn arcs_and_depth_of_verify_yes_and_of_verify_no_are_those_of_the_molecule_not_o
     }
 }
 
+/// A motif, a molecule, start and length of the tightest window, and the molecule's arcs and depth.
+type WindowRow<'a> = (Strand<'a>, Strand<'a>, Option<(usize, usize)>, usize, usize);
+
+/// The pairs of 01's table. Then: two of one length, of which the first counts; a later one that is shorter; one inside an arc; one that begins inside an arc and
+/// has its right end, unbonded there; one that ends inside an arc and has its left end; a later one that does so and is shorter; one that begins inside an arc
+/// and ends with its right end, behind another arc; two arcs inside a third.
+#[test]
+fn tightest_windows() {
+    let rows: [WindowRow; 18] = [
+        (s("A", &[0]), s("A", &[0]), Some((0, 1)), 0, 0),
+        (s("GC", &[1, 0]), s("GAC", &[2, 1, 0]), Some((0, 3)), 1, 1),
+        (s("GC", &[0, 1]), s("GAC", &[2, 1, 0]), None, 1, 1),
+        (s("GC", &[1, 0]), s("GC", &[0, 1]), None, 0, 0),
+        (s("GC", &[0, 1]), s("GCC", &[2, 1, 0]), Some((0, 2)), 1, 1),
+        (s("GC", &[0, 1]), s("GGC", &[2, 1, 0]), Some((1, 2)), 1, 1),
+        (s("AGC", &[0, 2, 1]), s("AG", &[0, 1]), None, 0, 0),
+        (s("AGC", &[0, 2, 1]), s("AGAC", &[0, 3, 2, 1]), Some((0, 4)), 1, 1),
+        (s("GGCC", &[3, 2, 1, 0]), s("GGCC", &[0, 2, 1, 3]), None, 1, 1),
+        (s("A", &[0]), s("AA", &[0, 1]), Some((0, 1)), 0, 0),
+        (s("GC", &[1, 0]), s("GACGAC", &[2, 1, 0, 5, 4, 3]), Some((0, 3)), 2, 1),
+        (s("GC", &[1, 0]), s("GAACGAC", &[3, 1, 2, 0, 6, 5, 4]), Some((4, 3)), 2, 1),
+        (s("GA", &[0, 1]), s("CGAAC", &[4, 1, 2, 3, 0]), Some((1, 2)), 1, 1),
+        (s("AC", &[0, 1]), s("GAC", &[2, 1, 0]), Some((1, 2)), 1, 1),
+        (s("GAU", &[0, 1, 2]), s("GAUC", &[3, 1, 2, 0]), Some((0, 3)), 1, 1),
+        (s("GA", &[0, 1]), s("GUAGACC", &[6, 1, 2, 5, 4, 3, 0]), Some((3, 2)), 2, 2),
+        (s("GCA", &[1, 0, 2]), s("AGUCUA", &[5, 3, 2, 1, 4, 0]), Some((1, 5)), 2, 2),
+        (s("GC", &[1, 0]), s("GGCGCC", &[5, 2, 1, 4, 3, 0]), Some((1, 2)), 3, 2),
+    ];
+    for (p, q, found, arcs, depth) in rows {
+        let size = lakhido::work_size(p.len(), q.len());
+        let window = found.map(|(start, length)| Window { start, length });
+        let answer = lakhido::window(lent(p), lent(q), &mut vec![0; size]);
+        assert_eq!(answer, Ok(Windowed { window, fold: Fold { arcs, depth } }), "window of {p:?}, {q:?}");
+        windows::window(p, q, size, calls::window(p, q, size));
+    }
+}
+
 #[test]
 fn refusals() {
     let check = |q| lakhido::check(q).map_err(refused);
@@ -95,6 +134,11 @@ fn refusals() {
     let a = l("A", &[0]);
     assert_eq!(lakhido::length(a, a, &mut [0; 135]).map_err(refused), Err(Refused(8, 2, 0)));
     assert_eq!(lakhido::length(a, a, &mut [0; 136]), Ok(Matched { length: 1, fold: Fold { arcs: 0, depth: 0 } }));
+    assert_eq!(lakhido::window(a, a, &mut [0; 135]).map_err(refused), Err(Refused(8, 2, 0)));
+    let found = Windowed { window: Some(Window { start: 0, length: 1 }), fold: Fold { arcs: 0, depth: 0 } };
+    assert_eq!(lakhido::window(a, a, &mut [0; 136]), Ok(found));
+    assert_eq!(lakhido::window(l("AX", &[0, 1]), l("", &[]), &mut []).map_err(refused), Err(Refused(4, 0, 1)));
+    assert_eq!(lakhido::window(a, l("ACGU", &[2, 3, 0, 1]), &mut []).map_err(refused), Err(Refused(7, 1, 1)));
     let gc = l("GC", &[1, 0]);
     assert_eq!(lakhido::show(gc, gc, &mut [0; 1], &mut [0; 500]).map_err(refused), Err(Refused(9, 2, 0)));
     let (mut catalog, mut cache) = (vec![0; 2 * BLOCK], vec![0; 513]);

@@ -177,7 +177,7 @@ inner-row-close-requires t c κs =
     (at-heaviest .heaviest .ensures) (at-if2 .if2 .left) (at-mate .mate .ensures) in
     let D = bounded-within (at-start .pre .1 .1 .1 .1 .1 .0) (at-heaviest .heaviest .result) (at-mate .mate .result) (A .low) (omega (arith, A .up))
     (omega (arith, A .end)) in (
-      at-start .pre .1 .0 .window,
+      at-start .pre .1 .0 .segment,
       (
         at-start .pre .1 .1 .1 .1 .0,
         (
@@ -207,7 +207,7 @@ inner-row-mul-rest : (t : ℕ) → inner-row-lts.Need-mul-rest (inner-row-claims
 inner-row-mul-rest t c =
     let at-start = c .before .before .before .before .before .before .before .before .before .before .before .before .before .before .before .before .before
     .before .before in
-    omega (arith, at-start .pre .1 .0 .window .small)
+    omega (arith, at-start .pre .1 .0 .segment .small)
 
 inner-row-sub-rest : (t : ℕ) → inner-row-lts.Need-sub-rest (inner-row-claims t) (inner-row-at t) inner-row.Post
 inner-row-sub-rest t c =
@@ -304,7 +304,7 @@ inner-row-last-start-requires t c κs =
     let at-start = at-heaviest .before .before .before .before .before .before .before .before in
     let A = around (at-start .pre .1 .0 .molecule) (at-start .pre .1 .1 .0 .0) (at-start .pre .1 .1 .0 .1 .0) (at-start .pre .1 .1 .0 .1 .1)
     (at-heaviest .heaviest .ensures) (at-if2 .if2 .left) (at-mate .mate .ensures) in
-    omega (arith, at-start .pre .1 .0 .window .small, at-start .pre .1 .0 .short, A .up, A .end, A .inside, at-start .pre .1 .1 .1 .1 .1 .0 .room)
+    omega (arith, at-start .pre .1 .0 .segment .small, at-start .pre .1 .0 .short, A .up, A .end, A .inside, at-start .pre .1 .1 .1 .1 .1 .0 .room)
 
 inner-row-combine-requires : (t : ℕ) → inner-row-lts.Need-combine-requires (inner-row-claims t) (inner-row-at t) inner-row.Post
 inner-row-combine-requires t c κs =
@@ -330,15 +330,15 @@ inner-row-combine-requires t c κs =
     let L = back-length (length (at-start .args .p .now) + 1) (at-close .close .last .1 .1 .1 .1 .1 .1 .1 .1 .0) (omega (arith, long))
     (at-stretch-row .stretch-row .last .1 .1 .1 .1 .1 .1 .1 .1 .1 .0) (at-stretch-row .stretch-row .kept .1 .1 .1 .1 .1 .1 .1 .1 .1 .0) in (
       (
-        omega (arith, at-last-start .last-start .ensures, at-start .pre .1 .0 .window .order, D .start),
+        omega (arith, at-last-start .last-start .ensures, at-start .pre .1 .0 .segment .order, D .start),
         (
-          omega (arith, at-last-start .last-start .ensures, at-start .pre .1 .0 .window .ends, at-start .pre .1 .0 .window .small),
-          omega (arith, at-last-start .last-start .ensures, at-start .pre .1 .0 .window .ends, long, L),
+          omega (arith, at-last-start .last-start .ensures, at-start .pre .1 .0 .segment .ends, at-start .pre .1 .0 .segment .small),
+          omega (arith, at-last-start .last-start .ensures, at-start .pre .1 .0 .segment .ends, long, L),
         ),
       ),
       rw (at-last-start .last-start .ensures) (range-under (length (at-start .args .p .now) + 1) (at-close .close .last .1 .1 .1 .1 .1 .1 .1 .1 .0)
-          (at-stretch-row .stretch-row .last .1 .1 .1 .1 .1 .1 .1 .1 .1 .0) (omega (arith, long)) (omega (arith, at-start .pre .1 .0 .window .ends))
-          (omega arith) (omega (arith, at-start .pre .1 .0 .window .ends, long, L)) (F .is)),
+          (at-stretch-row .stretch-row .last .1 .1 .1 .1 .1 .1 .1 .1 .1 .0) (omega (arith, long)) (omega (arith, at-start .pre .1 .0 .segment .ends))
+          (omega arith) (omega (arith, at-start .pre .1 .0 .segment .ends, long, L)) (F .is)),
     )
 
 inner-row-add-if4 : (t : ℕ) → inner-row-lts.Need-add-if4 (inner-row-claims t) (inner-row-at t) inner-row.Post
@@ -432,7 +432,7 @@ inner-row-returns-3 t c =
     (bounded-within (at-start .pre .1 .1 .1 .1 .1 .0) _ _ (omega arith) (A .low) (omega (arith, A .up, A .end)) .bounds)
     (⊎-elim (λ b. row-is (b .10) (right-row
     (length (at-start .args .p .now) + 1) (at-close .close .last .1 .1 .1 .1 .1 .1 .1 .1 .0) (b .2 .last .1 .1 .1 .1 .1 .1 .1 .1 .1 .0)
-    (b .7 .last .1 .1 .1 .1 .0) A (at-start .pre .1 .1 .1 .1 .1 .0) (omega (arith, long)) (omega (arith, at-start .pre .1 .0 .window .ends)) F
+    (b .7 .last .1 .1 .1 .1 .0) A (at-start .pre .1 .1 .1 .1 .1 .0) (omega (arith, long)) (omega (arith, at-start .pre .1 .0 .segment .ends)) F
     (b .2 .ensures) (rw (b .5 .ensures) at (b .7 .ensures)))) (λ b. row-is (b .1) (row-to (omega (arith, A .end, b .0 .left)) F)) (at-if3 .if3 .came))
     (at-prepend .prepend .ensures)
 
@@ -478,7 +478,7 @@ inner-row-returns-4 t c =
     let F = closed-row _ _ (at-start .pre .1 .0) (A .up) (A .inside) (A .mate) (D .bounds) (at-inner-row .inner-row .ensures) (at-close .close .ensures) in
     row-at (omega (arith, A .low, c .if4 .left)) (⊎-elim (λ b. row-is (b .10) (right-row (length (at-start .args .p .now) + 1)
     (at-close .close .last .1 .1 .1 .1 .1 .1 .1 .1 .0) (b .2 .last .1 .1 .1 .1 .1 .1 .1 .1 .1 .0) (b .7 .last .1 .1 .1 .1 .0) A
-    (at-start .pre .1 .1 .1 .1 .1 .0) (omega (arith, long)) (omega (arith, at-start .pre .1 .0 .window .ends)) F (b .2 .ensures)
+    (at-start .pre .1 .1 .1 .1 .1 .0) (omega (arith, long)) (omega (arith, at-start .pre .1 .0 .segment .ends)) F (b .2 .ensures)
     (rw (b .5 .ensures) at (b .7 .ensures)))) (λ b. row-is (b .1) (row-to (omega (arith, A .end, b .0 .left)) F)) (at-if3 .if3 .came))
 
 abbrev prepend-claims : ℕ → prepend-lts.Claims
@@ -528,7 +528,7 @@ prepend-last-start-requires t c κs =
     let at-start = at-loop .before .before .before .before .before .before .before in
     omega (
       arith,
-      at-start .pre .1 .0 .window .small,
+      at-start .pre .1 .0 .segment .small,
       at-start .pre .1 .0 .short,
       at-loop .loop .inv .1,
       at-start .pre .1 .1 .0,
@@ -552,16 +552,16 @@ prepend-extend-requires t c κs =
     let at-start = at-loop .before .before .before .before .before .before .before in
     let kn : at-loop .loop .i - 1 < length (at-start .args .q .now) = omega
     (arith, at-loop .loop .inv .1, at-start .pre .1 .1 .0, at-loop-test .loop-test .taken) in
-    let low = starts (at-start .pre .1 .1 .1 .1 .1 .1) (at-loop .loop .i - 1) (at-start .pre .1 .0 .window .order)
+    let low = starts (at-start .pre .1 .1 .1 .1 .1 .1) (at-loop .loop .i - 1) (at-start .pre .1 .0 .segment .order)
     (omega (arith, at-loop .loop .inv .0, at-loop-test .loop-test .taken)) (omega (arith, at-loop .loop .inv .1)) in (
-      at-start .pre .1 .0 .window,
+      at-start .pre .1 .0 .segment,
       (
         omega (arith, at-last-start .last-start .ensures, low),
         (
           at-start .pre .1 .1 .1 .1 .1 .0,
           (
             letter-at (at-start .pre .1 .0) _ kn,
-            omega (arith, at-start .pre .1 .0 .window .ends, light-one (at-start .pre .1 .1 .1 .1 .0), at-loop .loop .inv .4),
+            omega (arith, at-start .pre .1 .0 .segment .ends, light-one (at-start .pre .1 .1 .1 .1 .0), at-loop .loop .inv .4),
           ),
         ),
       ),
@@ -643,7 +643,7 @@ prepend-close-requires t c κs =
     (arith, at-loop .loop .inv .1, at-start .pre .1 .1 .0, at-loop-test .loop-test .taken) in
     let D = bounded-within (at-start .pre .1 .1 .1 .1 .1 .1) (at-mate .mate .result) (at-loop .loop .i - 1) (B .low) (B .high)
     (omega (arith, at-loop .loop .inv .1)) in (
-      at-start .pre .1 .0 .window,
+      at-start .pre .1 .0 .segment,
       (
         at-start .pre .1 .1 .1 .1 .1 .0,
         (
@@ -677,7 +677,7 @@ prepend-last-start-requires-2 t c κs =
     (at-loop-test .loop-test .taken) (omega (arith, at-loop-test .loop-test .taken)) (at-mate .mate .ensures) in
     omega (
       arith,
-      at-start .pre .1 .0 .window .small,
+      at-start .pre .1 .0 .segment .small,
       at-start .pre .1 .0 .short,
       B .high,
       at-loop .loop .inv .1,
@@ -715,15 +715,15 @@ prepend-combine-requires t c κs =
           (room-child (at-start .pre .1 .1 .1 .1 .0) (at-mate .mate .result) (B .low) (omega (arith, ck, at-loop .loop .inv .1)) (omega (arith, ck, B .back))),
     ) in (
       (
-        omega (arith, at-last-start2 .last-start2 .ensures, at-start .pre .1 .0 .window .order, D .start),
+        omega (arith, at-last-start2 .last-start2 .ensures, at-start .pre .1 .0 .segment .order, D .start),
         (
-          omega (arith, at-last-start2 .last-start2 .ensures, at-start .pre .1 .0 .window .ends, at-start .pre .1 .0 .window .small),
-          omega (arith, at-last-start2 .last-start2 .ensures, at-start .pre .1 .0 .window .ends, long, L),
+          omega (arith, at-last-start2 .last-start2 .ensures, at-start .pre .1 .0 .segment .ends, at-start .pre .1 .0 .segment .small),
+          omega (arith, at-last-start2 .last-start2 .ensures, at-start .pre .1 .0 .segment .ends, long, L),
         ),
       ),
       rw (at-last-start2 .last-start2 .ensures) (range-over (length (at-start .args .p .now) + 1) (at-loop .loop .work)
           (at-close .close .last .1 .1 .1 .1 .1 .1 .1 .1 .0) (omega (arith, light-one (at-start .pre .1 .1 .1 .1 .0), at-loop .loop .inv .4))
-          (omega (arith, at-start .pre .1 .0 .window .ends, long, L)) (F .is)),
+          (omega (arith, at-start .pre .1 .0 .segment .ends, long, L)) (F .is)),
     )
 
 prepend-loop-less : (t : ℕ) → prepend-lts.Need-loop-less (prepend-claims t) (prepend-at t) prepend.Post prepend-Inv-loop prepend-μ-loop
@@ -796,7 +796,7 @@ prepend-loop-again-2 t c =
           (lastAt (length (at-start .args .p .now)) (at-start .args .tables .now) (at-start .args .to) (at-mate .mate .result)) (at-start .args .to)
           (length (at-start .args .p .now) + 1) (at-loop .loop .work) (at-close .close .last .1 .1 .1 .1 .1 .1 .1 .1 .0)
           (at-combine .combine .last .1 .1 .1 .1 .0) (omega (arith, light-one (at-start .pre .1 .1 .1 .1 .0), at-loop .loop .inv .4))
-          (omega (arith, at-start .pre .1 .0 .window .ends)) (omega arith) (row-from (F .is))
+          (omega (arith, at-start .pre .1 .0 .segment .ends)) (omega arith) (row-from (F .is))
           (rw (at-last-start2 .last-start2 .ensures) at (at-combine .combine .ensures))),
       at-combine .combine .kept .1 .1 .1 .1 .0
           ∙ back-length (length (at-start .args .p .now) + 1) (at-loop .loop .work)
@@ -844,7 +844,7 @@ stretch-row-mate-requires t c κs =
 stretch-row-last-start-requires : (t : ℕ) → stretch-row-lts.Need-last-start-requires (stretch-row-claims t) (stretch-row-at t) stretch-row.Post
 stretch-row-last-start-requires t c κs =
     let at-start = c .before .before .before .before .before .before .before .before in
-    omega (arith, at-start .pre .1 .0 .window .small, at-start .pre .1 .0 .short, at-start .pre .1 .1 .0, at-start .pre .1 .1 .1 .1 .1 .1 .room)
+    omega (arith, at-start .pre .1 .0 .segment .small, at-start .pre .1 .0 .short, at-start .pre .1 .1 .0, at-start .pre .1 .1 .1 .1 .1 .1 .room)
 
 stretch-row-shared-slice-read-single : (t : ℕ) → stretch-row-lts.Need-shared-slice-read-single (stretch-row-claims t) (stretch-row-at t) stretch-row.Post
 stretch-row-shared-slice-read-single t c =
@@ -856,14 +856,14 @@ stretch-row-single-requires t c κs =
     let at-last-start = c .before .before in
     let at-start = at-last-start .before .before .before .before .before .before .before .before .before in
     let kn : at-start .args .hi - 1 < length (at-start .args .q .now) = omega (arith, at-start .pre .1 .1 .0) in
-    let low = starts (at-start .pre .1 .1 .1 .1 .1 .1) (at-start .args .hi - 1) (at-start .pre .1 .0 .window .order) (omega (arith, at-start .pre .1 .1 .0))
+    let low = starts (at-start .pre .1 .1 .1 .1 .1 .1) (at-start .args .hi - 1) (at-start .pre .1 .0 .segment .order) (omega (arith, at-start .pre .1 .1 .0))
     (omega arith) in (
-      at-start .pre .1 .0 .window,
+      at-start .pre .1 .0 .segment,
       (
         omega (arith, at-last-start .last-start .ensures, low),
         (
           at-start .pre .1 .1 .1 .1 .1 .0,
-          (letter-at (at-start .pre .1 .0) _ kn, omega (arith, at-start .pre .1 .0 .window .ends, light-one (at-start .pre .1 .1 .1 .1 .0))),
+          (letter-at (at-start .pre .1 .0) _ kn, omega (arith, at-start .pre .1 .0 .segment .ends, light-one (at-start .pre .1 .1 .1 .1 .0))),
         ),
       ),
     )
@@ -905,7 +905,7 @@ stretch-row-close-requires t c κs =
     let ck : at-mate .mate .result < at-start .args .hi - 1 = omega (arith, B .high, at-if1 .if1 .left) in
     let kn : at-start .args .hi - 1 < length (at-start .args .q .now) = omega (arith, at-start .pre .1 .1 .0) in
     let D = bounded-within (at-start .pre .1 .1 .1 .1 .1 .1) (at-mate .mate .result) (at-start .args .hi - 1) (B .low) (B .high) (omega arith) in (
-      at-start .pre .1 .0 .window,
+      at-start .pre .1 .0 .segment,
       (
         at-start .pre .1 .1 .1 .1 .1 .0,
         (

@@ -19,7 +19,7 @@ abbrev μ-loop : tie.MeasureT-loop
 last-start-requires : tie.Need-last-start-requires Inv-loop μ-loop
 last-start-requires c κs =
     let at-start = c .before .before .before .before .before .before .before in
-    omega (arith, at-start .pre .0 .window .small, at-start .pre .0 .short, at-start .pre .1 .0, at-start .pre .1 .1 .1 .1 .1 .room)
+    omega (arith, at-start .pre .0 .segment .small, at-start .pre .0 .short, at-start .pre .1 .0, at-start .pre .1 .1 .1 .1 .1 .room)
 
 identity-requires : tie.Need-identity-requires Inv-loop μ-loop
 identity-requires c κs =
@@ -28,9 +28,9 @@ identity-requires c κs =
     omega (
       arith,
       at-last-start .last-start .ensures,
-      starts (at-start .pre .1 .1 .1 .1 .1) (at-start .args .lo) (at-start .pre .0 .window .order) (omega arith) (omega (arith, at-start .pre .1 .0)),
-      at-start .pre .0 .window .ends,
-      at-start .pre .0 .window .small,
+      starts (at-start .pre .1 .1 .1 .1 .1) (at-start .args .lo) (at-start .pre .0 .segment .order) (omega arith) (omega (arith, at-start .pre .1 .0)),
+      at-start .pre .0 .segment .ends,
+      at-start .pre .0 .segment .small,
       at-start .pre .1 .1 .1 .0,
     )
 
@@ -51,7 +51,7 @@ sub-i c = omega arith
 last-start-requires-2 : tie.Need-last-start-requires-2 Inv-loop μ-loop
 last-start-requires-2 c κs =
     let at-start = c .before .before .before .before .before .before .before in
-    omega (arith, at-start .pre .0 .window .small, at-start .pre .0 .short, at-start .pre .1 .0, at-start .pre .1 .1 .1 .1 .1 .room)
+    omega (arith, at-start .pre .0 .segment .small, at-start .pre .0 .short, at-start .pre .1 .0, at-start .pre .1 .1 .1 .1 .1 .room)
 
 shared-slice-read-single : tie.Need-shared-slice-read-single Inv-loop μ-loop
 shared-slice-read-single c =
@@ -64,18 +64,18 @@ single-requires c κs =
     let at-last-start2 = c .before .before in
     let at-if1 = at-last-start2 .before in
     let at-start = at-if1 .before .before .before .before .before .before .before in (
-      at-start .pre .0 .window,
+      at-start .pre .0 .segment,
       (
         omega (
           arith,
           at-last-start2 .last-start2 .ensures,
-          starts (at-start .pre .1 .1 .1 .1 .1) (at-start .args .hi - 1) (at-start .pre .0 .window .order) (omega (arith, at-if1 .if1 .left)) (omega arith),
+          starts (at-start .pre .1 .1 .1 .1 .1) (at-start .args .hi - 1) (at-start .pre .0 .segment .order) (omega (arith, at-if1 .if1 .left)) (omega arith),
         ),
         (
           at-start .pre .1 .1 .1 .1 .0,
           (
             letter-at (at-start .pre .0) _ (omega (arith, at-start .pre .1 .0, at-if1 .if1 .left)),
-            omega (arith, at-start .pre .0 .window .ends, at-start .pre .1 .1 .1 .0),
+            omega (arith, at-start .pre .0 .segment .ends, at-start .pre .1 .1 .1 .0),
           ),
         ),
       ),
@@ -100,7 +100,7 @@ last-start-requires-3 : tie.Need-last-start-requires-3 Inv-loop μ-loop
 last-start-requires-3 c κs =
     let at-loop = c .before in
     let at-start = at-loop .before .before .before .before .before .before .before .before .before .before .before .before .before .before in
-    omega (arith, at-start .pre .0 .window .small, at-start .pre .0 .short, at-start .pre .1 .0, at-loop .loop .inv .1, at-start .pre .1 .1 .1 .1 .1 .room)
+    omega (arith, at-start .pre .0 .segment .small, at-start .pre .0 .short, at-start .pre .1 .0, at-loop .loop .inv .1, at-start .pre .1 .1 .1 .1 .1 .room)
 
 shared-slice-read-extend : tie.Need-shared-slice-read-extend Inv-loop μ-loop
 shared-slice-read-extend c =
@@ -115,19 +115,19 @@ extend-requires c κs =
     let at-loop = at-loop-test .before in
     let at-single = at-loop .before .before .before in
     let at-start = at-single .before .before .before .before .before .before .before .before .before .before .before in (
-      at-start .pre .0 .window,
+      at-start .pre .0 .segment,
       (
         omega (
           arith,
           at-last-start3 .last-start3 .ensures,
-          starts (at-start .pre .1 .1 .1 .1 .1) (at-loop .loop .i - 1) (at-start .pre .0 .window .order) (omega (arith, at-loop-test .loop-test .taken))
+          starts (at-start .pre .1 .1 .1 .1 .1) (at-loop .loop .i - 1) (at-start .pre .0 .segment .order) (omega (arith, at-loop-test .loop-test .taken))
               (omega (arith, at-loop .loop .inv .1)),
         ),
         (
           at-start .pre .1 .1 .1 .1 .0,
           (
             letter-at (at-start .pre .0) _ (omega (arith, at-start .pre .1 .0, at-loop .loop .inv .1)),
-            omega (arith, at-start .pre .0 .window .ends, at-start .pre .1 .1 .1 .0, at-loop .loop .inv .3, at-single .single .kept .1 .1 .1 .1 .1 .1 .1 .0),
+            omega (arith, at-start .pre .0 .segment .ends, at-start .pre .1 .1 .1 .0, at-loop .loop .inv .3, at-single .single .kept .1 .1 .1 .1 .1 .1 .1 .0),
           ),
         ),
       ),

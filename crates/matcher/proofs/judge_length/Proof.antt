@@ -26,15 +26,15 @@ add-if1 c = search needs
 
 mul-if1 : tie.Need-mul-if1
 mul-if1 c =
-    let S = pair-setting _ _ _ _ (sym (c .before .before .check-pair .ensures) ∙ c .enum-told .given .1) in omega (arith, S .window .small, S .short)
+    let S = pair-setting _ _ _ _ (sym (c .before .before .check-pair .ensures) ∙ c .enum-told .given .1) in omega (arith, S .segment .small, S .short)
 
 mul-if1-2 : tie.Need-mul-if1-2
 mul-if1-2 c =
-    let S = pair-setting _ _ _ _ (sym (c .before .before .check-pair .ensures) ∙ c .enum-told .given .1) in omega (arith, S .window .small, S .short)
+    let S = pair-setting _ _ _ _ (sym (c .before .before .check-pair .ensures) ∙ c .enum-told .given .1) in omega (arith, S .segment .small, S .short)
 
 add-if1-2 : tie.Need-add-if1-2
 add-if1-2 c =
-    let S = pair-setting _ _ _ _ (sym (c .before .before .check-pair .ensures) ∙ c .enum-told .given .1) in omega (arith, S .window .small, S .short)
+    let S = pair-setting _ _ _ _ (sym (c .before .before .check-pair .ensures) ∙ c .enum-told .given .1) in omega (arith, S .segment .small, S .short)
 
 refuse-requires : tie.Need-refuse-requires
 refuse-requires c κs = search needs

@@ -38,19 +38,19 @@ mul-if2 : tie.Need-mul-if2
 mul-if2 c =
     let at-enum-told = c .before in
     let at-check-pair = at-enum-told .before .before in
-    let S = pair-setting _ _ _ _ (sym (at-check-pair .check-pair .ensures) ∙ at-enum-told .enum-told .given .1) in omega (arith, S .window .small, S .short)
+    let S = pair-setting _ _ _ _ (sym (at-check-pair .check-pair .ensures) ∙ at-enum-told .enum-told .given .1) in omega (arith, S .segment .small, S .short)
 
 mul-if2-2 : tie.Need-mul-if2-2
 mul-if2-2 c =
     let at-enum-told = c .before in
     let at-check-pair = at-enum-told .before .before in
-    let S = pair-setting _ _ _ _ (sym (at-check-pair .check-pair .ensures) ∙ at-enum-told .enum-told .given .1) in omega (arith, S .window .small, S .short)
+    let S = pair-setting _ _ _ _ (sym (at-check-pair .check-pair .ensures) ∙ at-enum-told .enum-told .given .1) in omega (arith, S .segment .small, S .short)
 
 add-if2-2 : tie.Need-add-if2-2
 add-if2-2 c =
     let at-enum-told = c .before in
     let at-check-pair = at-enum-told .before .before in
-    let S = pair-setting _ _ _ _ (sym (at-check-pair .check-pair .ensures) ∙ at-enum-told .enum-told .given .1) in omega (arith, S .window .small, S .short)
+    let S = pair-setting _ _ _ _ (sym (at-check-pair .check-pair .ensures) ∙ at-enum-told .enum-told .given .1) in omega (arith, S .segment .small, S .short)
 
 refuse-requires-2 : tie.Need-refuse-requires-2
 refuse-requires-2 c κs = search needs

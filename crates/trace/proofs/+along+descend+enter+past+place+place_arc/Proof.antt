@@ -128,7 +128,7 @@ along-claims t = (
 along-add-w : (t : ℕ) → along-lts.Need-add-w (along-claims t) (along-at t) along.Post
 along-add-w t c =
     let at-start = c .before .before .before .before .before .before .before in
-    omega (arith, at-start .pre .1 .setting .window .small)
+    omega (arith, at-start .pre .1 .setting .segment .small)
 
 along-sub-middle : (t : ℕ) → along-lts.Need-sub-middle (along-claims t) (along-at t) along.Post
 along-sub-middle t c =
@@ -142,7 +142,7 @@ along-middle-requires t c κs =
       (
         (at-start .pre .1 .order .1 .0, (omega (arith, at-start .pre .1 .setting .equal, at-start .pre .1 .order), at-start .pre .1 .arc .1)),
         (
-          omega (arith, at-start .pre .1 .setting .window .ends, at-start .pre .1 .setting .window .small),
+          omega (arith, at-start .pre .1 .setting .segment .ends, at-start .pre .1 .setting .segment .small),
           omega (arith, at-start .pre .1 .setting .equal, at-start .pre .1 .setting .short),
         ),
       ),
@@ -224,28 +224,28 @@ along-mul-rest t c =
     let at-keep = c .before .before in
     let at-start = at-keep .before .before .before .before .before .before .before .before .before .before .before .before in
     omega
-    (arith, levels-least (at-start .pre .1 .levels), at-keep .keep .kept .1 .1 .1 .1 .1 .1 .1 .1 .1 .1 .0, at-start .pre .1 .setting .window .small)
+    (arith, levels-least (at-start .pre .1 .levels), at-keep .keep .kept .1 .1 .1 .1 .1 .1 .1 .1 .1 .1 .0, at-start .pre .1 .setting .segment .small)
 
 along-sub-rest : (t : ℕ) → along-lts.Need-sub-rest (along-claims t) (along-at t) along.Post
 along-sub-rest t c =
     let at-keep = c .before .before in
     let at-start = at-keep .before .before .before .before .before .before .before .before .before .before .before .before in
     omega
-    (arith, levels-least (at-start .pre .1 .levels), at-keep .keep .kept .1 .1 .1 .1 .1 .1 .1 .1 .1 .1 .0, at-start .pre .1 .setting .window .small)
+    (arith, levels-least (at-start .pre .1 .levels), at-keep .keep .kept .1 .1 .1 .1 .1 .1 .1 .1 .1 .1 .0, at-start .pre .1 .setting .segment .small)
 
 along-part-rest-start : (t : ℕ) → along-lts.Need-part-rest-start (along-claims t) (along-at t) along.Post
 along-part-rest-start t c =
     let at-keep = c .before .before in
     let at-start = at-keep .before .before .before .before .before .before .before .before .before .before .before .before in
     omega
-    (arith, levels-least (at-start .pre .1 .levels), at-keep .keep .kept .1 .1 .1 .1 .1 .1 .1 .1 .1 .1 .0, at-start .pre .1 .setting .window .small)
+    (arith, levels-least (at-start .pre .1 .levels), at-keep .keep .kept .1 .1 .1 .1 .1 .1 .1 .1 .1 .1 .0, at-start .pre .1 .setting .segment .small)
 
 along-part-rest-end : (t : ℕ) → along-lts.Need-part-rest-end (along-claims t) (along-at t) along.Post
 along-part-rest-end t c =
     let at-keep = c .before .before in
     let at-start = at-keep .before .before .before .before .before .before .before .before .before .before .before .before in
     omega
-    (arith, levels-least (at-start .pre .1 .levels), at-keep .keep .kept .1 .1 .1 .1 .1 .1 .1 .1 .1 .1 .0, at-start .pre .1 .setting .window .small)
+    (arith, levels-least (at-start .pre .1 .levels), at-keep .keep .kept .1 .1 .1 .1 .1 .1 .1 .1 .1 .1 .0, at-start .pre .1 .setting .segment .small)
 
 along-along-requires : (t : ℕ) → along-lts.Need-along-requires (along-claims t) (along-at t) along.Post
 along-along-requires t c κs =
@@ -269,7 +269,7 @@ along-along-requires t c κs =
           ),
           λ o. at-middle .middle .ensures .path,
         );
-        kept-row = around-rest (at-start .pre .1 .setting .window .ends) (sym (at-mate .mate .ensures))
+        kept-row = around-rest (at-start .pre .1 .setting .segment .ends) (sym (at-mate .mate .ensures))
             (omega (arith, levels-least (at-start .pre .1 .levels), at-keep .keep .kept .1 .1 .1 .1 .1 .1 .1 .1 .1 .1 .0)) (at-keep .keep .ensures);
         room = at-start .pre .1 .room;
         levels = levels-half (nth (at-start .args .qm .now) (at-start .args .kept) - at-start .args .kept)
@@ -321,7 +321,7 @@ along-descend-requires t c κs =
       ),
       (
         narrow _ _ (at-start .pre .1 .setting) (at-along .along .ensures .inner .from)
-            (omega (arith, at-along .along .ensures .high, at-start .pre .1 .setting .window .ends)),
+            (omega (arith, at-along .along .ensures .high, at-start .pre .1 .setting .segment .ends)),
         (
           (
             omega (arith, at-mate .mate .ensures, at-middle .middle .ensures .arc),
@@ -423,12 +423,12 @@ descend-claims t = (
 descend-returns : (t : ℕ) → descend-lts.Need-returns (descend-claims t) (descend-at t) descend.Post
 descend-returns t c =
     let at-start = c .before .before .before .before .before .before .before .before in
-    but-empty _ _ _ _ _ _ _ (at-start .pre .1 .0 .window .order) (c .if1 .taken)
+    but-empty _ _ _ _ _ _ _ (at-start .pre .1 .0 .segment .order) (c .if1 .taken)
 
 descend-add-w : (t : ℕ) → descend-lts.Need-add-w (descend-claims t) (descend-at t) descend.Post
 descend-add-w t c =
     let at-start = c .before .before .before .before .before .before .before .before in
-    omega (arith, at-start .pre .1 .0 .window .small)
+    omega (arith, at-start .pre .1 .0 .segment .small)
 
 descend-heaviest-requires : (t : ℕ) → descend-lts.Need-heaviest-requires (descend-claims t) (descend-at t) descend.Post
 descend-heaviest-requires t c κs =
@@ -440,22 +440,22 @@ descend-heaviest-requires t c κs =
 descend-mul-rest : (t : ℕ) → descend-lts.Need-mul-rest (descend-claims t) (descend-at t) descend.Post
 descend-mul-rest t c =
     let at-start = c .before .before .before .before .before .before .before .before .before in
-    omega (arith, levels-least (at-start .pre .1 .1 .1 .1 .1 .1 .1 .1 .0), at-start .pre .1 .0 .window .small)
+    omega (arith, levels-least (at-start .pre .1 .1 .1 .1 .1 .1 .1 .1 .0), at-start .pre .1 .0 .segment .small)
 
 descend-sub-rest : (t : ℕ) → descend-lts.Need-sub-rest (descend-claims t) (descend-at t) descend.Post
 descend-sub-rest t c =
     let at-start = c .before .before .before .before .before .before .before .before .before in
-    omega (arith, levels-least (at-start .pre .1 .1 .1 .1 .1 .1 .1 .1 .0), at-start .pre .1 .0 .window .small)
+    omega (arith, levels-least (at-start .pre .1 .1 .1 .1 .1 .1 .1 .1 .0), at-start .pre .1 .0 .segment .small)
 
 descend-part-rest-start : (t : ℕ) → descend-lts.Need-part-rest-start (descend-claims t) (descend-at t) descend.Post
 descend-part-rest-start t c =
     let at-start = c .before .before .before .before .before .before .before .before .before in
-    omega (arith, levels-least (at-start .pre .1 .1 .1 .1 .1 .1 .1 .1 .0), at-start .pre .1 .0 .window .small)
+    omega (arith, levels-least (at-start .pre .1 .1 .1 .1 .1 .1 .1 .1 .0), at-start .pre .1 .0 .segment .small)
 
 descend-part-rest-end : (t : ℕ) → descend-lts.Need-part-rest-end (descend-claims t) (descend-at t) descend.Post
 descend-part-rest-end t c =
     let at-start = c .before .before .before .before .before .before .before .before .before in
-    omega (arith, levels-least (at-start .pre .1 .1 .1 .1 .1 .1 .1 .1 .0), at-start .pre .1 .0 .window .small)
+    omega (arith, levels-least (at-start .pre .1 .1 .1 .1 .1 .1 .1 .1 .0), at-start .pre .1 .0 .segment .small)
 
 descend-place-requires : (t : ℕ) → descend-lts.Need-place-requires (descend-claims t) (descend-at t) descend.Post
 descend-place-requires t c κs =
@@ -524,7 +524,7 @@ descend-along-requires t c κs =
         (heavy-in (at-heaviest .heaviest .ensures) (at-place .place .ensures .0) (at-start .pre .1 .1 .1 .0) (at-if2 .if2 .left)),
       ),
       record {
-        setting = narrow _ _ (at-start .pre .1 .0) (omega (arith, at-if2 .if2 .left)) (at-start .pre .1 .0 .window .ends);
+        setting = narrow _ _ (at-start .pre .1 .0) (omega (arith, at-if2 .if2 .left)) (at-start .pre .1 .0 .segment .ends);
         order = (
           at-if2 .if2 .left,
           (
@@ -636,7 +636,7 @@ enter-descend-requires t c κs =
       omega (arith, at-start .pre .0, at-start .pre .1 .ends),
       (
         narrow _ _ (at-start .pre .1 .setting) (at-take-kept .take-kept .ensures .0 .order) (omega
-            (arith, at-take-kept .take-kept .ensures .0 .goes, at-take-kept .take-kept .ensures .0 .ends, at-start .pre .1 .setting .window .ends)),
+            (arith, at-take-kept .take-kept .ensures .0 .goes, at-take-kept .take-kept .ensures .0 .ends, at-start .pre .1 .setting .segment .ends)),
         (
           (omega (arith, at-start .pre .1 .ends), omega (arith, at-start .pre .1 .ends)),
           (
@@ -813,7 +813,7 @@ past-place-requires-2 t c κs =
     let at-start = at-mate .before .before .before .before .before .before .before .before in (
       omega (arith, at-start .pre .0, at-mate .mate .ensures, at-start .pre .1 .arc .1),
       (
-        narrow _ _ (at-start .pre .1 .setting) (at-enter .enter .ensures .0 .reach .upto) (at-start .pre .1 .setting .window .ends),
+        narrow _ _ (at-start .pre .1 .setting) (at-enter .enter .ensures .0 .reach .upto) (at-start .pre .1 .setting .segment .ends),
         (
           (
             omega (
@@ -899,7 +899,7 @@ place-claims t = (
 place-loop-holds : (t : ℕ) → place-lts.Need-loop-holds (place-claims t) (place-at t) place.Post place-Inv-loop place-μ-loop
 place-loop-holds t c =
     let at-start = c .before .before .before .before .before .before .before in
-    (walked-none (at-start .pre .1 .0 .window .order) (at-start .pre .1 .1 .0 .0), laid-none _ _ _ _, refl)
+    (walked-none (at-start .pre .1 .0 .segment .order) (at-start .pre .1 .1 .0 .0), laid-none _ _ _ _, refl)
 
 place-same-length : (t : ℕ) → place-lts.Need-same-length (place-claims t) (place-at t) place.Post place-Inv-loop place-μ-loop
 place-same-length t c = c .before .before .loop .inv .1 .long
@@ -937,7 +937,7 @@ place-place-arc-requires t c κs =
         at-if2 .if2 .taken,
       ),
       (
-        narrow _ _ (at-start .pre .1 .0) (omega (arith, at-if1 .if1 .left)) (at-start .pre .1 .0 .window .ends),
+        narrow _ _ (at-start .pre .1 .0) (omega (arith, at-if1 .if1 .left)) (at-start .pre .1 .0 .segment .ends),
         (
           (at-if1 .if1 .left, omega (arith, at-start .pre .1 .1 .1 .1 .0, at-loop .loop .inv .1 .long)),
           (
@@ -969,7 +969,7 @@ place-put-base-requires t c κs =
     let at-loop-test = at-if1 .before in
     let at-loop = at-loop-test .before in
     let at-start = at-loop .before .before .before .before .before .before .before .before in (
-      (at-start .pre .1 .0 .window .same, at-start .pre .1 .0 .window .ends),
+      (at-start .pre .1 .0 .segment .same, at-start .pre .1 .0 .segment .ends),
       (
         (at-if1 .if1 .left, omega (arith, at-start .pre .1 .1 .1 .1 .0, at-loop .loop .inv .1 .long)),
         (
@@ -1085,7 +1085,7 @@ place-arc-descend-requires t c κs =
       omega (arith, at-start .pre .0, at-start .pre .1 .1 .1 .0),
       (
         narrow _ _ (at-start .pre .1 .0) (at-take-at .take-at .ensures .0 .order)
-            (omega (arith, at-take-at .take-at .ensures .0 .goes, at-take-at .take-at .ensures .0 .ends, at-start .pre .1 .0 .window .ends)),
+            (omega (arith, at-take-at .take-at .ensures .0 .goes, at-take-at .take-at .ensures .0 .ends, at-start .pre .1 .0 .segment .ends)),
         (
           (omega (arith, at-start .pre .1 .1 .1 .0), omega (arith, at-start .pre .1 .1 .1 .0)),
           (
@@ -1097,7 +1097,7 @@ place-arc-descend-requires t c κs =
                 (omega arith, λ o. absurd (omega arith)),
                 (
                   around-none _ _ _
-                      (omega (arith, at-take-at .take-at .ensures .0 .goes, at-take-at .take-at .ensures .0 .ends, at-start .pre .1 .0 .window .ends)),
+                      (omega (arith, at-take-at .take-at .ensures .0 .goes, at-take-at .take-at .ensures .0 .ends, at-start .pre .1 .0 .segment .ends)),
                   (
                     omega (
                       arith,

@@ -26,7 +26,7 @@ slice-aggregate-place-all-lent c = search needs
 place-all-lent-requires : tie.Need-place-all-lent-requires
 place-all-lent-requires c κs =
     let at-start = c .before .before .before .before .before .before .before .before .before .before in
-    (at-start .pre .0, (at-start .pre .1 .0, (at-start .pre .1 .1, omega (arith, at-start .pre .0 .window .small, at-start .pre .0 .short))))
+    (at-start .pre .0, (at-start .pre .1 .0, (at-start .pre .1 .1, omega (arith, at-start .pre .0 .segment .small, at-start .pre .0 .short))))
 
 same-length-3 : tie.Need-same-length-3
 same-length-3 c = search needs

@@ -1,9 +1,10 @@
-//! The seven calls on lent buffers, and the order of the refusals. A call's rows are a list in their order: its refusal is the first that
+//! The eight calls on lent buffers, and the order of the refusals. A call's rows are a list in their order: its refusal is the first that
 //! applies, and the tests ask for all that apply.
 use super::block::{self, BLOCK, ENTRY, MOLECULE};
 use super::embedding;
 use super::rows;
 use super::strand::{self, Fold, NEITHER, Refused, Strand};
+use super::windows::{self, Tightest};
 
 pub const LONGEST: usize = 4096;
 
@@ -76,6 +77,12 @@ pub fn check(q: Strand) -> Result<Fold, Refused> {
 pub fn length(p: Strand, q: Strand, work: usize) -> Result<(usize, Fold), Refused> {
     accepted(length_rows(p, q, work))?;
     Ok((rows::length(p, q), strand::fold_of(q.mates)))
+}
+
+/// Window: the tightest window, and the fold of the molecule. Its rows are those of length.
+pub fn window(p: Strand, q: Strand, work: usize) -> Result<(Tightest, Fold), Refused> {
+    accepted(length_rows(p, q, work))?;
+    Ok((windows::tightest(p, q), strand::fold_of(q.mates)))
 }
 
 /// Verify: whether the places are an embedding, and the fold of the molecule.

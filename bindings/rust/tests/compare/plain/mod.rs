@@ -1,5 +1,5 @@
-//! Document 01 and request (i) of document 02 once more, in plain Rust and from their text alone: nothing here calls the library. The tests hold the library
-//! to it, and the benchmark times against it. (01 says shelf for the cache, kept block for an entry, plain machine for the reference model.)
+//! Document 01 and the requests (i) and (ii) of document 02 once more, in plain Rust and from their text alone: nothing here calls the library. The tests hold
+//! the library to it, and the benchmark times against it. (01 says shelf for the cache, kept block for an entry, plain machine for the reference model.)
 pub mod block;
 pub mod calls;
 pub mod embedding;
@@ -7,3 +7,4 @@ pub mod model;
 pub mod rows;
 pub mod strand;
 pub mod table;
+pub mod windows;

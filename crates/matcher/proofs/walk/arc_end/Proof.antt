@@ -67,8 +67,8 @@ returns-2 : tie.Need-returns-2
 returns-2 c =
     let at-inner-row = c .before .before .before .before .before .before .before in
     let at-start = at-inner-row .before .before .before .before .before .before .before .before .before in
-    rw (c .arc-entry .ensures) (arc-ends (at-start .pre .1 .1 .1 .1 .1 .0) (at-start .pre .1 .1 .0 .0) (at-start .pre .0) (at-start .pre .1 .1 .0 .1 .0)
-    (at-start .pre .1 .1 .0 .1 .1) (at-inner-row .inner-row .ensures))
+    rw (c .arc-entry .ensures) (arc-ends (at-start .pre .1 .1 .1 .1 .1 .0) (at-start .pre .1 .1 .0 .0) (at-start .pre .0) (at-start .pre .1 .0)
+    (at-start .pre .1 .1 .0 .1 .0) (at-start .pre .1 .1 .0 .1 .1) (at-inner-row .inner-row .ensures))
 
 pub arc-end-spec : {M : Type 1} → statement M
 arc-end-spec = tie.close (tie.spec returns inner-row-requires shared-slice-read-arc-entry shared-slice-read-arc-entry-2 mul-arc-entry slice-read-arc-entry

@@ -33,7 +33,7 @@ shared-slice-read-unit c = omega arith
 unit-requires : tie.Need-unit-requires Inv-loop μ-loop
 unit-requires c κs =
     let at-start = c .before .before .before .before .before .before .before .before .before .before in
-    (at-start .pre .window .same, omega arith)
+    (at-start .pre .segment .same, omega arith)
 
 add-l : tie.Need-add-l Inv-loop μ-loop
 add-l c =

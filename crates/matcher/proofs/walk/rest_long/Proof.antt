@@ -10,7 +10,7 @@ slice-aggregate-rest-lent c = search needs
 rest-lent-requires : tie.Need-rest-lent-requires
 rest-lent-requires c κs =
     let at-start = c .before .before .before .before .before .before .before in
-    (at-start .pre .0, (at-start .pre .1 .0, (at-start .pre .1 .1, omega (arith, at-start .pre .0 .window .small, at-start .pre .0 .short))))
+    (at-start .pre .0, (at-start .pre .1 .0, (at-start .pre .1 .1, omega (arith, at-start .pre .0 .segment .small, at-start .pre .0 .short))))
 
 same-length : tie.Need-same-length
 same-length c = search needs

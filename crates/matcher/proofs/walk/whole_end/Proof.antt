@@ -8,7 +8,7 @@ use lib.ListN.{length}
 use Rattle.placing.specs.Placing.{Walked}
 use Rattle.placing.proofs.Top.{narrow, all-sealed, walked-up, walked-in, walked-step, walked-unit}
 use Rattle.matcher.specs.Walk.{TablesFor}
-use Rattle.matcher.proofs.Whole.{tables-filled, all-taken, all-walked}
+use Rattle.matcher.proofs.Whole.{all-taken, all-walked}
 use Rattle.matcher.proofs.walk.whole_end.Statement.{statement}
 use Rattle.matcher.proofs.walk.whole_end.Tie as tie
 
@@ -38,37 +38,9 @@ mate-requires c κs =
     let at-start = c .before .before .before .before .before .before .before .before .before in
     omega (arith, at-start .pre .0 .equal)
 
-add-fill : tie.Need-add-fill Inv-loop μ-loop
-add-fill c =
-    let at-mate = c .before in
-    let at-loop-test = at-mate .before .before in
-    let at-loop = at-loop-test .before in
-    let at-start = at-loop .before .before .before .before .before .before .before in
-    omega (
-      arith,
-      walked-in (at-start .pre .0 .molecule) (omega arith) (all-sealed (at-start .pre .0 .molecule)) (at-loop .loop .inv .0) (at-loop-test .loop-test .taken) _
-          (at-mate .mate .ensures),
-      at-start .pre .0 .short,
-    )
-
-fill-requires : tie.Need-fill-requires Inv-loop μ-loop
-fill-requires c κs =
-    let at-if2 = c .before in
-    let at-mate = at-if2 .before in
-    let at-if1 = at-mate .before in
-    let at-loop-test = at-if1 .before in
-    let at-loop = at-loop-test .before in
-    let at-start = at-loop .before .before .before .before .before .before .before in
-    let inside = walked-in (at-start .pre .0 .molecule) (omega arith) (all-sealed (at-start .pre .0 .molecule)) (at-loop .loop .inv .0)
-    (at-loop-test .loop-test .taken) _ (at-mate .mate .ensures) in (
-      (at-start .pre .0 .window .small, (at-start .pre .0 .short, omega (arith, at-if1 .if1 .left))),
-      (omega (arith, at-if2 .if2 .taken), (omega (arith, inside), at-loop .loop .inv .2 .room)),
-    )
-
-arc-end-requires : tie.Need-arc-end-requires Inv-loop μ-loop
-arc-end-requires c κs =
-    let at-fill = c .before .before .before .before in
-    let at-if2 = at-fill .before .before in
+top-arc-end-requires : tie.Need-top-arc-end-requires Inv-loop μ-loop
+top-arc-end-requires c κs =
+    let at-if2 = c .before .before in
     let at-mate = at-if2 .before in
     let at-if1 = at-mate .before in
     let at-loop-test = at-if1 .before in
@@ -86,13 +58,7 @@ arc-end-requires c κs =
               sym (at-mate .mate .ensures),
             ),
           ),
-          (
-            omega (arith, at-start .pre .1 .1 .0, at-loop .loop .inv .1),
-            (
-              tables-filled (at-loop .loop .inv .2) (at-fill .fill .ensures .1) .motif,
-              (at-fill .fill .ensures .0 .1, at-fill .fill .ensures .0 .0),
-            ),
-          ),
+          (omega (arith, at-start .pre .1 .1 .0, at-loop .loop .inv .1), at-loop .loop .inv .2),
         ),
       ),
     )
@@ -103,7 +69,7 @@ shared-slice-read-unit c = omega arith
 unit-requires : tie.Need-unit-requires Inv-loop μ-loop
 unit-requires c κs =
     let at-start = c .before .before .before .before .before .before .before .before .before .before .before .before in
-    (at-start .pre .0 .window .same, omega arith)
+    (at-start .pre .0 .segment .same, omega arith)
 
 add-l : tie.Need-add-l Inv-loop μ-loop
 add-l c =
@@ -139,10 +105,10 @@ loop-again c =
     let at-start = at-loop .before .before .before .before .before .before .before in
     ⊎-elim (λ w. (
       walked-step (at-start .pre .0 .molecule) (omega arith) (all-sealed (at-start .pre .0 .molecule)) (at-loop .loop .inv .0) (at-loop-test .loop-test .taken)
-          _ (at-mate .mate .ensures) _ (rw (w .12) (w .7 .ensures)),
-      ap length (w .11) ∙ w .7 .kept .1 .1 .1 .1 .1 .1 .1 .1 .1 .0 ∙ at-loop .loop .inv .1,
-      rw (w .10) (tables-filled (at-loop .loop .inv .2) (w .2 .ensures .1)),
-      ap length (w .10) ∙ w .2 .ensures .1 .0 ∙ at-loop .loop .inv .3,
+          _ (at-mate .mate .ensures) _ (rw (w .10) (w .3 .ensures .0)),
+      ap length (w .9) ∙ w .3 .kept .1 .1 .1 .1 .1 .1 .1 .1 .0 ∙ at-loop .loop .inv .1,
+      rw (w .8) (w .3 .ensures .1),
+      ap length (w .8) ∙ w .3 .kept .1 .1 .0 ∙ at-loop .loop .inv .3,
     )) (λ w. (
       walked-step (at-start .pre .0 .molecule) (omega arith) (all-sealed (at-start .pre .0 .molecule)) (at-loop .loop .inv .0) (at-loop-test .loop-test .taken)
           _ (at-mate .mate .ensures) _ (rw (w .5, w .2 .ensures) (walked-unit (at-start .pre .0 .molecule) (omega arith)
@@ -163,5 +129,5 @@ returns-2 : tie.Need-returns-2 Inv-loop μ-loop
 returns-2 c = all-walked (c .before .loop .inv .0) (c .loop-test .left)
 
 pub whole-end-spec : {M : Type 1} → statement M
-whole-end-spec = tie.close (tie.spec Inv-loop μ-loop loop-holds same-length same-length-2 returns mate-requires add-fill fill-requires arc-end-requires
+whole-end-spec = tie.close (tie.spec Inv-loop μ-loop loop-holds same-length same-length-2 returns mate-requires top-arc-end-requires
     shared-slice-read-unit unit-requires add-l loop-less loop-again same-length-3 same-length-4 returns-2)

@@ -1,4 +1,4 @@
--- `placing::path::keep` meets its contract: the kept row, cut to the window, is the first row of the slice that is handed to the walk over the arcs.
+-- `placing::path::keep` meets its contract: the kept row, cut to the segment, is the first row of the slice that is handed to the walk over the arcs.
 use Prim.Native.Nat.{_+_}
 use native.Mathlib.Omega.{arith}
 use lib.ListN.{length}
@@ -40,7 +40,7 @@ inner-row-requires c κs =
           (
             at-start .pre .1 .1 .1 .1 .1 .motif,
             (
-              starts-bounded (at-start .pre .1 .1 .1 .1 .1) (at-start .pre .0 .window .order) (at-start .pre .0 .window .ends) _ _
+              starts-bounded (at-start .pre .1 .1 .1 .1 .1) (at-start .pre .0 .segment .order) (at-start .pre .0 .segment .ends) _ _
                   (omega (arith, at-start .pre .1 .1 .0)) (omega (arith, at-start .pre .1 .1 .0)),
               cut-kept-row (length (at-start .args .p .now) + 1) (at-start .args .work .now) (at-cut .cut .last .1 .1 .1 .0) (at-start .pre .1 .1 .1 .0 .low)
                   (at-start .pre .1 .1 .1 .0 .high) (at-start .pre .1 .0) (omega (arith, at-start .pre .1 .1 .1 .1 .0, at-cut .cut .kept .1 .1 .1 .0))
@@ -61,7 +61,7 @@ returns c =
     let at-start = at-cut .before .before .before .before .before .before .before .before in
     ready (at-inner-row .inner-row .last .1 .1 .1 .1 .1 .1 .1 .1 .1 .1 .0) (omega (arith, at-start .pre .1 .1 .1 .1 .0, at-cut .cut .kept .1 .1 .1 .0))
     (at-cut .cut .ensures)
-    (starts-row (at-start .pre .1 .1 .1 .1 .1) (at-start .pre .0 .window .ends) (omega (arith, at-start .pre .1 .1 .0)) (at-inner-row .inner-row .ensures))
+    (starts-row (at-start .pre .1 .1 .1 .1 .1) (at-start .pre .0 .segment .ends) (omega (arith, at-start .pre .1 .1 .0)) (at-inner-row .inner-row .ensures))
 
 pub keep-spec : {M : Type 1} → statement M
 keep-spec = tie.close (tie.spec add-w cut-requires mul-rest sub-rest part-rest-start part-rest-end inner-row-requires same-length returns)

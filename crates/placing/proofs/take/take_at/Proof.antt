@@ -1,11 +1,11 @@
--- `placing::take::take_at` meets its contract: the inner row for a window as long as the arc says what the arc takes (`taken-at`).
+-- `placing::take::take_at` meets its contract: the inner row for a segment as long as the arc says what the arc takes (`taken-at`).
 use Prim.Native.Nat.{_-_}
 use native.Mathlib.Omega.{arith}
 use borrow.Author.Needs.{needs}
 use Rattle.arcs.proofs.Made.{no-kept-row}
 use Rattle.arcs.proofs.BoundLaws.{starts-bounded, starts-row}
 use Rattle.arcs.proofs.Arcs.{room-any}
-use Rattle.placing.proofs.Top.{window-low, window-high, window-of}
+use Rattle.placing.proofs.Top.{segment-low, segment-high, segment-of}
 use Rattle.placing.proofs.Descent.{taken-at}
 use Rattle.placing.proofs.take.take_at.Statement.{statement}
 use Rattle.placing.proofs.take.take_at.Tie as tie
@@ -26,7 +26,7 @@ inner-row-requires : tie.Need-inner-row-requires
 inner-row-requires c κs =
     let at-smaller = c .before in
     let at-start = at-smaller .before .before .before .before .before .before .before .before in (
-      window-of _ _ _ (at-start .pre .0) (at-start .pre .1 .0 .0) (at-smaller .smaller .ensures) (at-start .pre .1 .1 .0 .0) (at-start .pre .1 .1 .0 .1 .0)
+      segment-of _ _ _ (at-start .pre .0) (at-start .pre .1 .0 .0) (at-smaller .smaller .ensures) (at-start .pre .1 .1 .0 .0) (at-start .pre .1 .1 .0 .1 .0)
           (at-start .pre .1 .1 .0 .1 .1),
       (
         at-start .pre .1 .1 .0,
@@ -38,14 +38,14 @@ inner-row-requires c κs =
               starts-bounded (at-start .pre .1 .1 .1 .1)
                   (omega (
                     arith,
-                    window-low _ _ _ (at-start .pre .0) (at-start .pre .1 .0 .0) (at-smaller .smaller .ensures) (at-start .pre .1 .1 .0 .0)
+                    segment-low _ _ _ (at-start .pre .0) (at-start .pre .1 .0 .0) (at-smaller .smaller .ensures) (at-start .pre .1 .1 .0 .0)
                         (at-start .pre .1 .1 .0 .1 .0) (at-start .pre .1 .1 .0 .1 .1),
                   ))
                   (omega (
                     arith,
-                    window-high _ _ _ (at-start .pre .0) (at-start .pre .1 .0 .0) (at-smaller .smaller .ensures) (at-start .pre .1 .1 .0 .0)
+                    segment-high _ _ _ (at-start .pre .0) (at-start .pre .1 .0 .0) (at-smaller .smaller .ensures) (at-start .pre .1 .1 .0 .0)
                         (at-start .pre .1 .1 .0 .1 .0) (at-start .pre .1 .1 .0 .1 .1),
-                    at-start .pre .0 .window .ends,
+                    at-start .pre .0 .segment .ends,
                   )) _ _
                   (omega (arith, at-start .pre .1 .1 .0)) (omega (arith, at-start .pre .1 .1 .0)),
               no-kept-row _,
@@ -75,30 +75,30 @@ write-take-requires c κs =
     let at-smaller = c .before .before .before .before .before .before .before in
     let at-start = at-smaller .before .before .before .before .before .before .before .before in (
       (
-        at-start .pre .0 .window .same,
+        at-start .pre .0 .segment .same,
         (
           omega (
             arith,
-            window-high _ _ _ (at-start .pre .0) (at-start .pre .1 .0 .0) (at-smaller .smaller .ensures) (at-start .pre .1 .1 .0 .0)
+            segment-high _ _ _ (at-start .pre .0) (at-start .pre .1 .0 .0) (at-smaller .smaller .ensures) (at-start .pre .1 .1 .0 .0)
                 (at-start .pre .1 .1 .0 .1 .0) (at-start .pre .1 .1 .0 .1 .1),
-            at-start .pre .0 .window .ends,
+            at-start .pre .0 .segment .ends,
           ),
           omega (
             arith,
-            window-high _ _ _ (at-start .pre .0) (at-start .pre .1 .0 .0) (at-smaller .smaller .ensures) (at-start .pre .1 .1 .0 .0)
+            segment-high _ _ _ (at-start .pre .0) (at-start .pre .1 .0 .0) (at-smaller .smaller .ensures) (at-start .pre .1 .1 .0 .0)
                 (at-start .pre .1 .1 .0 .1 .0) (at-start .pre .1 .1 .0 .1 .1),
-            at-start .pre .0 .window .ends,
-            at-start .pre .0 .window .small,
+            at-start .pre .0 .segment .ends,
+            at-start .pre .0 .segment .small,
           ),
         ),
       ),
       (
         (
-          window-low _ _ _ (at-start .pre .0) (at-start .pre .1 .0 .0) (at-smaller .smaller .ensures) (at-start .pre .1 .1 .0 .0) (at-start .pre .1 .1 .0 .1 .0)
-              (at-start .pre .1 .1 .0 .1 .1),
+          segment-low _ _ _ (at-start .pre .0) (at-start .pre .1 .0 .0) (at-smaller .smaller .ensures) (at-start .pre .1 .1 .0 .0)
+              (at-start .pre .1 .1 .0 .1 .0) (at-start .pre .1 .1 .0 .1 .1),
           omega (
             arith,
-            window-high _ _ _ (at-start .pre .0) (at-start .pre .1 .0 .0) (at-smaller .smaller .ensures) (at-start .pre .1 .1 .0 .0)
+            segment-high _ _ _ (at-start .pre .0) (at-start .pre .1 .0 .0) (at-smaller .smaller .ensures) (at-start .pre .1 .1 .0 .0)
                 (at-start .pre .1 .1 .0 .1 .0) (at-start .pre .1 .1 .0 .1 .1),
             at-start .pre .1 .0 .1,
           ),
@@ -123,9 +123,9 @@ returns c =
           (at-start .pre .1 .1 .0 .1 .1)
           (starts-row (at-start .pre .1 .1 .1 .1) (omega (
             arith,
-            window-high _ _ _ (at-start .pre .0) (at-start .pre .1 .0 .0) (at-smaller .smaller .ensures)
+            segment-high _ _ _ (at-start .pre .0) (at-start .pre .1 .0 .0) (at-smaller .smaller .ensures)
                 (at-start .pre .1 .1 .0 .0) (at-start .pre .1 .1 .0 .1 .0) (at-start .pre .1 .1 .0 .1 .1),
-            at-start .pre .0 .window .ends,
+            at-start .pre .0 .segment .ends,
           ))
           (omega (arith, at-start .pre .1 .1 .0)) (at-inner-row .inner-row .ensures)) (at-write-take .write-take .ensures .0),
       at-write-take .write-take .ensures .1,

@@ -1,8 +1,8 @@
--- `placing::take::take_kept` meets its contract: the second row of the work slice is the inner row for the whole window (`taken-window`), and the first
+-- `placing::take::take_kept` meets its contract: the second row of the work slice is the inner row for the whole segment (`taken-segment`), and the first
 -- row is as it was.
 use native.Mathlib.Omega.{arith}
 use borrow.Author.Needs.{needs}
-use Rattle.placing.proofs.Descent.{taken-window, around-under}
+use Rattle.placing.proofs.Descent.{taken-segment, around-under}
 use Rattle.placing.proofs.take.take_kept.Statement.{statement}
 use Rattle.placing.proofs.take.take_kept.Tie as tie
 
@@ -40,7 +40,7 @@ slice-read-write-take-2 c = search needs
 write-take-requires : tie.Need-write-take-requires
 write-take-requires c κs =
     let at-start = c .before .before .before .before .before .before .before .before .before .before .before .before .before .before in (
-      (at-start .pre .0 .window .same, (at-start .pre .0 .window .ends, omega (arith, at-start .pre .0 .window .ends, at-start .pre .0 .window .small))),
+      (at-start .pre .0 .segment .same, (at-start .pre .0 .segment .ends, omega (arith, at-start .pre .0 .segment .ends, at-start .pre .0 .segment .small))),
       (
         at-start .pre .1 .1 .0,
         ((at-start .pre .1 .1 .1 .0 .0, (at-start .pre .1 .1 .1 .0 .1 .0, at-start .pre .0 .short)), at-start .pre .1 .1 .1 .1 .1 .1 .motif),
@@ -58,7 +58,7 @@ returns c =
     let at-write-take = c .before .before in
     let at-keep = at-write-take .before .before .before .before .before .before in
     let at-start = at-keep .before .before .before .before .before .before .before .before .before in
-    let T = taken-window _ (at-start .pre .0) (at-start .pre .1 .1 .0 .0) (at-start .pre .1 .1 .1 .0 .0) (at-start .pre .1 .1 .1 .0 .1 .0)
+    let T = taken-segment _ (at-start .pre .0) (at-start .pre .1 .1 .0 .0) (at-start .pre .1 .1 .1 .0 .0) (at-start .pre .1 .1 .1 .0 .1 .0)
     (at-start .pre .1 .1 .1 .0 .1 .1) (at-keep .keep .ensures .row) (at-write-take .write-take .ensures .0) in (
       T,
       (

@@ -1,0 +1,37 @@
+//! The shortest piece of yeast tRNA-Phe that still carries a hairpin, as README shows it: `cargo run --release --example window`.
+use lakhido::{Strand, window, work_size};
+
+/// The mates of a structure in dot-bracket text: `.` for a base without a bond, `(` and `)` for the two ends of one.
+fn mates(structure: &str) -> Vec<u16> {
+    let mut mates: Vec<u16> = (0..structure.len() as u16).collect();
+    let mut open = Vec::new();
+    for (i, sign) in structure.bytes().enumerate() {
+        match sign {
+            b'(' => open.push(i),
+            b')' => {
+                let left = open.pop().expect("a bracket that opens");
+                (mates[left], mates[i]) = (i as u16, left as u16);
+            }
+            _ => {}
+        }
+    }
+    mates
+}
+
+fn main() -> Result<(), lakhido::Refusal> {
+    let bases = "GCGGAUUUAGCUCAGUUGGGAGAGCGCCAGACUGAAGAUCUGGAGGUCCUGUGUUCGAUCCACAGAAUUCGCACCA";
+    let structure = "(((((((..((((........)))).((((.........)))).....(((((.......))))))))))))....";
+    let (molecule_mates, motif_mates) = (mates(structure), mates("(((....)))"));
+    let molecule = Strand::new(bases.as_bytes(), &molecule_mates);
+    let motif = Strand::new(b"GUGUUCACAC", &motif_mates);
+
+    let mut work = vec![0; work_size(motif.bases.len(), molecule.bases.len())];
+    match window(motif, molecule, &mut work)?.window {
+        Some(found) => {
+            let piece = found.start..found.start + found.length;
+            println!("{} bases from position {}:\n{}\n{}", found.length, found.start, &bases[piece.clone()], &structure[piece]);
+        }
+        None => println!("the molecule does not carry the motif"),
+    }
+    Ok(())
+}

@@ -1,0 +1,4 @@
+mod SearchLaws
+mod CarryLaws
+mod AnswerLaws
+pub mod Claims
