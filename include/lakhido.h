@@ -7,6 +7,10 @@
  * Strands. A molecule or a motif is two buffers of one length: bases as bytes ('A', 'C', 'G', 'U') and mates as 16-bit numbers. Positions
  * count from 0. The mate of a base without a bond is its own position. Two mates i < j are an arc, and arcs must not cross.
  *
+ * The empty motif. A molecule has at least one base; a motif may have none: both its lengths are 0. The empty motif embeds in every molecule:
+ * length answers 0, and so does show, which takes any `places` and leaves them as they are; verify answers 1 for no places and is refused by 9 for more;
+ * window finds the window with start 0 and length 0; query lists every molecule of the catalog.
+ *
  * Buffers. Each buffer is a pointer and its length in elements (bytes, or 16-bit numbers).
  * - A pointer to 16-bit numbers is aligned to 2 bytes. Pointers to bytes need no alignment.
  * - A buffer of length 0 is not read or written, and its pointer may be null. Any other pointer is valid for its whole length.
@@ -29,10 +33,10 @@ extern "C" {
 #endif
 
 /* The version of this file and of the library. */
-#define LAKHIDO_VERSION "0.3.0"
+#define LAKHIDO_VERSION "0.4.0"
 
-/* Lengths of strands: 1 to LAKHIDO_MOST bases for check, length, show, window and verify; 1 to LAKHIDO_MOLECULE_MOST for a molecule of the
- * catalog; 1 to LAKHIDO_MOTIF_MOST for the motif of a query. */
+/* Lengths of strands. For check, length, show, window and verify a molecule has 1 to LAKHIDO_MOST bases, a motif 0 to LAKHIDO_MOST. A molecule of
+ * the catalog has 1 to LAKHIDO_MOLECULE_MOST, the motif of a query 0 to LAKHIDO_MOTIF_MOST. */
 #define LAKHIDO_MOST 4096
 #define LAKHIDO_MOLECULE_MOST 160
 #define LAKHIDO_MOTIF_MOST 120
@@ -57,7 +61,7 @@ enum lakhido_refusal {
     LAKHIDO_ACCEPTED = 0,
     /* Side LAKHIDO_MOTIF or LAKHIDO_MOLECULE. */
     LAKHIDO_UNEQUAL_LENGTHS = 1,  /* bases and mates differ in length */
-    LAKHIDO_NO_BASES = 2,         /* no bases */
+    LAKHIDO_NO_BASES = 2,         /* no bases, of the molecule: a motif may have none */
     LAKHIDO_TOO_LONG = 3,         /* more bases than the call takes */
     LAKHIDO_BAD_LETTER = 4,       /* a base that is no letter; place: the lowest */
     LAKHIDO_BAD_MATE = 5,         /* a mate that is no position; place: the lowest base that has one */
@@ -115,7 +119,7 @@ lakhido_answer lakhido_check(const uint8_t *bases, size_t bases_length, const ui
  * prefix and one outside.) It is the motif's length exactly when the motif embeds.
  * arcs, depth: those of the molecule.
  * An accepted call leaves anything in `work`.
- * Refused by: 1 to 7 of the motif, 1 to 7 of the molecule, 8. */
+ * Refused by: 1 and 3 to 7 of the motif, 1 to 7 of the molecule, 8. */
 lakhido_answer lakhido_length(const uint8_t *motif_bases, size_t motif_bases_length, const uint16_t *motif_mates, size_t motif_mates_length,
                               const uint8_t *bases, size_t bases_length, const uint16_t *mates, size_t mates_length, uint16_t *work,
                               size_t work_length);
@@ -124,7 +128,7 @@ lakhido_answer lakhido_length(const uint8_t *motif_bases, size_t motif_bases_len
  * keeps the later ones. `places` has at least as many entries as the motif has bases.
  * arcs, depth: those of the molecule.
  * An accepted call leaves anything in `work`.
- * Refused by: 1 to 7 of the motif, 1 to 7 of the molecule, 9, 8. */
+ * Refused by: 1 and 3 to 7 of the motif, 1 to 7 of the molecule, 9, 8. */
 lakhido_answer lakhido_show(const uint8_t *motif_bases, size_t motif_bases_length, const uint16_t *motif_mates, size_t motif_mates_length,
                             const uint8_t *bases, size_t bases_length, const uint16_t *mates, size_t mates_length, uint16_t *places,
                             size_t places_length, uint16_t *work, size_t work_length);
@@ -136,7 +140,7 @@ lakhido_answer lakhido_show(const uint8_t *motif_bases, size_t motif_bases_lengt
  * start, length: of the windows that carry the motif the shortest, and of these the one with the least start; 0 where there is none.
  * arcs, depth: those of the molecule, not of the window, whatever `found` is.
  * An accepted call leaves anything in `work`.
- * Refused by: 1 to 7 of the motif, 1 to 7 of the molecule, 8. */
+ * Refused by: 1 and 3 to 7 of the motif, 1 to 7 of the molecule, 8. */
 lakhido_window_answer lakhido_window(const uint8_t *motif_bases, size_t motif_bases_length, const uint16_t *motif_mates,
                                      size_t motif_mates_length, const uint8_t *bases, size_t bases_length, const uint16_t *mates,
                                      size_t mates_length, uint16_t *work, size_t work_length);
@@ -144,7 +148,7 @@ lakhido_window_answer lakhido_window(const uint8_t *motif_bases, size_t motif_ba
 /* value: 1 where `places` is an embedding of the whole motif in the molecule, else 0. `places` has as many entries as the motif has bases, each
  * any number: a place past the molecule's end gives 0 and is not refused.
  * arcs, depth: those of the molecule, whatever `value` is.
- * Refused by: 1 to 7 of the motif, 1 to 7 of the molecule, 9. */
+ * Refused by: 1 and 3 to 7 of the motif, 1 to 7 of the molecule, 9. */
 lakhido_answer lakhido_verify(const uint8_t *motif_bases, size_t motif_bases_length, const uint16_t *motif_mates, size_t motif_mates_length,
                               const uint8_t *bases, size_t bases_length, const uint16_t *mates, size_t mates_length, const uint16_t *places,
                               size_t places_length);
@@ -164,7 +168,7 @@ lakhido_answer lakhido_remove(uint8_t *catalog, size_t catalog_length, uint8_t *
  * cache that was zeros at first and that these calls alone wrote, but for one altered byte in each block between one accepted call and the next.
  * searched: how many molecules were searched, the others being known from the cache.
  * Zeroes every unsound block of the cache and writes the block of the motif's slot. An accepted call leaves anything in `work`.
- * Refused by: 10, 11, 1 to 7 of the motif (1 to LAKHIDO_MOTIF_MOST bases), 9, 8. */
+ * Refused by: 10, 11, 1 and 3 to 7 of the motif (0 to LAKHIDO_MOTIF_MOST bases), 9, 8. */
 lakhido_answer lakhido_query(const uint8_t *catalog, size_t catalog_length, uint8_t *cache, size_t cache_length, const uint8_t *motif_bases,
                              size_t motif_bases_length, const uint16_t *motif_mates, size_t motif_mates_length, uint16_t *work,
                              size_t work_length, uint16_t *hits, size_t hits_length);

@@ -6,12 +6,15 @@ The image is three blocks and a byte; the strand has room for 162 bases; the two
 """
 import random
 
-from lakhido_model import (BLOCK, CHECKSUM_AT, ENTRY, FORMS, HITS_AT, LETTERS, LONGEST_MOLECULE, LONGEST_MOTIF, MAP, MOLECULE, SEARCHED_AT, checksum, decode,
-                           encode, forget, has_bit, nested, seal, sound)
+from lakhido_model import (BLOCK, CHECKSUM_AT, ENTRY, FORMS, HITS_AT, LETTERS, LONGEST_MOLECULE, LONGEST_MOTIF, MAP, MOLECULE, MOTIF, SEARCHED_AT, checksum,
+                           decode, encode, forget, has_bit, holds, keeps, nested, seal, sound)
 from testing_crate import after, total
 
 BLOCKS = 3
 ROOM = 162
+NUMBERS = {MOLECULE: 1, ENTRY: 2, MOTIF: 3}  # of the tests of soundness
+HOLDS_MOTIF = 4
+NAMES = {MOLECULE: 'molecule', ENTRY: 'entry', MOTIF: 'motif block'}
 
 
 class Cases:
@@ -78,7 +81,10 @@ class Cases:
         self.ask('R', n, 0, n >= BLOCK, name)
 
     def judge(self, form, n=BLOCK, name=''):
-        self.ask('J', form.kind, n, sound(form, self.image[:n]), name)
+        self.ask('J', NUMBERS[form], n, sound(form, self.image[:n]), name)
+
+    def holds_motif(self, n=BLOCK, name=''):
+        self.ask('J', HOLDS_MOTIF, n, holds(MOTIF, self.image[:n]), name)
 
     def forget(self, d, name=''):
         block = self.block(0)
@@ -99,22 +105,22 @@ class Cases:
         block[i] = was
         seal(block)
         self.set_block(0, block)
-        self.ask('X', i, v, 1000 * form.kind + 100 * old + 10 * right + sound(form, block), name)
+        self.ask('X', i, v, 1000 * NUMBERS[form] + 100 * old + 10 * right + sound(form, block), name)
 
     # the strand into the image, and out of it
     def encoded(self, form):
         """The block of the strand, or None where it or its maps do not fit."""
         bases, mates = self.strand()
         fits = len(bases) <= form.longest and len(mates) == len(bases)
-        if form is MOLECULE:
-            return encode(form, bases, mates) if fits else None
-        return encode(form, bases, mates, self.searched, self.hits) if fits and len(self.searched) == len(self.hits) == MAP else None
+        if form is ENTRY:
+            return encode(form, bases, mates, self.searched, self.hits) if fits and len(self.searched) == len(self.hits) == MAP else None
+        return encode(form, bases, mates) if fits else None
 
     def write(self, form, n=BLOCK, name=''):
         block = self.encoded(form) if n == BLOCK else None
         if block:
             self.set_block(0, block)
-        self.ask('M' if form is MOLECULE else 'K', 0, n, block is not None, name)
+        self.ask('K' if form is ENTRY else 'M', 0, n, block is not None, name)
 
     def put(self, d, name=''):
         block = self.encoded(MOLECULE) if d < BLOCKS else None
@@ -124,16 +130,16 @@ class Cases:
 
     def keeps(self, n=BLOCK, name=''):
         s = self.image[:n]
-        yes = n == BLOCK and s[1] <= LONGEST_MOTIF and any(s) and decode(ENTRY, s) == self.strand()
+        yes = n == BLOCK and s[1] <= LONGEST_MOTIF and keeps(s, *self.strand())
         self.ask('U', 0, n, yes, name)
 
-    def decode(self, n=ROOM, m=ROOM, size=BLOCK, name=''):
+    def decode(self, n=ROOM, m=ROOM, size=BLOCK, name='', form=MOLECULE):
         s = self.image[:size]
         count = s[1] if size == BLOCK and s[1] <= min(LONGEST_MOLECULE, n, m) else 0
         if count:
-            bases, mates = decode(MOLECULE, s)
+            bases, mates = decode(form, s)
             self.bases[:count], self.mates[:count] = bases.encode('latin-1'), mates
-        self.ask('D' if size == BLOCK else 'd', n, m, count, name)
+        self.ask('d' if size < BLOCK else 'E' if form is MOTIF else 'D', n, m, count, name)
 
     # the buffer
     def zero(self, d, name=''):
@@ -199,21 +205,23 @@ def damages(t, form):
             (HITS_AT, 3, 'hit, searched too'), (HITS_AT, 6, 'hit, not searched'), (HITS_AT, 0, 'hit, none'), (CHECKSUM_AT - 1, 128, 'hit, last byte'),
         ]:
             t.damage(form, i, v, name)
-    t.end(('molecule' if form is MOLECULE else 'entry') + ', a byte changed')
+    t.end(NAMES[form] + ', a byte changed')
 
 
 def empties(t):
     t.zero(0)
-    for form in FORMS.values():
+    t.holds_motif(name='no motif')
+    for form in FORMS:
         t.judge(form)
         for i in (0, 1, 2, 300, SEARCHED_AT, HITS_AT, CHECKSUM_AT, BLOCK - 1):
             t.damage(form, i, 1)
+        t.damage(form, 0, 2)
     t.end('empty block, a byte changed')
 
 
 def lengths(t):
     for n in (0, 1, 120, 121, 160, 161):
-        for form in FORMS.values():
+        for form in FORMS:
             t.zero(0)
             t.new(n, n, 70 + n, 'length %d' % n)
             t.maps()
@@ -227,7 +235,7 @@ def lengths(t):
 
 
 def arcs(t):
-    for form in FORMS.values():
+    for form in FORMS:
         for name, pairs in (('nested', [(0, 3), (1, 2)]), ('crossing', [(0, 2), (1, 3)]), ('side by side', [(0, 1), (2, 3)])):
             t.new(4, 4, 9, name)
             for i, j in pairs:
@@ -242,6 +250,8 @@ def refusals(t):
     for n in (0, 511, 513):
         t.judge(MOLECULE, n, 'no block')
         t.judge(ENTRY, n, 'no block')
+        t.judge(MOTIF, n, 'no block')
+        t.holds_motif(n, 'no block')
         t.write(MOLECULE, n, 'no block')
         t.write(ENTRY, n, 'no block')
         t.keeps(n, 'no block')
@@ -284,6 +294,9 @@ def decoders(t):
     t.store(1, 160)
     t.decode(160, 160)
     t.sums()
+    t.new(1, 1, 12)
+    t.decode(160, 160, form=MOTIF)
+    t.sums()
     t.new(1, 1, 13)
     t.store(1, 5)
     t.decode(5, 6, name='unsound, not tested again')
@@ -321,7 +334,7 @@ def buffers(t):
 
 
 def random_arcs(t, rng, n, tries):
-    for _ in range(tries):
+    for _ in range(tries if n else 0):
         i, j = rng.randrange(n), rng.randrange(n)
         if i != j and t.mates[i] == i and t.mates[j] == j:
             mates = t.mates[:n]
@@ -336,14 +349,15 @@ def random_damage(t, rng, form):
 
 
 def random_molecules(t, rng):
-    for _ in range(24):
+    for k in range(24):
         n = rng.randrange(1, 161)
         t.new(n, n, rng.randrange(1, 99999))
         random_arcs(t, rng, n, 16)
         t.write(MOLECULE)
         t.judge(MOLECULE)
+        t.holds_motif()
         t.new(1, 1, rng.randrange(1, 99999))
-        t.decode(name='decoded again')
+        t.decode(name='decoded again', form=MOTIF if k % 2 else MOLECULE)
         t.sums()
         random_damage(t, rng, MOLECULE)
         random_damage(t, rng, MOLECULE)
@@ -351,8 +365,9 @@ def random_molecules(t, rng):
 
 
 def random_entries(t, rng):
+    """One motif of twenty has no bases."""
     for k in range(24):
-        n = rng.randrange(1, 121)
+        n = rng.randrange(1, 121) if k % 20 != 7 else 0
         t.new(n, n, rng.randrange(1, 99999))
         random_arcs(t, rng, n, 10)
         t.maps()
@@ -373,7 +388,7 @@ def random_entries(t, rng):
         random_damage(t, rng, ENTRY)
         random_damage(t, rng, ENTRY)
         t.sums()
-        t.new(n, n, rng.randrange(1, 99999))
+        t.new(max(n, 1), max(n, 1), rng.randrange(1, 99999))
         t.keeps(name='another motif')
     t.end('random entries')
 
@@ -397,7 +412,90 @@ def keeping(t):
     t.zero(0)
     t.new(0, 0, 5)
     t.keeps(name='empty block')
+    t.new(1, 1, 5)
+    t.keeps(name='empty block')
     t.end('the motif of an entry')
+
+
+def each_byte(t, rng, form):
+    """Another value in each byte of a block; in one that is not 0, 0 and the marks of both kinds too."""
+    for i in range(BLOCK):
+        values = {rng.randrange(1, 256)} if t.image[i] == 0 else {0, 1, 2, 3, 255}
+        for v in sorted(values - {t.image[i]}):
+            t.damage(form, i, v)
+
+
+def no_bases_block(t, rng):
+    """02, (iii): a motif block may have length 0. It is no empty block, and no block of a catalog."""
+    t.new(0, 0, 5)
+    t.write(MOTIF, name='checksum 1')
+    assert checksum(t.image) == 1
+    for form in FORMS:
+        t.judge(form, name='as a block: ' + NAMES[form])
+    t.holds_motif()
+    t.judge_at(0, 'no block of a catalog')
+    t.put(1)
+    t.judge_at(1, 'no block of a catalog')
+    t.sums()
+    for n, form in ((ROOM, MOTIF), (ROOM, MOLECULE), (0, MOTIF), (0, MOLECULE)):
+        t.decode(n, n, name='no bases', form=form)
+        t.sums()
+    each_byte(t, rng, MOTIF)
+    t.damage(MOLECULE, 0, 0)
+    t.sums()
+    t.end('motif block, no bases')
+
+
+def no_bases_entry(t, rng):
+    """02, (iii): the motif is kept with length 0. The entry is no empty block."""
+    for n, m in ((0, 1), (1, 0)):
+        t.new(n, m, 5)
+        t.write(ENTRY, name='lengths differ')
+    t.new(0, 0, 5)
+    t.maps()
+    t.write(ENTRY, name='checksum 2')
+    assert checksum(t.image) == 2
+    for form in FORMS:
+        t.judge(form, name='as a block: ' + NAMES[form])
+    t.sums()
+    each_byte(t, rng, ENTRY)
+    t.clean_all('keeps the entry alone')
+    t.sums()
+    t.end('entry, no bases and maps')
+
+
+def kept_numbers(t):
+    """The same with numbers in its maps, which come and go; and what it keeps."""
+    t.maps()
+    for d, which in ((0, 1), (1, 3), (511, 3)):
+        t.mark(d, which)
+    t.write(ENTRY)
+    t.judge(ENTRY)
+    t.keeps(name='this motif')
+    for i, v, name in [
+        (0, 0, 'kind 0'), (0, 1, 'kind 1'), (1, 1, 'length 1'), (1, 121, 'over the limit'), (2, 1, 'first zero byte'), (19, 1, 'last zero byte'),
+        (20, 65, 'first base'), (139, 65, 'last base'), (140, 1, 'first mate'), (379, 1, 'last mate'), (SEARCHED_AT, 7, 'searched, one more'),
+        (SEARCHED_AT, 1, 'searched, without the hit'), (SEARCHED_AT, 0, 'searched, none'), (HITS_AT, 3, 'hit, searched too'), (HITS_AT, 6, 'hit, not searched'),
+        (HITS_AT, 0, 'hit, none'), (CHECKSUM_AT - 1, 0, 'last hit'), *((CHECKSUM_AT + i, 255, 'checksum') for i in range(4)),
+    ]:
+        t.damage(ENTRY, i, v, name)
+    for d in (1, 511, 1, 512):
+        t.forget(d)
+        t.bits(d)
+        t.keeps(name='this motif')
+        t.sums()
+    t.forget_all(0)
+    t.judge(ENTRY)
+    t.sums()
+    for n, m, name in ((1, 1, 'a base more'), (0, 1, 'a mate more'), (1, 0, 'no mates'), (120, 120, 'the longest'), (0, 0, 'this motif')):
+        t.new(n, m, 5)
+        t.keeps(name=name)
+    t.keeps(511, 'no block')
+    t.new(1, 1, 5)
+    t.write(ENTRY)
+    t.new(0, 0, 5)
+    t.keeps(name='another motif')
+    t.end('entry, no bases, numbers')
 
 
 def first(t):
@@ -413,10 +511,11 @@ def files():
     t, rng = Cases(), random.Random(1)
     first(t)
     empties(t)
-    for form in FORMS.values():
+    for form in FORMS:
         damages(t, form)
     for part in (lengths, arcs, keeping, decoders, refusals, buffers):
         part(t)
-    random_molecules(t, rng)
-    random_entries(t, rng)
+    for part in (random_molecules, random_entries, no_bases_block, no_bases_entry):
+        part(t, rng)
+    kept_numbers(t)
     return {'crates/block_test/stdin': ''.join(t.lines), 'crates/block_test/stdout': ''.join(t.told)}

@@ -1,15 +1,15 @@
 """For tests alone: the lines that catalog_test reads, and what it must write. `tools/verify-cases` writes the files.
 
 The columns of a line are described in crates/catalog_test/src/main.rt. The answers of the cases are written here by hand, from the table of
-refusals and its order, and for an add from 02, (i); those of random calls come from the reference model of `Random`. `Model` must give the
-same answers, and says what bytes and hits a call leaves.
+refusals and its order, for an add from 02, (i), for a motif with no bases from 02, (iii); those of random calls come from the reference model of
+`Random`. `Model` must give the same answers, and says what bytes and hits a call leaves.
 """
 import collections
 import functools
 
 import lakhido_model
 from lakhido_model import (BLOCK, CHECKSUM_AT, ENTRY, FOLDED, HITS_AT, LONGEST_MOLECULE, LONGEST_MOTIF, MOLECULE, MOST_BLOCKS, MOST_SLOTS, SEARCHED_AT,
-                           decode, encode, forget, has_bit, key, seal, set_bit, work_size)
+                           decode, encode, forget, has_bit, key, molecule_refusal, motif_refusal, seal, set_bit, work_size)
 from testing_crate import ROW, after, folded, found, is_refused, refused, total
 
 LARGEST = 9999999  # the field that means the largest number of all
@@ -61,9 +61,9 @@ def bytes_total(data):
 
 # ---- the calls on bytes
 
-def strand_refusal(bases, mates, side, longest):
-    """The number of a strand's first refusal, or 0."""
-    refusal = lakhido_model.strand_refusal(bases, mates, longest)
+def strand_refusal(side, bases, mates):
+    """The number of the first refusal of a query's motif (side 0) or of a molecule (side 1), or 0."""
+    refusal = molecule_refusal(bases, mates, LONGEST_MOLECULE) if side else motif_refusal(bases, mates, LONGEST_MOTIF)
     return refused(refusal[0], side, refusal[1]) if refusal else 0
 
 
@@ -109,12 +109,12 @@ class Model:
                 return refused(11, 2, i)
         if kind == 'Q':
             late = refused(9, 2) if hits < cat // BLOCK else refused(8, 2) if work < work_size(len(bases)) else 0
-            return strand_refusal(bases, mates, 0, LONGEST_MOTIF) or late
+            return strand_refusal(0, bases, mates) or late
         if cat // BLOCK <= d:
             return refused(12, 2)
         if kind == 'R':
             return 0 if self.held(d) else refused(14, 2)
-        return refused(13, 2) if self.held(d) else strand_refusal(bases, mates, 1, LONGEST_MOLECULE)
+        return refused(13, 2) if self.held(d) else strand_refusal(1, bases, mates)
 
     def tidy(self, kind, d, slots):
         """An accepted call empties unsound cache blocks, and remove takes d out of the others."""
@@ -217,11 +217,13 @@ def set_byte(kind, i, v, note=''):
     COUNTS['bytes'] += 1
 
 
-def strands(call, side, too_long):
-    """Rows 1 to 7 of a strand of a side, and each two neighbours that can apply at once. Rows 2 and 3 cannot."""
+def strands(call, side, too_long, none):
+    """Rows 1 to 7 of a strand of a side, and each two neighbours that can apply at once. Rows 2 and 3 cannot. `none` is the answer for no bases: row 2 is for
+    molecules only."""
     call('AC', '0', refused(1, side), 'row 1')
+    call('A', '', refused(1, side), 'row 1, no mates')
     call('', '0', refused(1, side), 'rows 1 and 2')
-    call('', '', refused(2, side), 'row 2')
+    call('', '', none, 'no bases')
     call('A', '-%03d' % too_long, refused(3, side), 'row 3')
     call('X', '-%03d' % too_long, refused(3, side), 'rows 3 and 4')
     call('AXC', '012', refused(4, side, 1), 'row 4')
@@ -252,7 +254,7 @@ def rows_of_add():
     w.add(2, 'AC', '0', refused(12, 2), 'rows 12 and 1; 12 and 13 cannot both apply')
     w.add(0, 'GC', '10', refused(13, 2), 'row 13')
     w.add(0, 'AC', '0', refused(13, 2), 'rows 13 and 1')
-    strands(lambda bases, mates, answer, note: w.add(1, bases, mates, answer, note), 1, 161)
+    strands(lambda bases, mates, answer, note: w.add(1, bases, mates, answer, note), 1, 161, refused(2, 1))
     set_byte('S', BLOCK, 9, 'block 1 is unsound')
     w.add(1, 'GC', '10', refused(11, 2, 1), 'row 11')
     w.add(0, 'GC', '10', refused(11, 2, 1), 'rows 11 and 13')
@@ -285,20 +287,35 @@ def rows_of_query():
     w.add(0, 'A', '0', folded(0, 0))
     w.query('A', '0', found(1, 1), 'an entry in the cache')
     buffers(lambda answer, note, **lens: w.query('A', '0', answer, note, **lens))
-    strands(lambda bases, mates, answer, note: w.query(bases, mates, answer, note), 0, 121)
+    strands(lambda bases, mates, answer, note: w.query(bases, mates, answer, note), 0, 121, found(1, 1))
+    w.query('A', '0', found(1, 1), 'an entry in the cache again')
     w.query('ACGU', '2301', refused(7, 0, 1), 'rows 7 and 9', hits=1)
     w.query('GC', '10', refused(9, 2), 'row 9', hits=1)
     w.query('GC', '10', refused(9, 2), 'rows 9 and 8', hits=1, work=1471)
     w.query('GC', '10', refused(8, 2), 'row 8', work=1471)
     w.query('GC', '10', refused(8, 2), 'row 8, no entries', work=0)
     w.query('A', '0', refused(8, 2), 'row 8', work=1407)
+    w.query('', '', refused(9, 2), 'row 9, no bases', hits=1)
+    w.query('', '', refused(9, 2), 'rows 9 and 8, no bases', hits=1, work=1343)
+    w.query('', '', refused(8, 2), 'row 8, no bases', work=1343)
+    w.query('', '', refused(8, 2), 'row 8, no bases and no entries', work=0)
     w.query('A', '0', found(1, 0), 'enough work, the entry is still there', work=1408)
     w.query('GC', '10', found(0, 1), 'enough work, and more hits than blocks', work=1472, hits=5)
     set_byte('S', BLOCK, 9, 'block 1 is unsound')
     w.query('GC', '10', refused(11, 2, 1), 'row 11')
     w.query('AC', '0', refused(11, 2, 1), 'rows 11 and 1')
+    w.query('', '', refused(11, 2, 1), 'row 11, no bases')
     w.query('GC', '10', refused(10, 2), 'rows 10 and 11', cache=513)
+    w.query('', '', refused(10, 2), 'row 10, no bases', cache=513)
     group('rows of query')
+
+
+def unsound(w, note):
+    """The calls where block 1 is unsound."""
+    w.query('A', '0', refused(11, 2, 1), note)
+    w.query('', '', refused(11, 2, 1), note)
+    w.remove(1, refused(11, 2, 1), note)
+    w.add(0, 'A', '0', refused(11, 2, 1), note)
 
 
 def unsound_blocks():
@@ -309,9 +326,10 @@ def unsound_blocks():
         w = World(2, 1)
         w.add(1, 'ACGU', '3210', folded(2, 2))
         set_byte('U', BLOCK + i, v, note)
-        w.query('A', '0', refused(11, 2, 1), note)
-        w.remove(1, refused(11, 2, 1), note)
-        w.add(0, 'A', '0', refused(11, 2, 1), note)
+        unsound(w, note)
+    w = World(2, 1)
+    set_byte('U', BLOCK, 1, 'a molecule block of length 0')
+    unsound(w, 'a molecule block of length 0')
     group('unsound molecule blocks')
 
 
@@ -367,40 +385,61 @@ def used_again():
     group('numbers used again')
 
 
-def altered():
-    """A byte of each region of an entry: the entry is lost, and nothing else."""
-    for i, v, note in ((0, 3, 'kind'), (1, 3, 'length'), (2, 1, 'zeros'), (19, 1, 'zeros'), (20, 67, 'first base'), (21, 71, 'last base'),
-                       (22, 65, 'unused base'),
-                       (139, 1, 'unused base'), (140, 0, 'first mate'), (141, 1, 'first mate'), (144, 2, 'unused mate'), (379, 1, 'unused mate'),
-                       (380, 1, 'searched'), (380, 7, 'searched'),
-                       (443, 1, 'searched'), (444, 0, 'hits'), (507, 1, 'hits'), (508, 0, 'checksum'), (511, 1, 'checksum')):
+def each_altered(changes, motif, slot, other, hits):
+    """A byte of the entry of a motif that embeds in both hairpins: the entry is lost, and nothing else. In the other slot stands another motif, with so
+    many hits."""
+    for i, v, note in changes:
         w = hairpins(2)
-        w.query('AGC', '021', found(0, 2), 'slot 0')
-        w.query('GC', '10', found(2, 2), 'slot 1')
-        set_byte('S', CACHE + BLOCK + i, v, note)
+        w.query(*other, found(hits, 2), 'the other slot')
+        w.query(*motif, found(2, 2), 'slot %d' % slot)
+        set_byte('S', CACHE + BLOCK * slot + i, v, note)
         w.query('GC', '11', refused(6, 0), 'a refused call leaves the altered block')
-        w.query('AGC', '021', found(0, 0), 'the other entry stays')
-        w.query('GC', '10', found(2, 2), 'all is searched again')
-        set_byte('S', CACHE + BLOCK + i, v, note)
+        w.query(*other, found(hits, 0), 'the other entry stays')
+        w.query(*motif, found(2, 2), 'all is searched again')
+        set_byte('S', CACHE + BLOCK * slot + i, v, note)
         w.remove(0)
-        w.query('GC', '10', found(1, 1), 'remove emptied the block')
-        set_byte('S', CACHE + BLOCK + i, v, note)
+        w.query(*motif, found(1, 1), 'remove emptied the block')
+        set_byte('S', CACHE + BLOCK * slot + i, v, note)
         w.add(0, 'GAC', '210', folded(1, 1))
-        w.query('GC', '10', found(2, 2), 'add emptied the block')
+        w.query(*motif, found(2, 2), 'add emptied the block')
+
+
+def altered():
+    """A byte of each region of an entry."""
+    each_altered(((0, 3, 'kind'), (1, 3, 'length'), (2, 1, 'zeros'), (19, 1, 'zeros'), (20, 67, 'first base'), (21, 71, 'last base'),
+                  (22, 65, 'unused base'),
+                  (139, 1, 'unused base'), (140, 0, 'first mate'), (141, 1, 'first mate'), (144, 2, 'unused mate'), (379, 1, 'unused mate'),
+                  (380, 1, 'searched'), (380, 7, 'searched'),
+                  (443, 1, 'searched'), (444, 0, 'hits'), (507, 1, 'hits'), (508, 0, 'checksum'), (511, 1, 'checksum')),
+                 ('GC', '10'), 1, ('AGC', '021'), 0)
     group('one byte altered')
+    each_altered(((0, 0, 'kind 0'), (0, 1, 'kind 1'), (0, 3, 'kind 3'), (0, 255, 'kind 255'), (1, 1, 'length'), (1, 255, 'length'), (2, 1, 'zeros'),
+                  (19, 1, 'zeros'), (20, 65, 'unused base'), (139, 1, 'unused base'), (140, 1, 'unused mate'), (379, 1, 'unused mate'),
+                  (380, 0, 'searched'), (380, 1, 'searched'), (380, 7, 'searched'), (443, 1, 'searched'), (444, 0, 'hits'), (444, 1, 'hits'),
+                  (444, 7, 'hits'), (507, 1, 'hits'), (508, 0, 'checksum'), (509, 0, 'checksum'), (510, 1, 'checksum'), (511, 1, 'checksum')),
+                 ('', ''), 0, ('GC', '10'), 2)
+    group('one byte altered, no bases')
+
+
+def each_unsound(changes, motif):
+    """Entries of a motif that embeds in both hairpins: each breaks one rule and has the right checksum."""
+    for i, v, note in changes:
+        w = hairpins(1)
+        w.query(*motif, found(2, 2))
+        set_byte('U', CACHE + i, v, note)
+        w.query(*motif, found(2, 2), 'all is searched again')
 
 
 def unsound_entries():
-    """Entries that break one rule and have the right checksum."""
-    for i, v, note in ((0, 1, 'kind 1'), (1, 0, 'no bases'), (1, 121, '121 bases'), (2, 1, 'byte 2'), (19, 1, 'byte 19'), (20, 88, 'no letter'),
-                       (22, 65, 'unused base'), (139, 65, 'unused base'),
-                       (140, 2, 'mate too large'), (140, 0, 'not mutual'), (144, 2, 'unused mate'), (379, 1, 'unused mate'),
-                       (444, 7, 'a hit that was not searched')):
-        w = hairpins(1)
-        w.query('GC', '10', found(2, 2))
-        set_byte('U', CACHE + i, v, note)
-        w.query('GC', '10', found(2, 2), 'all is searched again')
+    each_unsound(((0, 1, 'kind 1'), (1, 0, 'no bases'), (1, 121, '121 bases'), (2, 1, 'byte 2'), (19, 1, 'byte 19'), (20, 88, 'no letter'),
+                  (22, 65, 'unused base'), (139, 65, 'unused base'),
+                  (140, 2, 'mate too large'), (140, 0, 'not mutual'), (144, 2, 'unused mate'), (379, 1, 'unused mate'),
+                  (444, 7, 'a hit that was not searched')), ('GC', '10'))
     group('unsound entries')
+    each_unsound(((0, 1, 'kind 1'), (0, 3, 'kind 3'), (1, 1, 'a base that is no letter'), (1, 121, '121 bases'), (2, 1, 'byte 2'), (19, 1, 'byte 19'),
+                  (20, 65, 'unused base'), (139, 65, 'unused base'), (140, 1, 'unused mate'), (379, 1, 'unused mate'),
+                  (444, 7, 'a hit that was not searched')), ('', ''))
+    group('unsound entries, no bases')
 
 
 def foreign():
@@ -429,6 +468,70 @@ def foreign():
     set_byte('F', CACHE + SEARCHED_AT, 0, 'nothing was searched')
     w.query('GC', '10', found(1, 2), 'all is searched')
     group('foreign entries')
+
+
+# A motif in slot 0 of 1, 2, 3 and 64 slots, as the one with no bases: their keys are 576 and 0.
+SLOT_0 = 'AAUUUUU', '0123456'
+assert key(SLOT_0[0], map(int, SLOT_0[1])) == 576
+
+
+def no_bases(slots):
+    """02, (iii): a motif with no bases embeds in every molecule, so all that are held are hits; it is kept in slot 0, as any other is in its own."""
+    w = World(5, slots)
+    w.query('', '', found(0, 0), 'nothing is held')
+    w.add(0, 'GAC', '210', folded(1, 1))
+    w.add(1, 'A', '0', folded(0, 0))
+    w.add(4, 'A', '=160', folded(80, 80))
+    w.query('', '', found(3, 3), 'all that are held')
+    w.query('', '', found(3, 0), 'again')
+    w.query('', '', found(3, 0), 'more hits than blocks, and more work', hits=9, work=2000)
+    w.add(2, 'GGC', '210', folded(1, 1))
+    w.query('', '', found(4, 1), 'the new one is searched')
+    w.add(3, '', '', refused(2, 1), 'a molecule with no bases')
+    w.query('', '0', refused(1, 0))
+    w.query('A', '', refused(1, 0))
+    w.query('', '', refused(8, 2), work=1343)
+    w.query('', '', refused(9, 2), hits=4)
+    w.query('', '', found(4, 0), 'refused calls between', work=1344)
+    w.remove(1)
+    w.query('', '', found(3, 0), 'one less')
+    w.add(1, 'U', '0', folded(0, 0))
+    w.query('', '', found(4, 1), 'the number used again')
+    w.query(*SLOT_0, found(0, 4), 'another motif of slot 0')
+    w.query('', '', found(4, 4), 'its entry was replaced')
+    w.query(*SLOT_0, found(0, 4), 'and the other too')
+    w.query('', '', found(4, 4))
+    w.query('GC', '10', found(2, 4), 'slot 1 of 2 and of 3, 11 of 64')
+    w.query('', '', found(4, 4 if slots == 1 else 0))
+    for i, v, note in ((0, 0, 'byte 0 as in an empty block'), (0, 1, 'byte 0 of a molecule'), (0, 9, 'byte 0'), (1, 1, 'byte 1'), (SEARCHED_AT, 0, 'searched'),
+                       (HITS_AT, 0, 'hits'), (CHECKSUM_AT, 0, 'checksum'), (BLOCK - 1, 1, 'checksum')):
+        set_byte('S', CACHE + i, v, note)
+        w.query('', '', found(4, 4), 'all is searched again')
+    set_byte('S', CACHE, 2, 'no other value')
+    w.query('', '', found(4, 0), 'again')
+    for d, n in ((0, 3), (4, 2), (2, 1), (1, 0)):
+        w.remove(d)
+        w.query('', '', found(n, 0))
+    group('motifs with no bases, %d slot%s' % (slots, 's' if slots > 1 else ''))
+
+
+def foreign_no_bases():
+    """A sound entry with length 0 that these calls did not write is taken at its word."""
+    w = hairpins(2)
+    set_byte('F', CACHE, 2, 'an entry with no numbers')
+    w.query('', '', found(2, 2), 'nothing was searched')
+    set_byte('F', CACHE + HITS_AT, 1, 'no hit 1')
+    w.query('', '', found(1, 0), 'the entry is trusted')
+    set_byte('F', CACHE + HITS_AT, 0)
+    set_byte('F', CACHE + SEARCHED_AT, 2, '0 was not searched, 1 is no hit')
+    w.query('', '', found(1, 1), '0 is searched')
+    set_byte('F', CACHE + BLOCK, 2, 'in another slot')
+    set_byte('F', CACHE + BLOCK + SEARCHED_AT, 3)
+    w.query('', '', found(1, 0), 'slot 0 has its own')
+    w.remove(1)
+    w.query('', '', found(1, 0))
+    w.query('GC', '10', found(1, 1), 'another motif is in its slot')
+    group('foreign entries, no bases')
 
 
 def other_slots():
@@ -486,7 +589,11 @@ def largest_buffers():
     w.query('GC', '01', found(0, 512))
     w.query('GC', '10', found(512, 512), 'the same slot')
     w.query('A', '0', found(512, 512))
+    w.query('', '', found(512, 512), 'slot 0')
+    w.query('', '', found(512, 0))
+    w.query('', '', refused(9, 2), hits=511)
     w.remove(511)
+    w.query('', '', found(511, 0))
     w.query('GC', '10', found(511, 0))
     w.add(511, 'A', '0', folded(0, 0))
     w.query('GC', '10', found(511, 1))
@@ -565,8 +672,8 @@ class Random(World):
             return refused(12, 2)
         if kind == 'A' and d in self.held:
             return refused(13, 2)
-        if kind == 'A' and strand_refusal(bases, mates, 1, LONGEST_MOLECULE):
-            return strand_refusal(bases, mates, 1, LONGEST_MOLECULE)
+        if kind == 'A' and strand_refusal(1, bases, mates):
+            return strand_refusal(1, bases, mates)
         if kind == 'R' and d not in self.held:
             return refused(14, 2)
         self.tidy()
@@ -580,7 +687,7 @@ class Random(World):
         return 0
 
     def ask(self, bases, mates, work, hits):
-        v = strand_refusal(bases, mates, 0, LONGEST_MOTIF)
+        v = strand_refusal(0, bases, mates)
         if v or hits < self.b:
             return v or refused(9, 2)
         if work < work_size(len(bases)):
@@ -611,17 +718,17 @@ class Random(World):
         set_byte('S', CACHE + BLOCK * k + i, v)
 
     def call(self, kind, d, how, n, seed):
-        """A call, with one of the ways in which it may be refused: what `spoil` does, lengths that differ, none, too many bases, buffers that are too
-        short or not whole blocks."""
+        """A call, with one of the ways in which it may be refused: what `spoil` does, lengths that differ, no bases (a molecule; of twenty motifs one has
+        none), too many bases, buffers that are too short or not whole blocks."""
         letters, mates = nested(seed, n)
         spoil(how, after(seed), letters, mates)
         bases = ''.join(letters)
         if how == 3:
             mates.append(0)
-        if how == 4:
+        if how == 4 or kind == 'Q' and how == 10:
             bases, mates = '', []
         long = how == 5
-        work, hits, cat, cache = work_size(n), self.b, self.cat, self.cache
+        work, hits, cat, cache = work_size(len(bases)), self.b, self.cat, self.cache
         work, hits = work // 2 if how == 6 else work, hits // 2 if how == 7 else hits
         cat, cache = cat // 2 + 1 if how == 9 else cat, cache + 1 if how == 8 else cache
         strand = ('A' * 161, list(range(161))) if long else (bases, mates)
@@ -651,13 +758,15 @@ def random_molecules():
     w = Random(512, 64)
     w.random('a', 4711, 512)
     w.random('q', 1, 40)
+    w.call('Q', 0, 4, 1, 1)
     w.random('H', 815, 200)
     w.random('q', 1, 20)
+    w.call('Q', 0, 4, 1, 1)
     group('512 random molecules, 64 slots')
 
 
 def histories():
-    for b, s, seed in ((1, 1, 11), (2, 1, 22), (3, 1, 33), (3, 2, 44), (4, 2, 55), (8, 3, 66), (9, 5, 77), (17, 2, 88)):
+    for b, s, seed in ((1, 1, 11), (2, 1, 22), (3, 1, 33), (3, 2, 44), (4, 2, 55), (8, 3, 66), (9, 5, 77), (17, 2, 88), (12, 8, 99)):
         w = Random(b, s)
         w.random('H', seed * 1000 + 7, 500)
         group('history of %d blocks and %d slots' % (b, s))
@@ -667,4 +776,7 @@ def files():
     for part in (rows_of_add, rows_of_remove, rows_of_query, unsound_blocks, folds, story, used_again, altered, unsound_entries, foreign,
                  other_slots, long_strands, largest_buffers, random_molecules, histories):
         part()
+    for slots in (1, 2, 3, 64):
+        no_bases(slots)
+    foreign_no_bases()
     return {'crates/catalog_test/stdin': ''.join(LINES), 'crates/catalog_test/stdout': ''.join(TOLD)}

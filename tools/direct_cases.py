@@ -6,7 +6,7 @@ import collections
 import itertools
 import os
 
-from lakhido_model import LETTERS, LONGEST, LONGEST_MOTIF, fold, is_embedding, strand_refusal
+from lakhido_model import LEAST_MOTIF, LETTERS, LONGEST, LONGEST_MOTIF, NO_BASES, fold, is_embedding, molecule_refusal, pair_refusal, strand_refusal
 from testing_crate import after, bond
 
 CRATES = os.path.join(os.path.dirname(os.path.abspath(__file__)), '..', 'crates')
@@ -32,20 +32,15 @@ def with_fold(mates):
     return ' with arcs %d and depth %d' % fold(mates)
 
 
-def pair_refusal(p, q):
-    """The refusal of a motif and a molecule, or None."""
-    return next(((row, side, place) for side, s in enumerate((p, q)) for row, place in filter(None, [strand_refusal(*s)])), None)
-
-
 # ---- strand_test
 
-def checked_motif(strand, longest, least=1):
+def checked_motif(strand, longest=LONGEST_MOTIF, least=LEAST_MOTIF):
     refusal = strand_refusal(*strand, longest, least)
     return told(refusal[0], 0, refusal[1]) if refusal else ' accepted'
 
 
 def checked_molecule(strand):
-    refusal = strand_refusal(*strand)
+    refusal = molecule_refusal(*strand)
     return told(refusal[0], 1, refusal[1]) if refusal else ' accepted' + with_fold(strand[1])
 
 
@@ -55,7 +50,7 @@ def checked_pair(p, q):
 
 
 def checked_both(strand):
-    return ' molecule%s, motif%s' % (checked_molecule(strand), checked_motif(strand, LONGEST_MOTIF))
+    return ' molecule%s, motif%s' % (checked_molecule(strand), checked_motif(strand))
 
 
 ONE = 'A', [0]
@@ -64,7 +59,8 @@ ONE = 'A', [0]
 def small(line):
     strand = line[2:12].split(' ')[0], numbers(line[13:23])
     return {'s': lambda: checked_both(strand), 'l': lambda: checked_motif(strand, int(line[25]), int(line[24])), 'p': lambda: checked_pair(strand, ONE),
-            'q': lambda: checked_pair(ONE, strand), 'w': lambda: checked_pair(strand, strand)}[line[0]]()
+            'q': lambda: checked_pair(ONE, strand), 'e': lambda: checked_pair(NO_BASES, strand),
+            'w': lambda: checked_pair(strand, strand)}[line[0]]()
 
 
 def form(which, n, i):
@@ -82,7 +78,7 @@ def long(line, bases, mates):
     elif line[0] == 'm':
         mates[a] = b
     return {'c': lambda: checked_both((all_of[0][:a], mates[:b])), 'x': lambda: checked_pair(all_of, ONE),
-            'y': lambda: checked_pair(ONE, all_of)}.get(line[0], str)()
+            'y': lambda: checked_pair(ONE, all_of), 'z': lambda: checked_pair(NO_BASES, all_of)}.get(line[0], str)()
 
 
 def up_to(n, x):
@@ -125,9 +121,9 @@ def family(name, kind, times):
         alter(kind, x // 3, mates)
         if kind != 1 and x // 5 % 16 == 0:
             mates = mates[:up_to(n, x // 5 // 16)]
-        for refusal in (strand_refusal(bases, mates), strand_refusal(bases, mates, 30, up_to(3, x // 7))):
+        for refusal in (molecule_refusal(bases, mates), strand_refusal(bases, mates, 30, up_to(3, x // 7))):
             rows[refusal[0] if refusal else 0] += 1
-        if not strand_refusal(bases, mates):
+        if not molecule_refusal(bases, mates):
             folds.append(fold(mates))
     return '%s: compared %d, disagreements 0, accepted and by row %s; arcs %d, depths %d\n' % (
         name, 2 * times, ' '.join(str(rows[row]) for row in range(8)), *map(sum, zip(*folds)))
@@ -137,7 +133,7 @@ def strand_test():
     bases, mates, out = ['A'] * (LONGEST + 1), [0] * (LONGEST + 1), []
     for line in lines_of('strand_test'):
         assert len(line) == WIDTH - 1, line
-        out.append('%s%s\n' % (line, small(line) if line[0] in 'slpqw' else long(line, bases, mates)))
+        out.append('%s%s\n' % (line, small(line) if line[0] in 'slpqew' else long(line, bases, mates)))
     for name, kind, times in (('any mates', 0, 1000), ('all five mates from 0 to 5', 1, 7776), ('nested, some bases no letters', 2, 1000),
                               ('nested, one mate altered', 3, 1000), ('nested, two arcs exchanged', 5, 1000), ('nested', 7, 1000)):
         out.append(family(name, kind, times))
@@ -166,14 +162,16 @@ def nested(x, letters, n):
 
 
 def all_lists(letters, pairs=50, m=4, n=7):
-    x, yes, folds = 12345, 0, []
-    for _ in range(pairs):
-        p, x = nested(x, letters, m)
+    """One motif of twenty has no bases, and the one list of no places."""
+    x, yes, arcs, depths = 12345, 0, 0, 0
+    for i in range(pairs):
+        p, x = nested(x, letters, m) if i % 20 else (NO_BASES, x)
         q, x = nested(x, letters, n)
-        yes += sum(is_embedding(*p, *q, places) for places in itertools.combinations(range(n), m))
-        folds.append(fold(q[1]))
-    return 'all lists, %d letter%s: wrong 0 yes %d arcs %d depths %d\n' % (
-        letters, 's' if letters > 1 else '', yes, *((n + 1) ** m * sum(numbers) for numbers in zip(*folds)))
+        places, (more_arcs, more_depths) = len(p[0]), fold(q[1])
+        lists = (n + 1) ** places
+        yes += sum(is_embedding(*p, *q, f) for f in itertools.combinations(range(n), places))
+        arcs, depths = arcs + lists * more_arcs, depths + lists * more_depths
+    return 'all lists, %d letter%s: wrong 0 yes %d arcs %d depths %d\n' % (letters, 's' if letters > 1 else '', yes, arcs, depths)
 
 
 def embedding_test():
@@ -183,7 +181,7 @@ def embedding_test():
         p, pm, q, qm, places = (line[i:i + 4].split(' ')[0] for i in range(0, 25, 5))
         out.append('%s%s\n' % (line, verified((p, numbers(pm)), (q, numbers(qm)), numbers(places))))
     long = 'A' * (LONGEST + 1), [0] * (LONGEST + 1)
-    out.append('4,097 bases:%s%s\n' % (verified(long, ('X', [0]), []), verified(ONE, long, [])))
+    out.append('4,097 bases:%s%s%s\n' % (verified(long, ('X', [0]), []), verified(ONE, long, []), verified(NO_BASES, long, [])))
     return ''.join(out + [all_lists(letters) for letters in (1, 2, 4)])
 
 

@@ -2,7 +2,7 @@
 """Turns dot-bracket text, as RNA tools write it, into blocks of the catalog or of a motif, and back; lists molecules.
 
 This is a convenience for people. It is not part of what is proved: the screen program judges every block by itself.
-The tool checks each block that it writes or reads by the rules of a molecule block.
+The tool checks each block that it writes or reads by the rules of a molecule block, a motif's by those of a motif block.
 
 Text, for each molecule:
     >name
@@ -13,6 +13,9 @@ bond, `(` and `)` for the two ends of one. What follows a blank on the structure
 write there, is left out. Blank lines and lines that begin with `#` are skipped. The line `>(empty)` alone is an empty block.
 Blocks hold no names: decoded molecules are named by their number.
 
+The text of a motif has one strand, or a line `>name` alone: the motif with no bases, which embeds in every molecule. An empty
+block is no motif.
+
 Errors in a text are given as FILE:LINE:COLUMN, both counted from 1.
 """
 import argparse
@@ -20,10 +23,11 @@ import itertools
 import random
 import sys
 
-from lakhido_model import (BLOCK, LETTERS, LONGEST_MOLECULE, LONGEST_MOTIF, MOLECULE, MOST_BLOCKS, MOST_SCREENED, decode, encode, fault, fold,
-                           random_strand)
+from lakhido_model import (BLOCK, LETTERS, LONGEST_MOLECULE, LONGEST_MOTIF, MOLECULE, MOST_BLOCKS, MOST_SCREENED, MOTIF, NO_BASES, decode, encode, fault,
+                           fold, random_motif, random_strand)
 
 EMPTY_NAME = '(empty)'
+EMPTY = None, None  # in the place of bases and mates: an empty block
 
 
 class Bad(Exception):
@@ -31,8 +35,13 @@ class Bad(Exception):
 
 
 def block_of(bases, mates):
-    """The block of a molecule. The empty molecule, `('', [])`, is the empty block."""
-    return bytes(encode(MOLECULE, bases, mates) if bases else BLOCK)
+    """The block of a molecule or of a motif, or the empty block."""
+    return bytes(BLOCK) if (bases, mates) == EMPTY else bytes(encode(MOLECULE, bases, mates))
+
+
+def strand_in(block):
+    """Bases and mates of a block, or `EMPTY`."""
+    return decode(MOLECULE, block) if any(block) else EMPTY
 
 
 # ---- dot-bracket text
@@ -96,56 +105,69 @@ def molecule(lines, header, name):
     return bases, mates_of(structure, lambda i: '%s:%d:%d' % (name, second, indent + i + 1))
 
 
-def from_text(text, name):
-    """The molecules of a text, as (header line number, name, bases, mates); an empty block has no bases."""
-    return [(header, title, *(('', []) if title == EMPTY_NAME and not lines else molecule(lines, header, name)))
-            for header, title, lines in records(text, name)]
+def strand_of(header, title, lines, name, form):
+    """Bases and mates of a record, or `EMPTY`. Where it is a motif, it may have no lines."""
+    if not lines and title == EMPTY_NAME:
+        return EMPTY
+    return NO_BASES if not lines and form is MOTIF else molecule(lines, header, name)
 
 
-def blocks_of(text, name):
-    """The blocks of a text, each checked by the rules and by decoding it again."""
+def from_text(text, name, form=MOLECULE):
+    """The molecules of a text, as (header line number, name, bases, mates), or its motifs."""
+    return [(header, title, *strand_of(header, title, lines, name, form)) for header, title, lines in records(text, name)]
+
+
+def blocks_of(text, name, form=MOLECULE):
+    """The blocks of a text, each checked by the rules of the form and by decoding it again."""
     blocks = []
-    for header, _, bases, mates in from_text(text, name):
+    for header, _, bases, mates in from_text(text, name, form):
         block = block_of(bases, mates)
-        wrong = fault(MOLECULE, block)
-        if wrong or decode(MOLECULE, block) != (bases, mates):
+        wrong = fault(form, block)
+        if wrong or strand_in(block) != (bases, mates):
             raise Bad('%s:%d:1: the tool made an unsound block: %s' % (name, header, wrong))
         blocks.append(block)
     return blocks
 
 
 def from_blocks(data, name, screen=False):
-    """Name, bases and mates of each block, which is checked by the rules; an empty block has no bases. With `screen` the first block is a motif."""
+    """Name, bases and mates of each block, which is checked by the rules. With `screen` the first block is a motif."""
     if not data or len(data) % BLOCK != 0:
         raise Bad('%s: %d bytes are not whole blocks of %d' % (name, len(data), BLOCK))
     found = []
     for d in range(len(data) // BLOCK):
-        block = data[BLOCK * d:BLOCK * (d + 1)]
-        wrong = fault(MOLECULE, block)
+        block, motif = data[BLOCK * d:BLOCK * (d + 1)], screen and d == 0
+        wrong = fault(MOTIF if motif else MOLECULE, block)
         if wrong:
             raise Bad('%s: block %d, byte %d: %s' % (name, d, wrong[0], wrong[1]))
-        found.append(('motif' if screen and d == 0 else 'molecule %d' % (d - 1 if screen else d), *decode(MOLECULE, block)))
+        found.append(('motif' if motif else 'molecule %d' % (d - 1 if screen else d), *strand_in(block)))
     return found
+
+
+def record_of(title, bases, mates):
+    """The lines of a molecule, of a motif, or of an empty block."""
+    if (bases, mates) == EMPTY:
+        return '>%s\n' % EMPTY_NAME
+    return '>%s\n%s\n%s\n' % (title, bases, structure_of(mates)) if bases else '>%s\n' % title
 
 
 def text_of(data, name, screen=False):
     """The text of the blocks."""
-    return ''.join('>%s\n%s\n%s\n' % (title, bases, structure_of(mates)) if bases else '>%s\n' % EMPTY_NAME
-                   for title, bases, mates in from_blocks(data, name, screen))
+    return ''.join(record_of(*row) for row in from_blocks(data, name, screen))
 
 
 # ---- the list of molecules
 
 LIST = """Lists the molecules of a text or, with --blocks or --screen, of a file of blocks: first a line of the columns' names, then a
 line for each molecule, the columns parted by tabs. Length is the number of bases, arcs that of bonds, and depth the largest number of arcs
-of which each lies inside the one before. A text has names; in blocks the name is `molecule` and the number. Empty blocks are left out.
+of which each lies inside the one before. A text has names; in blocks the name is `molecule` and the number. Empty blocks are left out;
+a motif with no bases is not.
 What is equal by the column that sorts keeps the order of the file."""
 COLUMNS = 'name', 'length', 'arcs', 'depth'
 
 
 def listed(molecules, by='number', reverse=False):
-    """A head, and a line for each molecule that has bases, given as (name, bases, mates): its columns parted by tabs, which the names lose."""
-    rows = [(title.replace('\t', ' '), len(bases), *fold(mates)) for title, bases, mates in molecules if bases]
+    """A head, and a line for each of them that is not empty, given as (name, bases, mates): its columns parted by tabs, which the names lose."""
+    rows = [(title.replace('\t', ' '), len(bases), *fold(mates)) for title, bases, mates in molecules if bases is not None]
     if by != 'number':
         rows.sort(key=lambda row: row[COLUMNS.index(by)], reverse=reverse)
     elif reverse:
@@ -153,30 +175,36 @@ def listed(molecules, by='number', reverse=False):
     return ''.join('\t'.join(map(str, row)) + '\n' for row in (COLUMNS, *rows))
 
 
-def some_blocks(text, name, most, what):
+def some_blocks(text, name, most, what, form=MOLECULE):
     """The blocks of a text that has 1 to `most` molecules; else the error names the first line too many."""
-    blocks, heads = blocks_of(text, name), [header for header, _, _ in records(text, name)]
+    blocks, heads = blocks_of(text, name, form), [header for header, _, _ in records(text, name)]
     if not 1 <= len(blocks) <= most:
         raise Bad('%s:%d:1: %d molecules, and %s' % (name, heads[most] if len(heads) > most else 1, len(blocks), what))
     return blocks
 
 
+def motif_block(text, name):
+    """The block of the one motif of a text."""
+    block, = some_blocks(text, name, 1, 'one motif is taken', MOTIF)
+    if not any(block):
+        raise Bad('%s:%d:1: an empty block is no motif; the motif with no bases is a line `>name` alone' % (name, records(text, name)[0][0]))
+    if block[1] > LONGEST_MOTIF:
+        print('note: a motif of %d bases is refused by a query (0 to %d)' % (block[1], LONGEST_MOTIF), file=sys.stderr)
+    return block
+
+
 def motif_and_catalog(motif, motif_name, catalog, catalog_name):
     """An input of the screen program: the block of the motif, then 1 to 64 blocks of the catalog."""
-    first = some_blocks(motif, motif_name, 1, 'one motif is taken')
+    first = motif_block(motif, motif_name)
     rest = some_blocks(catalog, catalog_name, MOST_SCREENED, '1 to %d are screened' % MOST_SCREENED)
-    if not any(first[0]):
-        raise Bad('%s:%d:1: the motif has no bases' % (motif_name, records(motif, motif_name)[0][0]))
-    if first[0][1] > LONGEST_MOTIF:
-        print('note: a motif of %d bases is refused by a query (1 to %d)' % (first[0][1], LONGEST_MOTIF), file=sys.stderr)
-    return b''.join(first + rest)
+    return b''.join([first, *rest])
 
 
 # ---- self-test
 
-def expect_error(text, start):
+def expect_error(text, start, read=blocks_of):
     try:
-        blocks_of(text, 'T')
+        read(text, 'T')
     except Bad as error:
         assert str(error).startswith(start), (text, str(error), start)
     else:
@@ -200,7 +228,25 @@ def test_list():
     data = b''.join(blocks_of(text, 'T'))
     assert listed(from_blocks(data, 'B')).split('\n')[1:3] == ['molecule 0\t4\t2\t1', 'molecule 2\t5\t2\t2']
     assert listed(from_blocks(data, 'B', screen=True)).split('\n')[1:3] == ['motif\t4\t2\t1', 'molecule 1\t5\t2\t2']
-    assert listed([]) == listed([('x', '', [])]) == lines[0] + '\n'
+    assert listed([]) == listed([('x', *EMPTY)]) == lines[0] + '\n'
+    assert listed(from_blocks(block_of(*NO_BASES) + data, 'B', screen=True)).split('\n')[1:3] == ['motif\t0\t0\t0', 'molecule 0\t4\t2\t1']
+
+
+def test_motifs():
+    rng = random.Random(3)
+    none = bytes([1]) + bytes(BLOCK - 5) + bytes([1, 0, 0, 0])
+    assert block_of(*NO_BASES) == motif_block('# none\n>m\n\n', 'M') == none and block_of(*EMPTY) == bytes(BLOCK)
+    assert motif_and_catalog('>m\n', 'M', '>a\nA\n.\n>(empty)\n', 'C') == none + block_of('A', [0]) + bytes(BLOCK)
+    assert text_of(none + block_of('A', [0]) + bytes(BLOCK), 'B', screen=True) == '>motif\n>molecule 0\nA\n.\n>(empty)\n'
+    for _ in range(300):
+        block = block_of(*random_motif(rng, LONGEST_MOTIF))
+        assert motif_block(text_of(block, 'B', screen=True), 'M') == block
+    expect_error('\n>(empty)\n', 'T:2:1: an empty block is no motif; the motif with no bases is a line `>name` alone', motif_block)
+    expect_error('>m\nA\n', 'T:1:1: a molecule has one line of bases and one of structure, and this one has 1', motif_block)
+    expect_error('>m\n>n\n', 'T:2:1: 2 molecules, and one motif', motif_block)
+    expect_error('>a\nA\n.\n>b\n', 'T:4:1: a molecule has one line of bases and one of structure, and this one has 0')
+    expect_error(none, 'T: block 0, byte 1: the length is 0, and 1 to 160 are taken', text_of)
+    expect_error(block_of('A', [0]) + none, 'T: block 1, byte 1: the length is 0', lambda data, name: text_of(data, name, screen=True))
 
 
 def self_test():
@@ -230,14 +276,15 @@ def self_test():
     assert len(data) == 3 * BLOCK and data[:BLOCK] == data[BLOCK:2 * BLOCK] == one and not any(data[2 * BLOCK:])
     one_text = '>a\nA\n.\n'
     for motif, catalog, start in [(one_text + '\n>b\nA\n.\n', one_text, 'M:5:1: 2 molecules, and one motif'), ('', one_text, 'M:1:1: 0 molecules'),
-                                  ('\n>(empty)\n', one_text, 'M:2:1: the motif has no bases'), (one_text, '', 'C:1:1: 0 molecules'),
-                                  (one_text, one_text * 65, 'C:193:1: 65 molecules, and 1 to 64')]:
+                                  ('\n>(empty)\n', one_text, 'M:2:1: an empty block is no motif'), (one_text, '', 'C:1:1: 0 molecules'),
+                                  ('>m\n', '>a\n', 'C:1:1: a molecule has one line'), (one_text, one_text * 65, 'C:193:1: 65 molecules, and 1 to 64')]:
         try:
             motif_and_catalog(motif, 'M', catalog, 'C')
         except Bad as error:
             assert str(error).startswith(start), (str(error), start)
         else:
             raise AssertionError((motif, catalog))
+    test_motifs()
     test_list()
 
 
@@ -273,6 +320,7 @@ def parse(words):
     commands = parser.add_subparsers(dest='command', required=True)
     one = commands.add_parser('encode', help='text to blocks: a catalog, or a motif as one block')
     one.add_argument('text')
+    one.add_argument('--motif', action='store_true', help='the text is that of a motif, which may have no bases')
     two = commands.add_parser('decode', help='blocks to text')
     two.add_argument('blocks')
     two.add_argument('--screen', action='store_true', help='the first block is a motif')
@@ -304,7 +352,9 @@ def run(words):
         print('self-test: ok')
         return
     args = parse(words)
-    if args.command == 'encode':
+    if args.command == 'encode' and args.motif:
+        write(args.output, motif_block(read_text(args.text), args.text))
+    elif args.command == 'encode':
         blocks = some_blocks(read_text(args.text), args.text, MOST_BLOCKS, 'a catalog has 1 to %d' % MOST_BLOCKS)
         write(args.output, b''.join(blocks))
     elif args.command == 'decode':

@@ -1,5 +1,5 @@
 #!/usr/bin/env python3
-"""Document 01, and requests (i) and (ii) of 02, in plain Python, for the scripts beside it: strands, their refusals and folds, embeddings, windows,
+"""Document 01, and requests (i) to (iii) of 02, in plain Python, for the scripts beside it: strands, their refusals and folds, embeddings, windows,
 blocks. It shares nothing with the library.
 
 A strand is its bases, a text with a character for each byte, and its mates, a list of numbers. `--self-test` holds the search to the
@@ -11,11 +11,14 @@ import random
 import sys
 
 LETTERS = 'ACGU'
+LEAST_MOTIF, LEAST_MOLECULE = 0, 1  # 02, (iii): refusal 2 remains for molecules only
 LONGEST = 4096  # of the direct calls
 LONGEST_MOLECULE, LONGEST_MOTIF = 160, 120
 MOST_BLOCKS, MOST_SLOTS, MOST_SCREENED = 512, 64, 64
 
 # ---- strands
+
+NO_BASES = '', []
 
 
 def nested(mates):
@@ -31,8 +34,8 @@ def nested(mates):
     return True
 
 
-def strand_refusal(bases, mates, longest=LONGEST, least=1):
-    """Row and place of the first of rows 1 to 7 that applies, or None."""
+def strand_refusal(bases, mates, longest, least):
+    """Row and place of the first of rows 1 to 7 that applies to a strand of `least` to `longest` bases, or None."""
     n = len(bases)
     if n != len(mates):
         return 1, 0
@@ -49,7 +52,23 @@ def strand_refusal(bases, mates, longest=LONGEST, least=1):
     return next(((row, i) for row, applies in rows for i in range(n) if applies(i)), None)
 
 
-# 01's small examples of these rows: bases, mates, row, place.
+def motif_refusal(bases, mates, longest=LONGEST):
+    """The same for a motif."""
+    return strand_refusal(bases, mates, longest, LEAST_MOTIF)
+
+
+def molecule_refusal(bases, mates, longest=LONGEST):
+    """The same for a molecule."""
+    return strand_refusal(bases, mates, longest, LEAST_MOLECULE)
+
+
+def pair_refusal(p, q):
+    """Row, side and place of the refusal of a motif and a molecule of the direct calls, or None."""
+    sides = motif_refusal(*p), molecule_refusal(*q)
+    return next(((refusal[0], side, refusal[1]) for side, refusal in enumerate(sides) if refusal), None)
+
+
+# 01's small examples of these rows for a molecule: bases, mates, row, place.
 REFUSED = (
     ('AC', [0], 1, 0),
     ('', [], 2, 0),
@@ -109,9 +128,18 @@ def work_size(m, n=LONGEST_MOLECULE):
     return 64 * (m + 1) + 8 * n
 
 
+def random_motif(rng, most):
+    """A nested strand of 1 to `most` bases, one of twenty with none."""
+    return strand_of_length(rng, rng.randint(1, most) if rng.randrange(20) else 0)
+
+
 def random_strand(rng, most):
     """A nested strand of 1 to `most` bases."""
-    n = rng.randint(1, most)
+    return strand_of_length(rng, rng.randint(1, most))
+
+
+def strand_of_length(rng, n):
+    """A nested strand of n bases."""
     mates, begun = list(range(n)), []
     for i in range(n):
         move = rng.random()
@@ -253,13 +281,15 @@ def window(p, pm, q, qm):
 
 
 # Motif, molecule, and start and length of the tightest window or None: the first of two as long; the two bases are an arc; the window cuts an arc; a
-# shorter one comes later; all of the molecule.
+# shorter one comes later; all of the molecule. 02, (iii): that of a motif with no bases has start 0 and length 0.
 WINDOWS = (
     ('GC', [0, 1], 'GCAGC', [0, 1, 2, 3, 4], (0, 2)),
     ('GC', [0, 1], 'GAC', [2, 1, 0], None),
     ('GA', [0, 1], 'GAC', [2, 1, 0], (0, 2)),
     ('GC', [1, 0], 'GAACGC', [3, 1, 2, 0, 5, 4], (4, 2)),
     ('GC', [1, 0], 'GAC', [2, 1, 0], (0, 3)),
+    (*NO_BASES, 'GAC', [2, 1, 0], (0, 0)),
+    (*NO_BASES, 'A', [0], (0, 0)),
 )
 
 # ---- blocks
@@ -268,11 +298,13 @@ BLOCK = 512
 CHECKSUM_AT = 508
 SEARCHED_AT, HITS_AT, MAP = 380, 444, 64
 
-# Byte 0, the greatest length, where bases and mates begin, and where the unused places of mates end.
-Form = collections.namedtuple('Form', 'kind longest bases_at mates_at mates_end')
-MOLECULE = Form(1, LONGEST_MOLECULE, 28, 188, CHECKSUM_AT)
-ENTRY = Form(2, LONGEST_MOTIF, 20, 140, SEARCHED_AT)
-FORMS = {form.kind: form for form in (MOLECULE, ENTRY)}
+# Byte 0, the least and the greatest length, where bases and mates begin, and where the unused places of mates end: of a molecule block of the catalog, of
+# a molecule block that is handed in as a motif, and of an entry. 02, (iii): a motif is kept with length 0, and a motif block may have length 0.
+Form = collections.namedtuple('Form', 'kind least longest bases_at mates_at mates_end')
+MOLECULE = Form(1, LEAST_MOLECULE, LONGEST_MOLECULE, 28, 188, CHECKSUM_AT)
+MOTIF = MOLECULE._replace(least=LEAST_MOTIF)
+ENTRY = Form(2, LEAST_MOTIF, LONGEST_MOTIF, 20, 140, SEARCHED_AT)
+FORMS = MOLECULE, MOTIF, ENTRY
 
 
 def checksum(block):
@@ -311,8 +343,8 @@ def fault(form, block):
     if block[0] != form.kind:
         return 0, 'the kind of this block is %d, not %d' % (form.kind, block[0])
     n = block[1]
-    if not 1 <= n <= form.longest:
-        return 1, 'the length is %d, and 1 to %d are taken' % (n, form.longest)
+    if not form.least <= n <= form.longest:
+        return 1, 'the length is %d, and %d to %d are taken' % (n, form.least, form.longest)
     for a, b in ((2, form.bases_at), (form.bases_at + n, form.mates_at), (form.mates_at + 2 * n, form.mates_end)):
         for i in range(a, b):
             if block[i] != 0:
@@ -321,7 +353,7 @@ def fault(form, block):
 
 
 def fault_of_strand(form, bases, mates):
-    refusal = strand_refusal(bases, mates, form.longest)
+    refusal = strand_refusal(bases, mates, form.longest, form.least)
     if refusal is None:
         return None
     row, i = refusal
@@ -345,6 +377,16 @@ def fault_of_end(form, block):
 
 def sound(form, block):
     return fault(form, block) is None
+
+
+def holds(form, block):
+    """Whether a block is sound and not empty. The block of a motif with no bases is not empty: its byte 0 is not 0."""
+    return sound(form, block) and any(block)
+
+
+def keeps(block, bases, mates):
+    """Whether an entry keeps this motif; an empty block keeps none."""
+    return any(block) and decode(ENTRY, block) == (bases, mates)
 
 
 def bit(d):
@@ -384,7 +426,7 @@ def self_test_of_windows(rng):
         assert window(p, pm, q, qm) == told == window_by_definition(p, pm, q, qm), (p, pm, q, qm)
     found = collections.Counter()
     for i in range(4000):
-        p, q = (random_strand(rng, n) for n in (5, 14))
+        p, q = random_motif(rng, 5), random_strand(rng, 14)
         if i % 2:
             p, q = few_letters(p), few_letters(q)
         told = window(*p, *q)
@@ -394,39 +436,74 @@ def self_test_of_windows(rng):
     assert min(found.values()) > 800, found
 
 
+def self_test_of_no_bases(q, qm):
+    """02, (iii): an empty motif embeds in every molecule, with L = 0 and no places; its tightest window has start 0 and length 0."""
+    assert longest(*NO_BASES, q, qm) == longest_by_definition(*NO_BASES, q, qm) == 0 and embeds(*NO_BASES, q, qm)
+    assert is_embedding(*NO_BASES, q, qm, []) and window(*NO_BASES, q, qm) == window_by_definition(*NO_BASES, q, qm) == (0, 0)
+    assert pair_refusal(NO_BASES, (q, qm)) is None and work_size(0, len(q)) == 64 + 8 * len(q)
+    assert pair_refusal((q, qm), NO_BASES) == pair_refusal(NO_BASES, NO_BASES) == (2, 1, 0)
+    assert pair_refusal((q, []), NO_BASES) == pair_refusal(('', qm), NO_BASES) == (1, 0, 0)
+
+
+def changed(block, i, value):
+    """The block with another value in byte i."""
+    return block[:i] + bytes([value]) + block[i + 1:]
+
+
+def self_test_of_blocks(rng):
+    assert checksum(encode(MOLECULE, 'A', [0])) == 1888 and key('GC', [1, 0]) == key('GC', [0, 1]) == 139
+    for form in FORMS:
+        assert sound(form, bytes(BLOCK)) and not holds(form, bytes(BLOCK)) and decode(form, bytes(BLOCK)) == NO_BASES
+        for _ in range(300):
+            bases, mates = random_strand(rng, form.longest) if form is MOLECULE else random_motif(rng, form.longest)
+            block = encode(form, bases, mates, b'\7' * MAP, b'\5' * MAP)
+            assert nested(mates) and holds(form, block) and decode(form, block) == (bases, mates)
+            i = rng.randrange(BLOCK)
+            assert not sound(form, changed(block, i, (block[i] + rng.randint(1, 255)) % 256)), i
+        for bases, mates, row, _ in REFUSED:
+            assert sound(form, encode(form, bases, mates)) == (row == 2 and form is not MOLECULE), row
+
+
+def self_test_of_short_blocks(rng):
+    """02, (iii): a motif block of length 0, and an entry with length 0 and key 0. Each is no empty block, and unsound when one byte is another."""
+    motif, entry, full = encode(MOTIF, *NO_BASES), encode(ENTRY, *NO_BASES), encode(ENTRY, *NO_BASES, b'\7' * MAP, b'\5' * MAP)
+    assert motif == bytearray([1]) + bytes(507) + bytearray([1, 0, 0, 0]) and entry == bytearray([2]) + bytes(507) + bytearray([2, 0, 0, 0])
+    assert key(*NO_BASES) == 0 and full[:SEARCHED_AT] == entry[:SEARCHED_AT]
+    assert [[holds(form, block) for form in FORMS] for block in (motif, entry, full)] == [[False, True, False]] + 2 * [[False, False, True]]
+    for form, block in ((MOTIF, motif), (ENTRY, entry), (ENTRY, full)):
+        for i in range(BLOCK):
+            for value in {0, 1, 2, rng.randrange(256)} - {block[i]}:
+                assert not sound(form, changed(block, i, value)), i
+    one = encode(ENTRY, 'A', [0])
+    assert [[keeps(block, *strand) for strand in (NO_BASES, ('A', [0]))] for block in (entry, full, one, bytes(BLOCK))] == [
+        [True, False], [True, False], [False, True], [False, False]]
+
+
 def self_test():
     for p, pm, q, qm, told in SETTLED:
         assert longest(p, pm, q, qm) == told == longest_by_definition(p, pm, q, qm), (p, pm, q, qm)
     rng, lengths = random.Random(1), collections.Counter()
     for _ in range(8000):
-        p, q = (few_letters(random_strand(rng, n)) for n in (6, 9))
+        p, q = few_letters(random_motif(rng, 6)), few_letters(random_strand(rng, 9))
         told = longest(*p, *q)
         assert told == longest_by_definition(*p, *q), (p, q)
         lengths[told == len(p[0])] += 1
     assert min(lengths.values()) > 800, lengths
     self_test_of_windows(rng)
     for bases, mates, row, place in REFUSED:
-        assert strand_refusal(bases, mates) == (row, place) and (row < 5 or not nested(mates))
+        assert molecule_refusal(bases, mates) == (row, place) and (row < 5 or not nested(mates))
+        assert motif_refusal(bases, mates) == (None if row == 2 else (row, place))
     for bases, mates, *told in FOLDED:
-        assert strand_refusal(bases, mates) is None and fold(mates) == tuple(told), mates
+        assert molecule_refusal(bases, mates) is None and fold(mates) == tuple(told), mates
+        self_test_of_no_bases(bases, mates)
     folds = set()
     for _ in range(2000):
         mates = random_strand(rng, 20)[1]
         assert depth(mates) == depth_by_definition(mates), mates
         folds.add(fold(mates))
     assert len(folds) > 20, folds
-    assert checksum(encode(MOLECULE, 'A', [0])) == 1888 and key('GC', [1, 0]) == key('GC', [0, 1]) == 139
-    for form in FORMS.values():
-        assert sound(form, bytes(BLOCK)) and decode(form, bytes(BLOCK)) == ('', [])
-        for _ in range(300):
-            bases, mates = random_strand(rng, form.longest)
-            block = encode(form, bases, mates, b'\7' * MAP, b'\5' * MAP)
-            assert nested(mates) and sound(form, block) and decode(form, block) == (bases, mates)
-            i = rng.randrange(BLOCK)
-            block[i] = (block[i] + rng.randint(1, 255)) % 256
-            assert not sound(form, block), i
-        for bases, mates, row, _ in REFUSED:
-            assert not sound(form, encode(form, bases, mates)), row
+    self_test_of_blocks(rng)
+    self_test_of_short_blocks(rng)
 
 
 if __name__ == '__main__':

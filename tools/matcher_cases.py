@@ -6,7 +6,7 @@ import functools
 import itertools
 
 import lakhido_model
-from lakhido_model import FOLDED, LONGEST, SETTLED, strand_refusal, work_size
+from lakhido_model import FOLDED, LONGEST, SETTLED, molecule_refusal, motif_refusal, work_size
 from testing_crate import SHAPES, WORK_ROOM, Cases, by_rule, written, written_as
 
 CASES = Cases('matcher_test', ('calls', 'refused', 'whole motif', 'no prefix', 'arcs', 'depths'))
@@ -16,14 +16,14 @@ COUNTS, put, group = CASES.counts, CASES.put, CASES.group
 # What is wanted.
 
 @functools.cache
-def strand_row(s):
-    return strand_refusal(s.bases, s.mates)
+def strand_row(side, s):
+    return (motif_refusal, molecule_refusal)[side](s.bases, s.mates)
 
 
 def refused(call, p, q, places, work):
     """Number, side and place of the refusal of a call (`l` length, `s` show), or None. Order: motif, molecule, 9, 8."""
     for side, s in ((0, p), (1, q)):
-        row = strand_row(s)
+        row = strand_row(side, s)
         if row:
             return row[0], side, row[1]
     if call == 's' and places < len(p.bases):
@@ -49,9 +49,11 @@ def fold_of(s):
 
 # The lines.
 
+EMPTY_MOTIF = written('', '')
+# By the row that refuses each as a molecule. Row 2 is no row of motifs: as a motif the second is accepted.
 BAD = {
     1: written('AC', '0'),
-    2: written('', ''),
+    2: EMPTY_MOTIF,
     3: by_rule(0, LONGEST + 1, 1, 4),
     4: written('AXC', '012'),
     5: written('A', '1'),
@@ -68,6 +70,10 @@ BOTH = {
     '5 and 6': written('ACG', '113'),
     '6 and 7': written('ACGUAC', '230155'),
 }
+
+
+# Motifs of which either slice alone is empty.
+LENGTHS_DIFFER = (written('', '0'), 'no bases, one mate'), (written('A', ''), 'one base, no mates')
 
 
 def line(calls, p, q, places, work, row, side, n, name):
@@ -153,17 +159,35 @@ def rooms():
     one = written('A', '0')
     case(one, one, 1, 135, 'row 8')
     case(one, one, 1, 136, 'row 8, one entry more')
+    case(EMPTY_MOTIF, one, 0, 71, 'row 8, no bases')
+    case(EMPTY_MOTIF, one, 0, 72, 'one entry more')
     case(written('GC', '01'), one, 1, 64 * 3 + 8, 'row 9')
     group('small examples of rows 8 and 9')
-    for m, n in ((1, 1), (1, 7), (7, 1), (9, 9), (120, 160), (1, LONGEST)):
+    for m, n in ((1, 1), (1, 7), (7, 1), (9, 9), (120, 160), (1, LONGEST), (0, 1), (0, 7), (0, 160), (0, LONGEST)):
         p, q = by_rule(4, m, 5, 1), by_rule(4, n, 6, 1)
         size = room(p, q)
         for work in (0, size - 1, size, size + 4):
             case(p, q, m, work, 'all places, work %+d' % (work - size))
         for work in (size - 1, size):
-            for places in sorted({0, m - 1, m + 3}):
+            for places in sorted({0, m - 1, m + 3} - {m, -1}):
                 case(p, q, places, work, 'places %+d, work %+d' % (places - m, work - size))
     group('places and work short, exact and longer')
+
+
+def no_bases():
+    """It embeds in every molecule, with length 0: show has nothing to write, whatever places it gets."""
+    for n, shapes in ((1, (0,)), (2, (0, 1)), (9, range(6)), (160, range(6)), (1000, (4,)), (LONGEST, range(6))):
+        for shape in shapes:
+            q = by_rule(shape, n, 19, 4)
+            for places in (0, 1, LONGEST + 4):
+                case(EMPTY_MOTIF, q, places, room(EMPTY_MOTIF, q), '%d places, %s' % (places, SHAPES[shape]))
+            case(EMPTY_MOTIF, q, 2, room(EMPTY_MOTIF, q) - 1, 'row 8, ' + SHAPES[shape])
+    for bases, mates, *_ in FOLDED:
+        q = written_as(bases, mates)
+        exact(EMPTY_MOTIF, q, 'no bases')
+        for p, name in LENGTHS_DIFFER:
+            exact(p, q, name)
+    group('motifs with no bases')
 
 
 def random_pairs():
@@ -171,7 +195,7 @@ def random_pairs():
         for a, b in itertools.product(range(6), range(6)):
             rounds(60, (a, 6, 100, letters), (b, 9, 5000, letters), '%s in %s' % (SHAPES[a], SHAPES[b]))
         group('random pairs of 6 and 9, letters %d' % letters)
-    for m, n in ((1, 1), (1, 12), (3, 7), (5, 12), (9, 9), (10, 6), (8, 12)):
+    for m, n in ((0, 1), (0, 12), (1, 1), (1, 12), (3, 7), (5, 12), (9, 9), (10, 6), (8, 12)):
         for letters in (1, 2):
             rounds(100, (4, m, 300, letters), (5, n, 7000, letters), '%d in %d, letters %d' % (m, n, letters))
     group('random pairs of other lengths')
@@ -198,6 +222,6 @@ def long_pairs():
 
 
 def files():
-    for part in (settled, folds, refusals, rooms, random_pairs, long_pairs):
+    for part in (settled, folds, refusals, rooms, no_bases, random_pairs, long_pairs):
         part()
     return CASES.files()

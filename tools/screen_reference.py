@@ -6,7 +6,7 @@
 """
 import sys
 
-from lakhido_model import BLOCK, LONGEST_MOTIF, MOLECULE, MOST_SCREENED, decode, embeds, encode, sound
+from lakhido_model import BLOCK, LONGEST_MOTIF, MOLECULE, MOST_SCREENED, MOTIF, NO_BASES, decode, embeds, encode, holds, sound
 
 
 def output(data):
@@ -14,12 +14,12 @@ def output(data):
     if len(data) % BLOCK != 0 or not 2 <= len(data) // BLOCK <= 1 + MOST_SCREENED:
         return 'bad length\n'
     motif, *blocks = (data[k:k + BLOCK] for k in range(0, len(data), BLOCK))
-    if not sound(MOLECULE, motif) or not any(motif):
+    if not holds(MOTIF, motif):
         return 'bad motif\n'
     for d, block in enumerate(blocks):
         if not sound(MOLECULE, block):
             return 'refused 11 2 %d\n' % d
-    p, pm = decode(MOLECULE, motif)
+    p, pm = decode(MOTIF, motif)
     if len(p) > LONGEST_MOTIF:
         return 'refused 3 0 0\n'
     held = [d for d, block in enumerate(blocks) if any(block)]
@@ -35,6 +35,10 @@ def self_test():
     assert output(one * 65) == 'hits 64 searched 64\n' + ''.join('%d\n' % d for d in range(64)) and len(output(one * 65)) == 202
     long = bytes(encode(MOLECULE, 'A' * 121, list(range(121))))
     assert output(long + one) == 'refused 3 0 0\n'
+    none = bytes(encode(MOTIF, *NO_BASES))
+    assert output(none + one + hole + long) == 'hits 2 searched 2\n0\n2\n' and output(none + hole) == 'hits 0 searched 0\n'
+    assert output(none + one + none) == output(one + one + none) == 'refused 11 2 1\n' and output(hole + none) == 'bad motif\n'
+    assert output(none[:-4] + bytes(4) + one) == output(b'\x02' + none[1:] + one) == 'bad motif\n'
 
 
 if __name__ == '__main__':

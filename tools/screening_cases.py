@@ -5,7 +5,7 @@ import os
 import random
 
 from dotbracket import block_of, motif_and_catalog, read_text
-from lakhido_model import BLOCK, MOST_SCREENED, few_letters, random_strand
+from lakhido_model import BLOCK, MOST_SCREENED, few_letters, random_motif, random_strand
 from screen_reference import output
 
 MOST = (1 + MOST_SCREENED) * BLOCK
@@ -52,7 +52,7 @@ class Cases:
 
 
 def lengths(cases):
-    """No input, one block, one byte less and more, the longest input; an empty and an unsound first block."""
+    """No input, one block, one byte less and more, the longest input; an empty and an unsound first block, and one of a motif with no bases."""
     cases.screen(0)
     cases.same_bases(0, 1)
     for n in (1, 511, 512, 513, 1023, 1024, 1025, 1536):
@@ -68,6 +68,36 @@ def lengths(cases):
     cases.each_wrong(1024)
     cases.empty(0)
     cases.screen(1024)
+    cases.same_bases(0, 0)
+    for n in (512, 1023, 1024, 1536):
+        cases.screen(n)
+    cases.each_wrong(1024)
+
+
+def no_bases(cases, rng):
+    """A motif with no bases, whose hits are all that are held; its block with another byte; molecules with no bases."""
+    cases.same_bases(0, 0)
+    for d, n in ((1, 1), (2, 160), (4, 7)):
+        cases.same_bases(d, n)
+    cases.empty(3)
+    for d in range(2, 6):
+        cases.screen(BLOCK * d)
+    values = [(i, v) for i in (0, BLOCK - 4) for v in (0, 2, 3)] + [(i, 1) for i in (1, 2, 27, 28, 187, 188, 507, 509, 510, 511)]
+    for i, v in values + [(rng.randrange(1, BLOCK - 4), rng.randint(1, 255)) for _ in range(24)]:
+        old = cases.image[i]
+        cases.byte(i, v)
+        cases.screen(5 * BLOCK)
+        cases.byte(i, old)
+    cases.screen(5 * BLOCK)
+    for d in (4, 3, 1):
+        cases.same_bases(d, 0)
+        cases.screen(5 * BLOCK)
+    for d in (0, 1, 3, 4):
+        cases.empty(d)
+        cases.screen(5 * BLOCK)
+    cases.same_bases(0, 0)
+    cases.empty(2)
+    cases.screen(5 * BLOCK)
 
 
 def long_motifs(cases):
@@ -89,9 +119,9 @@ def example(cases, data):
 
 
 def bonds(cases, rng):
-    """Random motifs with bonds in random molecules."""
+    """Random motifs with bonds in random molecules. One motif of twenty has no bases."""
     for _ in range(12):
-        cases.block(0, block_of(*few_letters(random_strand(rng, 5))))
+        cases.block(0, block_of(*few_letters(random_motif(rng, 5))))
         for d in range(1, 4):
             cases.block(d, block_of(*few_letters(random_strand(rng, 14))))
         cases.screen(4 * BLOCK)
@@ -117,10 +147,17 @@ def unsound_places(cases, rng):
         cases.screen(MOST)
     for d in (0, 7, 40, 63):
         cases.byte(BLOCK * (1 + d), 1)
-    cases.same_bases(0, 1)
+    for n in (1, 0):
+        cases.same_bases(0, n)
+        cases.screen(MOST)
+    cases.each_wrong(MOST)
+    cases.same_bases(33, 0)
     cases.screen(MOST)
-    cases.empty(64)
-    cases.screen(MOST)
+    cases.same_bases(33, 1)
+    for n in (0, 1):
+        cases.same_bases(0, n)
+        cases.empty(64 - n)
+        cases.screen(MOST)
 
 
 def example_input(name):
@@ -134,6 +171,7 @@ def files():
     rng, cases = random.Random(3), Cases()
     small, trna = example_input('small'), example_input('trna')
     lengths(cases)
+    no_bases(cases, rng)
     long_motifs(cases)
     example(cases, small)
     example(cases, trna)

@@ -8,7 +8,7 @@ import itertools
 
 import lakhido_model
 from lakhido_model import LONGEST, SETTLED, WINDOWS
-from matcher_cases import BAD, BOTH, fold_of, refused, room
+from matcher_cases import BAD, BOTH, LENGTHS_DIFFER, EMPTY_MOTIF, fold_of, refused, room
 from testing_crate import HAIRPINS, IN_TURN, SHAPES, WORK_ROOM, Cases, by_rule, written, written_as
 
 CASES = Cases('window_test', ('calls', 'refused', 'found', 'nowhere', 'starts', 'lengths', 'arcs', 'depths'))
@@ -114,7 +114,7 @@ def refusals():
 
 
 def work_sizes():
-    for m, n in ((1, 1), (1, 7), (7, 1), (9, 9), (120, 160), (1, LONGEST), (400, 1500)):
+    for m, n in ((0, 1), (0, 7), (0, 160), (0, LONGEST), (1, 1), (1, 7), (7, 1), (9, 9), (120, 160), (1, LONGEST), (400, 1500)):
         p, q = by_rule(4, m, 5, 1), by_rule(4, n, 6, 1)
         size = room(p, q)
         for work in (0, size - 1, size, size + 4):
@@ -127,7 +127,7 @@ def random_pairs():
         for a, b in itertools.product(range(6), range(6)):
             rounds(30, (a, 4, 100, letters), (b, 12, 5000, letters), '%s in %s' % (SHAPES[a], SHAPES[b]))
         group('random pairs of 4 and 12, letters %d' % letters)
-    for m, n in ((1, 1), (1, 12), (2, 9), (3, 7), (5, 10), (5, 12), (5, 5), (5, 3)):
+    for m, n in ((0, 1), (0, 12), (1, 1), (1, 12), (2, 9), (3, 7), (5, 10), (5, 12), (5, 5), (5, 3)):
         for letters in (1, 2, 3, 4):
             rounds(40, (4, m, 300, letters), (5, n, 7000, letters), '%d in %d, letters %d' % (m, n, letters))
             rounds(40, (0, m, 400, letters), (4, n, 8000, letters), '%d in %d, letters %d' % (m, n, letters))
@@ -168,7 +168,7 @@ def long_pairs():
 
 
 def ends():
-    """The motif is the molecule itself; or both are of one letter, and the motif has one base more; or the motif has one base."""
+    """The motif is the molecule itself; or both are of one letter, and the motif has one base more; or the motif has one base, or none."""
     for n, shapes in ((1, (0,)), (2, (0, 1)), (9, range(6)), (1000, range(6)), (LONGEST, (0, 5))):
         for a in shapes:
             s = by_rule(a, n, 14, 4)
@@ -184,6 +184,12 @@ def ends():
                 exact(written(base, '0'), by_rule(a, n, 17, 2), '%s in %s' % (base, SHAPES[a]))
             exact(written('U', '0'), by_rule(a, n, 17, 3), 'U in ' + SHAPES[a])
     group('motifs of one base')
+    for n in (1, 2, 9, 160, 1500, LONGEST):
+        for a in range(6):
+            exact(EMPTY_MOTIF, by_rule(a, n, 17, 4), 'none in ' + SHAPES[a])
+    for p, name in LENGTHS_DIFFER:
+        exact(p, written('GAC', '210'), name)
+    group('motifs with no bases')
 
 
 def periodic():

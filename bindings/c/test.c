@@ -1,5 +1,5 @@
-/* Calls each function of the library on document 01's small examples, some of the arcs and depth of a molecule and some of the tightest window, and prints
- * ok. */
+/* Calls each function of the library on document 01's small examples, some of the arcs and depth of a molecule, some of the tightest window and some of the
+ * empty motif, and prints ok. */
 #include "lakhido.h"
 
 #include <stdio.h>
@@ -58,6 +58,7 @@ static void holds(int line, int fact) {
 #define CATALOG catalog, sizeof catalog
 #define CACHE cache, LAKHIDO_BLOCK
 #define QUERY_WORK work, LAKHIDO_QUERY_WORK(2)
+#define NOTHING_QUERIED lakhido_query(CATALOG, CACHE, NONE, NONE, work, LAKHIDO_QUERY_WORK(0), hits, 3)
 #define THREE_ARCS BASES("GGCGCC"), MATES(5, 2, 1, 4, 3, 0)
 
 static void strands(void) {
@@ -112,6 +113,30 @@ static void windows(void) {
     HOLDS(work[0] == 4711);
 }
 
+/* The empty motif, lent as null pointers and as others. */
+static void empty_motif(void) {
+    FOLDED(lakhido_length(NONE, NONE, THREE_ARCS, WORK(0, 6)), 0, 3, 2);
+    FOLDED(lakhido_length(BASES(""), places, 0, THREE_ARCS, WORK(0, 6)), 0, 3, 2);
+    FOLDED(lakhido_length(NONE, NONE, BASES("A"), MATES(0), work, 72), 0, 0, 0);
+    REFUSED(lakhido_length(NONE, NONE, BASES("A"), MATES(0), work, 71), LAKHIDO_WORK_TOO_SHORT, LAKHIDO_NEITHER, 0);
+    REFUSED(lakhido_length(NONE, NONE, BASES("A"), MATES(0), NONE), LAKHIDO_WORK_TOO_SHORT, LAKHIDO_NEITHER, 0);
+    REFUSED(lakhido_length(NONE, NONE, NONE, NONE, NONE), LAKHIDO_NO_BASES, LAKHIDO_MOLECULE, 0);
+    REFUSED(lakhido_length(NONE, MATES(0), NONE, NONE, NONE), LAKHIDO_UNEQUAL_LENGTHS, LAKHIDO_MOTIF, 0);
+    REFUSED(lakhido_length(BASES("A"), NONE, NONE, NONE, NONE), LAKHIDO_UNEQUAL_LENGTHS, LAKHIDO_MOTIF, 0);
+
+    memset(places, 255, sizeof places);
+    FOLDED(lakhido_show(NONE, NONE, THREE_ARCS, NONE, WORK(0, 6)), 0, 3, 2);
+    FOLDED(lakhido_show(NONE, NONE, THREE_ARCS, places, 4, WORK(0, 6)), 0, 3, 2);
+    HOLDS(places[0] == 65535 && places[1] == 65535 && places[2] == 65535 && places[3] == 65535);
+
+    FOLDED(lakhido_verify(NONE, NONE, THREE_ARCS, NONE), 1, 3, 2);
+    REFUSED(lakhido_verify(NONE, NONE, THREE_ARCS, MATES(0)), LAKHIDO_WRONG_SLICE, LAKHIDO_NEITHER, 0);
+
+    FOUND(lakhido_window(NONE, NONE, THREE_ARCS, WORK(0, 6)), 0, 0, 3, 2);
+    FOUND(lakhido_window(NONE, NONE, BASES("A"), MATES(0), work, 72), 0, 0, 0, 0);
+    NO_WINDOW(lakhido_window(NONE, NONE, BASES("A"), MATES(0), work, 71), LAKHIDO_WORK_TOO_SHORT, LAKHIDO_NEITHER, 0);
+}
+
 /* Three arcs have depth 2 here; the motifs have one arc, or none. */
 static void arcs_and_depth_of_the_molecule_not_of_the_motif(void) {
     FOLDED(lakhido_check(THREE_ARCS), 0, 3, 2);
@@ -144,20 +169,40 @@ static void story(void) {
     HOLDS(hits[0] == 1);
 }
 
+/* Two molecules, one slot and the empty motif; its entry is byte 0, the two maps and the checksum, 2 + 381 * 3 + 445 * 3. */
+static void story_of_the_empty_motif(void) {
+    FOLDED(lakhido_add(CATALOG, CACHE, 0, BASES("GAC"), MATES(2, 1, 0)), 0, 1, 1);
+    ACCEPTED(NOTHING_QUERIED, 2, 2);
+    HOLDS(hits[0] == 0 && hits[1] == 1 && hits[2] == 7);
+    HOLDS(cache[0] == 2 && cache[1] == 0 && cache[380] == 3 && cache[444] == 3 && cache[508] == 176 && cache[509] == 9);
+    ACCEPTED(NOTHING_QUERIED, 2, 0);
+    cache[0] = 0;
+    ACCEPTED(NOTHING_QUERIED, 2, 2);
+    ACCEPTED(lakhido_remove(CATALOG, CACHE, 0), 0, 0);
+    ACCEPTED(NOTHING_QUERIED, 1, 0);
+    HOLDS(hits[0] == 1);
+    REFUSED(lakhido_add(CATALOG, CACHE, 0, NONE, NONE), LAKHIDO_NO_BASES, LAKHIDO_MOLECULE, 0);
+}
+
+/* Byte 0 = 9 is no kind of block; a block of a molecule with no bases is unsound. */
 static void refused_buffers(void) {
     REFUSED(lakhido_query(CATALOG, cache, LAKHIDO_BLOCK + 1, BASES("GC"), MATES(1, 0), QUERY_WORK, hits, 3), LAKHIDO_NOT_WHOLE_BLOCKS, LAKHIDO_NEITHER, 0);
     REFUSED(lakhido_query(NONE, CACHE, BASES("GC"), MATES(1, 0), QUERY_WORK, hits, 3), LAKHIDO_NOT_WHOLE_BLOCKS, LAKHIDO_NEITHER, 0);
     catalog[LAKHIDO_BLOCK] = 9;
     REFUSED(lakhido_remove(CATALOG, CACHE, 1), LAKHIDO_UNSOUND_BLOCK, LAKHIDO_NEITHER, 1);
     HOLDS(catalog[LAKHIDO_BLOCK] == 9);
+    catalog[0] = catalog[508] = 1;
+    REFUSED(NOTHING_QUERIED, LAKHIDO_UNSOUND_BLOCK, LAKHIDO_NEITHER, 0);
 }
 
 int main(void) {
     strands();
     direct_calls();
     windows();
+    empty_motif();
     arcs_and_depth_of_the_molecule_not_of_the_motif();
     story();
+    story_of_the_empty_motif();
     refused_buffers();
     if (!failed) puts("ok");
     return failed;

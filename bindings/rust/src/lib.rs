@@ -3,7 +3,8 @@
 //!
 //! A molecule or a motif is a [`Strand`]: bases as bytes (`A`, `C`, `G`, `U`) and, for each base, the position of its mate, its own where it has
 //! no bond. Arcs are nested. An embedding gives the motif's positions rising positions of the molecule with the same bases, and two positions of the motif
-//! are an arc exactly when their places are.
+//! are an arc exactly when their places are. A molecule has at least one base; a motif may have none, and that empty motif embeds in every molecule, with
+//! length 0, no places, and a window with start 0 and length 0.
 //!
 //! No call asks anything of its caller: every input is answered or refused, and a refused call changes no byte of any buffer. No call allocates;
 //! all memory is lent.
@@ -45,6 +46,11 @@
 //!
 //! // The same query again is answered from the cache.
 //! assert_eq!(lakhido::query(&catalog, &mut cache, motif, &mut work, &mut hits)?.searched, 0);
+//!
+//! // The empty motif lists every molecule of the catalog.
+//! lakhido::add(&mut catalog, &mut cache, 0, Strand::new(b"AU", &[0, 1]))?;
+//! assert_eq!(lakhido::query(&catalog, &mut cache, Strand::new(b"", &[]), &mut work, &mut hits)?.count, 2);
+//! assert_eq!(hits, [0, 1]);
 //!
 //! // A refusal says which rule, on which side, at which place.
 //! let refusal = lakhido::check(Strand::new(b"AXC", &[0, 1, 2])).unwrap_err();
@@ -130,7 +136,7 @@ pub struct Matched {
 /// unbonded in it.
 #[derive(Clone, Copy, PartialEq, Eq, Debug)]
 pub struct Window {
-    /// The position of its first base in the molecule.
+    /// The position in the molecule where it begins.
     pub start: usize,
     /// How many bases it has.
     pub length: usize,
@@ -185,7 +191,7 @@ pub fn check(molecule: Strand) -> Result<Fold, Refusal> {
 ///
 /// `work` has at least [`work_size`] entries; what it holds before is of no matter, and what it holds after an accepted call is free.
 ///
-/// Refused by the reasons 1 to 7 of the motif, 1 to 7 of the molecule, 8.
+/// Refused by the reasons 1 and 3 to 7 of the motif, 1 to 7 of the molecule, 8.
 pub fn length(motif: Strand, molecule: Strand, work: &mut [u16]) -> Result<Matched, Refusal> {
     matched(ffi::length(motif.bases, motif.mates, molecule.bases, molecule.mates, work))
 }
@@ -193,7 +199,7 @@ pub fn length(motif: Strand, molecule: Strand, work: &mut [u16]) -> Result<Match
 /// As [`length`], and writes the places of an embedding of that prefix to the start of `places`, keeping the later entries. `places` has at
 /// least as many entries as the motif has bases. `work` is as for [`length`].
 ///
-/// Refused by the reasons 1 to 7 of the motif, 1 to 7 of the molecule, 9, 8.
+/// Refused by the reasons 1 and 3 to 7 of the motif, 1 to 7 of the molecule, 9, 8.
 pub fn show(motif: Strand, molecule: Strand, places: &mut [u16], work: &mut [u16]) -> Result<Matched, Refusal> {
     matched(ffi::show(motif.bases, motif.mates, molecule.bases, molecule.mates, places, work))
 }
@@ -201,7 +207,7 @@ pub fn show(motif: Strand, molecule: Strand, places: &mut [u16], work: &mut [u16
 /// The tightest window of the molecule that carries the motif, which means that the motif embeds in it: of these windows the shortest, and of the shortest
 /// the one with the least start. None exactly when the motif does not embed in the molecule. With it the fold of the molecule. `work` is as for [`length`].
 ///
-/// Refused by the reasons 1 to 7 of the motif, 1 to 7 of the molecule, 8.
+/// Refused by the reasons 1 and 3 to 7 of the motif, 1 to 7 of the molecule, 8.
 ///
 /// ```
 /// use lakhido::{Strand, Window};
@@ -229,7 +235,7 @@ pub fn window(motif: Strand, molecule: Strand, work: &mut [u16]) -> Result<Windo
 /// Whether `places` is an embedding of the whole motif in the molecule, and with it the fold of the molecule. `places` has as many entries as the motif has
 /// bases; a place past the molecule's end is no embedding and is not refused.
 ///
-/// Refused by the reasons 1 to 7 of the motif, 1 to 7 of the molecule, 9.
+/// Refused by the reasons 1 and 3 to 7 of the motif, 1 to 7 of the molecule, 9.
 pub fn verify(motif: Strand, molecule: Strand, places: &[u16]) -> Result<Verified, Refusal> {
     let answer = refusal::accepted(ffi::verify(motif.bases, motif.mates, molecule.bases, molecule.mates, places))?;
     Ok(Verified { embeds: answer.value != 0, fold: fold_of(answer) })
@@ -249,7 +255,7 @@ pub fn remove(catalog: &mut [u8], cache: &mut [u8], number: usize) -> Result<(),
     refusal::accepted(ffi::remove(catalog, cache, number)).map(|_| ())
 }
 
-/// Finds the molecules of the catalog that the motif, of 1 to [`MOTIF_MOST`] bases, embeds in, and writes their numbers, rising, to the start of `hits`,
+/// Finds the molecules of the catalog that the motif, of 0 to [`MOTIF_MOST`] bases, embeds in, and writes their numbers, rising, to the start of `hits`,
 /// keeping the later entries. `hits` has at least as many entries as the catalog has blocks. What the cache knows of this motif is not searched
 /// again; the block of the motif's slot is written anew, and every unsound block of the cache is zeroed.
 ///
@@ -261,7 +267,7 @@ pub fn remove(catalog: &mut [u8], cache: &mut [u8], number: usize) -> Result<(),
 ///
 /// `work` has at least [`query_work_size`] entries; what it holds before is of no matter, and what it holds after an accepted call is free.
 ///
-/// Refused by the reasons 10, 11, 1 to 7 of the motif, 9, 8.
+/// Refused by the reasons 10, 11, 1 and 3 to 7 of the motif, 9, 8.
 pub fn query(catalog: &[u8], cache: &mut [u8], motif: Strand, work: &mut [u16], hits: &mut [u16]) -> Result<Found, Refusal> {
     let answer = refusal::accepted(ffi::query(catalog, cache, motif.bases, motif.mates, work, hits))?;
     Ok(Found { count: answer.value, searched: answer.searched })

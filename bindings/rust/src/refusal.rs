@@ -8,7 +8,7 @@ use std::fmt;
 pub enum Reason {
     /// 1: bases and mates differ in length.
     UnequalLengths = 1,
-    /// 2: no bases.
+    /// 2: no bases, of the molecule: a motif may have none.
     NoBases = 2,
     /// 3: more bases than the call takes.
     TooLong = 3,

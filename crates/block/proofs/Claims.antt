@@ -12,6 +12,7 @@ use Rattle.block.specs.Motif.{motifHandedIn, encodeMotif, soundMotif, ho
 use Rattle.block.specs.Block.{soundMolecule, soundEntry}
 use Rattle.block.specs.Statements.{HoldsMolecule, HoldsMotif, HoldsEntry, MoleculeSound, MotifSound, MotifHeld, EntrySound, EntryBack, Claims}
 use Rattle.block.proofs.ContentLaws as law
+use Rattle.block.proofs.EmptyMotif.{empty-motif}
 use Rattle.block.proofs.Examples.{layout}
 
 molecule-says : (s : List ℕ) → Bytes s → MoleculeSound s
@@ -90,5 +91,6 @@ claims =
       molecule-altered = λ s ok i v. law.molecule-changed s i v ok;
       motif-altered = λ s ok i v. law.motif-changed s i v ok;
       entry-altered = λ s ok i v. law.entry-changed s i v ok;
+      empty-motif = empty-motif;
       layout = layout;
     }

@@ -6,5 +6,6 @@ mod RoundTrip
 mod EntryLaws
 mod EncodedLaws
 pub mod ContentLaws
+mod EmptyMotif
 pub mod Examples
 pub mod Claims

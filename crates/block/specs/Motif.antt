@@ -17,7 +17,7 @@ motifHandedIn s = strandIn motifKind s
 unfoldable pub encodeMotif : Strand → List ℕ
 encodeMotif p = strandBlock motifKind [] (p .bases) (p .mates)
 
--- It is sound; it holds a motif: sound, and not empty.
+-- It is sound; it holds a motif: sound, and not a block of zeros. 02, (iii): a "motif block may have length 0", and then holds the motif with no bases.
 unfoldable pub soundMotif : List ℕ → Bool
 soundMotif s = soundStrand motifKind s
 

@@ -4,13 +4,14 @@ use Prim.Native.Nat.{ℕ, _<_}
 use mathlib.Core.Path.{_≡_}
 use mathlib.Core.Bool.{Bool, true, false}
 use mathlib.Core.Logic.{_⊎_, _↔_}
-use mathlib.Core.List.{List}
-use lib.ListN.{set}
+use mathlib.Core.List.{List, [], _∷_, _++_}
+use lib.ListN.{set, replicate}
 use Rattle.lists.specs.Vocabulary.{nth}
-use Rattle.strand.specs.Strands.{Strand, Proper, leastMotif, leastMolecule}
+use Rattle.strand.specs.Strands.{Strand, emptyMotif, Proper, leastMotif, leastMolecule}
 use Rattle.refusals.specs.Rules.{motifSide, moleculeSide}
-use Rattle.octets.specs.Octets.{Bytes, mapBits, without}
-use Rattle.block.specs.Content.{blockSize, blockBases, entryBases, emptyBlock, moleculeIn, motifIn, searchedIn, hitIn, encodeMolecule, encodeEntry}
+use Rattle.octets.specs.Octets.{Bytes, mapBits, mapBytes, without}
+use Rattle.block.specs.Content.{blockSize, blockBases, entryBases, emptyBlock, isEmpty, lengthIn, moleculeIn, motifIn, searchedIn, hitIn, keepsMotif}
+use Rattle.block.specs.Content.{withChecksum, encodeMolecule, encodeEntry}
 use Rattle.block.specs.Motif.{motifHandedIn, encodeMotif, soundMotif, holdsMotif}
 use Rattle.block.specs.Block.{soundMolecule, soundEntry, forgot}
 use Rattle.block.specs.Examples.{LayoutExamples}
@@ -20,12 +21,12 @@ pub record HoldsMolecule (s : List ℕ) (q : Strand) : Type 0 where
   pub proper : Proper moleculeSide leastMolecule blockBases (q .bases) (q .mates)
   pub encoded : s ≡ encodeMolecule q
 
--- The same of a block handed in as a motif.
+-- The same of a block handed in as a motif, which may have no bases.
 pub record HoldsMotif (s : List ℕ) (q : Strand) : Type 0 where
   pub proper : Proper motifSide leastMotif blockBases (q .bases) (q .mates)
   pub encoded : s ≡ encodeMotif q
 
--- The block holds a proper motif of 1 to 120 bases with its searched numbers and its hits, each of them searched, and is their encoding.
+-- The block holds a proper motif of at most 120 bases with its searched numbers and its hits, each of them searched, and is their encoding.
 pub record HoldsEntry (s : List ℕ) (q : Strand) (searched hits : ℕ → Bool) : Type 0 where
   pub proper : Proper motifSide leastMotif entryBases (q .bases) (q .mates)
   pub within : (d : ℕ) → d < mapBits → hits d ≡ true → searched d ≡ true
@@ -73,6 +74,23 @@ MotifAltered s = (i v : ℕ) → i < blockSize → (nth s i ≡ v → ⊥) → s
 abbrev pub EntryAltered : List ℕ → Type 0
 EntryAltered s = (i v : ℕ) → i < blockSize → (nth s i ≡ v → ⊥) → soundEntry (set s i v) ≡ false
 
+-- 02, (iii), of the motif with no bases. The claims above hold of it as of any motif; these say what its blocks are, and what they are not.
+pub record EmptyMotifBlocks : Type 0 where
+  -- "It is kept with length 0": byte 0 is 2; byte 1, the length, and all else before the maps is 0. The entry is sound and keeps it. No entry of another length
+  -- keeps it, and an empty block keeps no motif, and so not this one.
+  pub entry : (searched hits : ℕ → Bool) → encodeEntry emptyMotif searched hits ≡ withChecksum ((2 ∷ replicate 379 0) ++ mapBytes searched ++ mapBytes hits)
+  pub kept : (searched hits : ℕ → Bool) → keepsMotif (encodeEntry emptyMotif searched hits) emptyMotif ≡ true
+  pub sound : (searched hits : ℕ → Bool) → ((d : ℕ) → d < mapBits → hits d ≡ true → searched d ≡ true)
+      → soundEntry (encodeEntry emptyMotif searched hits) ≡ true
+  pub other-length : (s : List ℕ) → (lengthIn s ≡ 0 → ⊥) → keepsMotif s emptyMotif ≡ false
+  pub not-kept : (q : Strand) → keepsMotif emptyBlock q ≡ false
+  -- A "motif block may have length 0": byte 0 is 1, all else before the checksum is 0, and the checksum is 1. An empty block hands no motif in.
+  pub block : encodeMotif emptyMotif ≡ (1 ∷ replicate 507 0) ++ (1 ∷ 0 ∷ 0 ∷ 0 ∷ [])
+  pub handed-in : holdsMotif (encodeMotif emptyMotif) ≡ true
+  pub not-handed-in : holdsMotif emptyBlock ≡ false
+  -- A catalog block of length 0 is unsound, unless it is empty.
+  pub no-molecule : (s : List ℕ) → lengthIn s ≡ 0 → isEmpty s ≡ false → soundMolecule s ≡ false
+
 -- All the claims.
 pub record Claims : Type 0 where
   pub molecule-sound : (s : List ℕ) → Bytes s → MoleculeSound s
@@ -85,4 +103,5 @@ pub record Claims : Type 0 where
   pub molecule-altered : (s : List ℕ) → soundMolecule s ≡ true → MoleculeAltered s
   pub motif-altered : (s : List ℕ) → soundMotif s ≡ true → MotifAltered s
   pub entry-altered : (s : List ℕ) → soundEntry s ≡ true → EntryAltered s
+  pub empty-motif : EmptyMotifBlocks
   pub layout : LayoutExamples

@@ -183,7 +183,7 @@ pub fn sound_motif(s: &[u8]) -> bool
     )
 }
 
-// Whether s hands a motif in: it is sound, and not empty.
+// Whether s hands a motif in: it is sound, and not a block of zeros.
 pub fn holds_motif(s: &[u8]) -> bool
     ensures { λ r. ⌜ r ≡ holdsMotif (now (s .entry)) ⌝ }
 {

@@ -5,12 +5,14 @@ use testing::slices::byte_at;
 use testing::slices::set_byte;
 use testing::slices::sum_bytes;
 
-// Whether s is sound as a molecule block (kind 1) or as a cache entry (kind 2).
+// Whether s is sound as a molecule block (kind 1), as a cache entry (2) or as a block handed in as a motif (3), or holds a motif (4).
 fn sound(kind: usize, s: &[u8]) -> usize {
-    if kind == 1 {
-        return block::sound::sound_molecule(s) as usize;
+    match kind {
+        1 => block::sound::sound_molecule(s) as usize,
+        2 => block::sound::sound_entry(s) as usize,
+        3 => block::sound::sound_motif(s) as usize,
+        _ => block::sound::holds_motif(s) as usize,
     }
-    block::sound::sound_entry(s) as usize
 }
 
 // Byte a becomes b: whether the block is sound with the checksum as it is, and with the checksum made right.

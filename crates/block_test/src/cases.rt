@@ -71,8 +71,8 @@ fn sum(image: &[u8], bytes: &[u8], words: &[u16]) -> usize {
     }
 }
 
-// The block s decoded into the bases up to byte `end` and the first m mates.
-fn decoded(s: &[u8], bytes: &mut [u8], end: usize, words: &mut [u16], m: usize) -> usize {
+// The block s decoded, for `E` as a motif, into the bases up to byte `end` and the first m mates.
+fn decoded(kind: u8, s: &[u8], bytes: &mut [u8], end: usize, words: &mut [u16], m: usize) -> usize {
     let from = 0;
     let begin = 48;
     if end < begin {
@@ -84,14 +84,18 @@ fn decoded(s: &[u8], bytes: &mut [u8], end: usize, words: &mut [u16], m: usize) 
     if words.len() < m {
         return parts::WRONG;
     }
+    if kind == b'E' {
+        return codec::molecule::decode_motif(s, &mut bytes[begin..end], &mut words[from..m]);
+    }
     codec::molecule::decode_molecule(s, &mut bytes[begin..end], &mut words[from..m])
 }
 
-// `D a b c`: the first block decoded into a bases and b mates of the strand. `d` gives it a byte less than a block.
-fn decode(image: &[u8], size: usize, bytes: &mut [u8], words: &mut [u16]) -> usize {
+// `D a b c`: the first block decoded into a bases and b mates of the strand, `E` the same as a block handed in as a motif. `d` gives it a byte less than
+// a block.
+fn decode(kind: u8, image: &[u8], size: usize, bytes: &mut [u8], words: &mut [u16]) -> usize {
     let end = 48 + number(bytes, 2, 5) % 1000;
     let m = number(bytes, 8, 5);
-    decoded(part(image, 0, size), bytes, end, words, m)
+    decoded(kind, part(image, 0, size), bytes, end, words, m)
 }
 
 // What the line's command answers; `blocks` and `strands` have the other letters.
@@ -100,8 +104,8 @@ fn answer(kind: u8, image: &mut [u8], bytes: &mut [u8], words: &mut [u16]) -> us
         0 => parts::NOTHING,
         b'N' | b'A' | b'C' | b'P' | b'G' => prepare(kind, bytes, words),
         b'M' | b'K' | b'O' | b'U' => strands::answer(kind, image, bytes, words),
-        b'D' => decode(image, 512, bytes, words),
-        b'd' => decode(image, 511, bytes, words),
+        b'D' | b'E' => decode(kind, image, 512, bytes, words),
+        b'd' => decode(kind, image, 511, bytes, words),
         b'W' => sum(image, bytes, words),
         _ => blocks::answer(kind, image, bytes),
     }

@@ -1,19 +1,20 @@
 -- The claims about add, remove and query for all inputs and all contents of the buffers.
 use Prim.Native.Nat.{ℕ, _+_, _*_, _/_, _%_, _<_}
 use native.Mathlib.Omega.{arith}
-use native.Mathlib.Nat.{mod-lt}
+use native.Mathlib.Nat.{mod-lt, zero-mod}
 use native.Mathlib.Decide.{ℕ-discrete}
 use mathlib.Core.Path.{_≡_, refl, sym, _∙_, ap}
 use mathlib.Core.Logic.{⊎-elim}
 use mathlib.Core.Bool.{Bool, true, false, not, _&&_, and-true as and-true-right, and-false}
-use mathlib.Core.List.{List}
+use mathlib.Core.List.{List, [], _∷_}
 use lib.Dec.{ltb, eqb}
 use lib.ListN.{length, drop, getD-replicate}
 use lib.Seq.{take-at, drop-at}
 use borrow.Author.Tests.{eq-eqb, lt-ltb}
 use Rattle.lists.specs.Vocabulary.{select}
-use Rattle.strand.specs.Strands.{Strand, key, sameStrand, Proper, leastMotif}
-use Rattle.refusals.specs.Rules.{motifSide}
+use Rattle.strand.specs.Strands.{Strand, emptyMotif, key, sameStrand, Proper, leastMotif}
+use Rattle.strand.proofs.Claims as strand
+use Rattle.refusals.specs.Rules.{motifSide, noSide, wrongSlice, first, refuseIf, workRule}
 use Rattle.lists.proofs.ListLaws.{and-true, by-bool, same-refl, choose-yes, choose-no}
 use Rattle.block.specs.Content.{blockSize, searchedAt, hitAt, emptyBlock, isEmpty, moleculeIn, motifIn, searchedIn, hitIn, keepsMotif, encodeMolecule}
 use Rattle.block.specs.Content.{encodeEntry}
@@ -25,11 +26,12 @@ use Rattle.buffer.proofs.BlockLaws.{length-block, length-put, block-put, block-
 use Rattle.block.proofs.ContentLaws as law
 use Rattle.refusals.specs.declared.Verdict.the-variants.{Accepted, Refused}
 use Rattle.refusals.specs.declared.Refusal.{Refusal}
-use Rattle.refusals.proofs.RuleLaws.{by-accepted, by-refused}
+use Rattle.refusals.proofs.RuleLaws.{first-without, by-accepted, by-refused}
 use Rattle.calls.specs.declared.Added.the-variants.{Refused as NotAdded}
 use Rattle.calls.specs.declared.Removed.the-variants.{Refused as NotRemoved}
 use Rattle.calls.specs.declared.Queried.the-variants.{Refused as NotQueried}
-use Rattle.calls.specs.Buffers.{mostCatalogBlocks, mostMotifBases, held, moleculeAt, slotOf, cleanCache, Usable}
+use Rattle.calls.specs.Buffers.{mostCatalogBlocks, mostMoleculeBases, mostMotifBases, motifVerdict, workVerdict, buffersVerdict, held, moleculeAt}
+use Rattle.calls.specs.Buffers.{slotOf, cleanCache, Usable}
 use Rattle.calls.specs.Calls.{effect, addVerdict, addOutcome, removeVerdict, removeOutcome, queried, queryVerdict, isKnown, toSearch, isHit}
 use Rattle.calls.specs.Calls.{queryAccepted, queryOutcome, found, queryResult}
 use Rattle.calls.specs.Statements.{AllSound, OnlyAt, AddLeaves, RemoveLeaves, QueryLeaves, slotIn, entryFor, Claims}
@@ -304,6 +306,17 @@ query-found embeds catalog cache p work hits e =
     let new = query-accepted embeds catalog cache p work hits e in
     rw (new .answer, new .listed)
 
+-- The motif with no bases.
+empty-motif-verdict : (catalog cache : List ℕ) (work room : ℕ) → queryVerdict catalog cache emptyMotif work room
+    ≡ first (buffersVerdict catalog cache ∷ refuseIf wrongSlice noSide (ltb room (blockCount catalog)) ∷ workRule 0 mostMoleculeBases work ∷ [])
+unfolding queryVerdict motifVerdict workVerdict
+empty-motif-verdict catalog cache work room =
+    rw (strand.claims .empty-motif-says .passes mostMotifBases) (first-without (buffersVerdict catalog cache) _)
+
+empty-motif-slot : (S : ℕ) → slotOf S emptyMotif ≡ 0
+unfolding slotOf
+empty-motif-slot S = rw (strand.claims .empty-motif-says .key-0) (zero-mod S)
+
 pub claims : (embeds : Strand → Strand → Bool) → Claims embeds
 claims embeds =
     record {
@@ -323,4 +336,6 @@ claims embeds =
       hit-held = hit-held embeds;
       same-motif = same-motif embeds;
       other-motif = other-motif embeds;
+      empty-motif-verdict = empty-motif-verdict;
+      empty-motif-slot = empty-motif-slot;
     }

@@ -31,11 +31,11 @@ buffers-numbered catalog cache =
 
 molecule-numbered : (q : Strand) → Numbering (moleculeVerdict q)
 unfolding moleculeVerdict
-molecule-numbered q = strand-numbered moleculeSide (omega arith) leastMolecule mostMoleculeBases (q .bases) (q .mates)
+molecule-numbered q = strand-numbered moleculeSide (omega arith) leastMolecule mostMoleculeBases (q .bases) (q .mates) (λ h. refl)
 
 motif-numbered : (p : Strand) → Numbering (motifVerdict p)
 unfolding motifVerdict
-motif-numbered p = strand-numbered motifSide (omega arith) leastMotif mostMotifBases (p .bases) (p .mates)
+motif-numbered p = strand-numbered motifSide (omega arith) leastMotif mostMotifBases (p .bases) (p .mates) (λ h. absurd (omega arith))
 
 number-numbered : (b : Bool) → Numbering (refuseIf 12 noSide b)
 number-numbered b = if-numbered 12 noSide (call-number 12 0 (omega arith) (omega arith) (λ n. refl)) b

@@ -23,7 +23,7 @@ mostCacheBlocks = 64
 unfoldable pub inRange : ℕ → ℕ → Bool
 inRange B S = (leb 1 B && leb B mostCatalogBlocks) && (leb 1 S && leb S mostCacheBlocks)
 
--- 01, lengths: molecules in the catalog 1 to 160, which is what one block has places for; motifs of a query 1 to 120.
+-- 01, lengths: molecules in the catalog 1 to 160, which is what one block has places for; motifs of a query at most 120 (02, (iii): one with no bases too).
 abbrev pub mostMoleculeBases : ℕ
 mostMoleculeBases = blockBases
 

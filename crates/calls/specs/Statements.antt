@@ -1,23 +1,24 @@
 -- What is claimed of add, remove and query for all inputs and all contents of the buffers; `claims`, in proofs/Claims, proves it.
 use Prim.Native.Nat.{ℕ, _<_}
 use mathlib.Core.Path.{_≡_}
-use mathlib.Core.List.{List}
+use mathlib.Core.List.{List, [], _∷_}
 use mathlib.Core.Bool.{Bool, true, false, _&&_}
+use lib.Dec.{ltb}
 use lib.ListN.{length, take, drop}
 use Rattle.lists.specs.Vocabulary.{select}
 use Rattle.strand.specs.Folds.{foldOf}
-use Rattle.strand.specs.Strands.{Strand}
+use Rattle.strand.specs.Strands.{Strand, emptyMotif}
 use Rattle.octets.specs.Octets.{Bytes, mapBits}
 use Rattle.block.specs.Block.{blockOf, soundMolecule, soundEntry, cleaned, forgot, blockCount}
 use Rattle.block.specs.Content.{emptyBlock, encodeEntry, keepsMotif, searchedIn, hitIn}
-use Rattle.refusals.specs.Rules.{Refuses, Keeps}
+use Rattle.refusals.specs.Rules.{noSide, wrongSlice, first, refuseIf, workRule, Refuses, Keeps}
 use Rattle.refusals.specs.declared.Verdict.the-variants.{Accepted}
 use Rattle.calls.specs.declared.Added.{Added}
 use Rattle.calls.specs.declared.Added.the-variants.{Stored, Refused as NotAdded}
 use Rattle.calls.specs.declared.Removed.{Removed}
 use Rattle.calls.specs.declared.Removed.the-variants.{Cleared, Refused as NotRemoved}
 use Rattle.calls.specs.declared.Queried.the-variants.{Hits, Refused as NotQueried}
-use Rattle.calls.specs.Buffers.{held, moleculeAt, slotOf, cleanCache}
+use Rattle.calls.specs.Buffers.{mostMoleculeBases, buffersVerdict, held, moleculeAt, slotOf, cleanCache}
 use Rattle.calls.specs.Calls.{Effect, addVerdict, addOutcome, removeVerdict, removeOutcome, QueryEffect, queryVerdict, toSearch}
 use Rattle.calls.specs.Calls.{isHit, queryOutcome, QueryAccepts, AddAccepts, AddSays, RemoveAccepts}
 
@@ -127,3 +128,8 @@ pub record Claims (embeds : Strand → Strand → Bool) : Type 0 where
   -- what an entry of this motif has searched is not searched again: its hit bit tells
   pub same-motif : (catalog entry : List ℕ) (p : Strand) (d : ℕ) → keepsMotif entry p ≡ true → searchedIn entry d ≡ true
       → (isHit embeds catalog entry p d ≡ (held catalog d && hitIn entry d)) × (toSearch catalog entry p d ≡ false)
+  -- 02, (iii), what a query of the motif with no bases refuses: 10, 11, 9, then with 8 a work slice of fewer than 64 + 8 × 160 entries
+  pub empty-motif-verdict : (catalog cache : List ℕ) (work room : ℕ) → queryVerdict catalog cache emptyMotif work room
+      ≡ first (buffersVerdict catalog cache ∷ refuseIf wrongSlice noSide (ltb room (blockCount catalog)) ∷ workRule 0 mostMoleculeBases work ∷ [])
+  -- its slot, by key 0, is the first
+  pub empty-motif-slot : (S : ℕ) → slotOf S emptyMotif ≡ 0

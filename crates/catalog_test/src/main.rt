@@ -17,6 +17,7 @@ mod tell;
 use testing::answer::NOTHING;
 use testing::answer::WRONG;
 use testing::input;
+use testing::input::MOST_LINES;
 use testing::input::number;
 use testing::output::say;
 use testing::slices::clear;
@@ -60,7 +61,7 @@ fn step(line: &[u8], s: &mut [u8], counts: &mut [u16]) {
 // The lines of the input, 99,999 at most.
 fn all(line: &mut [u8], s: &mut [u8], counts: &mut [u16]) {
     let mut i: usize = 0;
-    while i < 99999 {
+    while i < MOST_LINES {
         if !input::read(line) {
             return;
         }

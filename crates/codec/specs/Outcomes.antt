@@ -1,5 +1,5 @@
--- What the writers, the decoder and the motif test answer and leave, for any input: where something does not fit, the answer says so and
--- no byte changes.
+-- What the writers, the decoders and the motif test answer and leave, for any input: where something does not fit no byte changes, and the answer says so; 0
+-- of `motifDecoded` has a second meaning, said there.
 use Prim.Native.Nat.{ℕ}
 use mathlib.Core.List.{List, [], _++_}
 use mathlib.Core.Bool.{Bool, _&&_}
@@ -62,7 +62,7 @@ unfoldable pub moleculeDecoded : List ℕ → List ℕ → List ℕ → Decoded
 moleculeDecoded s bases mates =
     choose (decodes s (length bases) (length mates)) (laidOver (moleculeIn s) bases mates) (decoded 0 bases mates)
 
--- The same of the motif of a block handed in as one.
+-- The same of the motif of a block handed in as one. 0 is also the answer for the motif with no bases: callers ask `holdsMotif` first.
 unfoldable pub motifDecoded : List ℕ → List ℕ → List ℕ → Decoded
 motifDecoded s bases mates =
     choose (decodes s (length bases) (length mates)) (laidOver (motifHandedIn s) bases mates) (decoded 0 bases mates)

@@ -71,7 +71,7 @@ pub fn decode_molecule(s: &[u8], bases: &mut [u8], mates: &mut [u16]) -> usize
     decode(s, layout::MOLECULE_START, layout::BLOCK_BASES, bases, mates)
 }
 
-// The same for the motif of a block handed in as one, which is laid out alike.
+// The same for the motif of a block handed in as one, which is laid out alike (of the answer 0 see `motifDecoded`).
 pub fn decode_motif(s: &[u8], bases: &mut [u8], mates: &mut [u16]) -> usize
     ensures { λ r. ⌜ decoded r (now (bases .exit)) (now (mates .exit)) ≡ motifDecoded (now (s .entry)) (now (bases .entry)) (now (mates .entry)) ⌝ }
 {

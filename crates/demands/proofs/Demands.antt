@@ -6,6 +6,7 @@ use Rattle.embedding.specs.Longest.{embeds}
 use Rattle.matcher.proofs.Claims as matcher
 use Rattle.window.proofs.Claims as window
 use Rattle.calls.proofs.Claims as calls
+use Rattle.history.specs.History.{RunTheorem}
 use Rattle.history.proofs.Claims as history
 use Rattle.demands.specs.Demands.{AnyInput, RightAnswer, EveryHistory, Demands}
 
@@ -42,16 +43,21 @@ right-answer =
       verify = embedding.claims .verify-says;
       window = window.claims .window-says;
       windows = embedding.claims .windows-say lettersMatch;
+      empty-motif-matched = matcher.claims .empty-motif-matched;
+      empty-motif-verified = embedding.claims .empty-motif-verified;
+      empty-motif-windowed = window.claims .empty-motif-windowed;
       add = calls.claims embeds .add-says;
     }
 
 every-history : EveryHistory
+unfolding RunTheorem
 every-history =
     record {
       decides = history.claims .decides;
       runs = history.claims .runs;
       refusals = history.claims .refusals;
       some-run = history.claims .some-run;
+      empty-motif = λ B S es log ran ok. history.claims .empty-motif B S es log (history.claims .runs B S es log ran ok);
     }
 
 pub demands : Demands

@@ -1,8 +1,11 @@
 -- The three demands on the library; `demands`, in proofs/Demands, proves them of the definitions that the contracts cite: xVerdict is the table's word on call
 -- x (window has that of length), xAnswer and xOutcome what x answers and leaves. Meets.antt says the same of the calls themselves, and alone has what no
 -- definition gives: the places that show writes, and the work slices (1.10, 2.5). p, pm are the bases and mates of the motif P, q, qm those of the molecule Q;
--- in add and query q and p are whole strands. The screen program has its own statements (crate screening), the examples theirs (crate examples).
+-- in add and query q and p are whole strands. Blocks have their own statements (crate block), so have the screen program (screening) and the examples
+-- (examples).
 use Prim.Native.Nat.{ℕ}
+use mathlib.Core.Path.{_≡_}
+use mathlib.Core.Bool.{true}
 use mathlib.Core.List.{List}
 use lib.ListN.{length as len}
 use Rattle.lists.specs.Vocabulary.{nth}
@@ -11,18 +14,21 @@ use Rattle.strand.specs.Strands.{Strand, Inside, lettersMatch, checkVerdict, ch
 use Rattle.strand.specs.declared.Checked.the-variants as checks
 use Rattle.embedding.specs.Embedding.{EmbedsIn}
 use Rattle.embedding.specs.Windows.{WindowsSay}
-use Rattle.embedding.specs.Longest.{verifyVerdict, verifyAnswer, VerifySays, VerifyAccepts, embeds}
+use Rattle.embedding.specs.Longest.{verifyVerdict, verifyAnswer, VerifySays, VerifyAccepts, EmptyMotifVerified, embeds}
 use Rattle.embedding.specs.declared.Verified.the-variants as verifies
 use Rattle.matcher.specs.Answers.{lengthVerdict, lengthAnswer, showVerdict, showAnswer, PrefixSays, WholeSays, LengthAccepts, ShowAccepts}
+use Rattle.matcher.specs.Answers.{EmptyMotifMatched}
 use Rattle.matcher.specs.declared.Matched.the-variants as matches
-use Rattle.window.specs.Answers.{windowAnswer, WindowSays}
+use Rattle.window.specs.Answers.{windowAnswer, WindowSays, EmptyMotifWindowed}
 use Rattle.window.specs.declared.Windowed.the-variants as windows
 use Rattle.calls.specs.declared.Added.the-variants as adds
 use Rattle.calls.specs.declared.Removed.the-variants as removes
 use Rattle.calls.specs.declared.Queried.the-variants as queries
 use Rattle.calls.specs.Calls.{addVerdict, addOutcome, removeVerdict, removeOutcome, queryVerdict, queryOutcome, AddAccepts, RemoveAccepts}
 use Rattle.calls.specs.Calls.{AddSays, QueryAccepts}
-use Rattle.history.specs.History.{SomeRun, SameRefusals, Decides, RunTheorem}
+use Rattle.history.specs.Model.{Event, Line}
+use Rattle.history.specs.History.{zeroed, Ran, admitted, SomeRun, SameRefusals, Decides, RunTheorem}
+use Rattle.history.specs.Statements.{EmptyMotifListsHeld}
 
 -- Demand 1, any input: whichever buffers a caller hands over, a call gives an answer or a numbered refusal, and a refusal changes no byte.
 pub record AnyInput : Type 0 where
@@ -74,6 +80,11 @@ pub record RightAnswer : Type 0 where
   pub window : (p pm q qm : List ℕ) (work : ℕ) → WindowSays (lengthVerdict p pm q qm work) p pm q qm (windowAnswer p pm q qm work)
   -- 2.8: what a window is, and that there is only one tightest
   pub windows : (p pm q qm : List ℕ) → Inside (nth pm) (len p) → WindowsSay lettersMatch p pm q qm
+  -- 2.9: the whole answers for the motif with no bases. What check refuses of the molecule is refused, then 9 and 8 as ever; else length and show answer 0, and
+  -- show leaves the places as they were; verify says yes; the tightest window has start 0 and length 0 (of the calls it follows from 2.2, 2.4, 2.5 and 2.7)
+  pub empty-motif-matched : (q qm : List ℕ) (work : ℕ) → EmptyMotifMatched q qm work
+  pub empty-motif-verified : (q qm v : List ℕ) → EmptyMotifVerified q qm v
+  pub empty-motif-windowed : (q qm : List ℕ) (work : ℕ) → EmptyMotifWindowed q qm work
 
 -- Demand 3, every history of add, remove and query.
 pub record EveryHistory : Type 0 where
@@ -87,6 +98,8 @@ pub record EveryHistory : Type 0 where
   pub refusals : SameRefusals embeds
   -- 3.4: 3.2 and 3.3 are not empty: every list has a run (that the calls make its steps is `step`, in Meets)
   pub some-run : SomeRun embeds
+  -- 3.5: in the runs of 3.2 each accepted query of the motif with no bases lists just the numbers then held
+  pub empty-motif : (B S : ℕ) (es : List Event) (log : List Line) → Ran embeds (zeroed B S) es log → admitted embeds B S es ≡ true → EmptyMotifListsHeld log
 
 pub record Demands : Type 0 where
   pub any-input : AnyInput

@@ -1,20 +1,28 @@
 -- The claims of specs/Statements hold.
 use Prim.Native.Nat.{ℕ, _≤_}
-use mathlib.Core.Path.{_≡_, refl}
-use mathlib.Core.Bool.{Bool, true}
+use mathlib.Core.Path.{_≡_, refl, sym, _∙_}
+use mathlib.Core.Bool.{Bool, true, not}
 use mathlib.Core.Logic.{_↔_}
-use mathlib.Core.List.{List}
+use mathlib.Core.List.{List, [], _∷_}
 use native.Mathlib.Decide.{decLt}
 use native.Mathlib.Omega.{arith}
+use lib.Dec.{eqb}
 use lib.ListN.{length}
-use Rattle.lists.specs.Vocabulary.{nth}
-use Rattle.strand.specs.Strands.{Inside}
+use borrow.Author.Tests.{eqb-true}
+use Rattle.lists.specs.Vocabulary.{nth, every, largest}
+use Rattle.lists.proofs.ListLaws.{and-left}
+use Rattle.refusals.specs.declared.Verdict.{Verdict}
+use Rattle.refusals.specs.declared.Verdict.the-variants as verdict
+use Rattle.refusals.specs.Rules.{noSide, wrongSlice, refuseIf, first}
+use Rattle.refusals.proofs.RuleLaws.{by-accepted, by-refused}
+use Rattle.strand.specs.Strands.{Strand, emptyMotif, lettersMatch, checkVerdict, Inside}
+use Rattle.strand.proofs.Claims as strand
 use Rattle.embedding.specs.Embedding.{ClosedPrefix, IsLongest}
-use Rattle.embedding.specs.Longest.{closedTo, longest}
+use Rattle.embedding.specs.Longest.{closedTo, placesOk, longest, verified, verifyVerdict, EmptyMotifVerified, embeds}
 use Rattle.embedding.specs.Row.{Closed}
-use Rattle.embedding.specs.Statements.{VerifiedSays, Claims}
+use Rattle.embedding.specs.Statements.{VerifiedSays, EmptyMotifEmbeds, Claims}
 use Rattle.embedding.proofs.Answers.{not-true-is}
-use Rattle.embedding.proofs.VerifyLaws.{verify-says, verify-accepts, verify-refuses}
+use Rattle.embedding.proofs.VerifyLaws.{answer-refused, answer-yes, verify-says, verify-accepts, verify-refuses}
 use Rattle.embedding.proofs.Computed.{closed-iff, longest-best, verified-iff}
 use Rattle.embedding.proofs.Tightest.{windows-say}
 
@@ -60,6 +68,43 @@ module _ (rule : ℕ → ℕ → Bool) (pb pm qb qm : List ℕ) where
             omega (arith, r .0, r .1 .high x (omega arith) (omega (arith, r .0))));
       }
 
+-- ---- the motif with no bases
+
+empty-list : (v : List ℕ) → length v ≡ 0 → v ≡ []
+empty-list [] e = refl
+empty-list (x ∷ v) e = absurd (omega arith)
+
+empty-motif : (rule : ℕ → ℕ → Bool) (qb qm : List ℕ) → EmptyMotifEmbeds rule qb qm
+unfolding longest largest verified placesOk every
+empty-motif rule qb qm =
+    record {
+      embeds = λ f.
+          record {
+            low = λ x a b. absurd (omega arith);
+            high = λ x a b. absurd (omega arith);
+            order = λ x y a b c. absurd (omega arith);
+            bases = λ x a b. absurd (omega arith);
+            arcs = λ x y a b c. absurd (omega arith);
+          };
+      longest-0 = refl;
+      no-places = λ v. ((λ e. empty-list v (eqb-true (length v) 0 (and-left (eqb (length v) 0) true e))), (λ e. rw e));
+    }
+
+empty-motif-verified : (q qm v : List ℕ) → EmptyMotifVerified q qm v
+unfolding verifyVerdict
+empty-motif-verified q qm v = go (verifyVerdict [] [] q qm v) refl
+  where
+    rules : verifyVerdict [] [] q qm v ≡ first (checkVerdict q qm ∷ refuseIf wrongSlice noSide (not (eqb (length v) 0)) ∷ [])
+    rules = rw (strand.claims .empty-motif-says .pair q qm)
+
+    go : (w : Verdict) → verifyVerdict [] [] q qm v ≡ w → EmptyMotifVerified q qm v
+    go (verdict.Refused x) e = sym (answer-refused [] [] q qm v x e) ∙ sym (by-refused _ _ _ x (sym rules ∙ e))
+    go verdict.Accepted e = sym (answer-yes [] [] q qm v e refl (empty-motif lettersMatch q qm .embeds (nth v))) ∙ sym (by-accepted _ _ _ (sym rules ∙ e))
+
+empty-motif-test : (q : Strand) → embeds emptyMotif q ≡ true
+unfolding embeds longest largest
+empty-motif-test q = refl
+
 pub claims : Claims
 claims =
     record {
@@ -72,4 +117,7 @@ claims =
       verify-says = verify-says;
       verify-accepts = verify-accepts;
       verify-refuses = verify-refuses;
+      empty-motif = empty-motif;
+      empty-motif-verified = empty-motif-verified;
+      empty-motif-test = empty-motif-test;
     }

@@ -13,7 +13,7 @@ use Rattle.refusals.specs.declared.Verdict.the-variants.{Accepted}
 use Rattle.refusals.specs.Rules.{noSide, wrongSlice, refuseIf, first, byVerdict}
 use Rattle.strand.specs.declared.Fold.{Fold}
 use Rattle.strand.specs.Folds.{foldOf, IsFold}
-use Rattle.strand.specs.Strands.{Strand, lettersMatch, pairVerdict, Pair}
+use Rattle.strand.specs.Strands.{Strand, lettersMatch, checkVerdict, pairVerdict, Pair}
 use Rattle.embedding.specs.declared.Verified.{Verified}
 use Rattle.embedding.specs.declared.Verified.the-variants.{Yes, No, Refused}
 
@@ -66,6 +66,13 @@ pub record VerifySays (p pm q qm v : List ℕ) (r : Verified) : Type 0 where
 -- It is accepted exactly where no rule applies.
 abbrev pub VerifyAccepts : List ℕ → List ℕ → List ℕ → List ℕ → List ℕ → Type 0
 VerifyAccepts p pm q qm v = (verifyVerdict p pm q qm v ≡ Accepted) ↔ (Pair p pm q qm × (length v ≡ length p))
+
+-- 02, (iii): "an empty motif embeds in every molecule, with L = 0 and no places". The whole answer of verify for it: it refuses what check refuses of
+-- the molecule, then by 9 any list of places but the empty one; else it says yes.
+abbrev pub EmptyMotifVerified : List ℕ → List ℕ → List ℕ → Type 0
+EmptyMotifVerified q qm v =
+    verifyAnswer [] [] q qm v
+    ≡ byVerdict (first (checkVerdict q qm ∷ refuseIf wrongSlice noSide (not (eqb (length v) 0)) ∷ [])) Refused (Yes (foldOf qm))
 
 -- 01: L = m exactly when P embeds. This is the test of a query; `EmbedsIn` is the relation that it decides (`Decides`, in history).
 unfoldable pub embeds : Strand → Strand → Bool

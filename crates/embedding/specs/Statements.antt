@@ -3,13 +3,13 @@ use Prim.Native.Nat.{ℕ, _≤_, _<_}
 use mathlib.Core.Path.{_≡_}
 use mathlib.Core.Bool.{Bool, true, false}
 use mathlib.Core.Logic.{_↔_}
-use mathlib.Core.List.{List}
+use mathlib.Core.List.{List, []}
 use lib.ListN.{length}
 use Rattle.lists.specs.Vocabulary.{nth}
 use Rattle.refusals.specs.Rules.{Refuses}
-use Rattle.strand.specs.Strands.{Inside}
+use Rattle.strand.specs.Strands.{Strand, emptyMotif, Inside}
 use Rattle.embedding.specs.Embedding.{fits, Emb, ClosedPrefix, IsLongest}
-use Rattle.embedding.specs.Longest.{closedTo, longest, verified, verifyVerdict, verifyAnswer, VerifySays, VerifyAccepts}
+use Rattle.embedding.specs.Longest.{closedTo, longest, verified, verifyVerdict, verifyAnswer, VerifySays, VerifyAccepts, EmptyMotifVerified, embeds}
 use Rattle.embedding.specs.Windows.{WindowsSay}
 use Rattle.embedding.specs.declared.Verified.the-variants as verified
 
@@ -29,6 +29,13 @@ pub record VerifiedSays (rule : ℕ → ℕ → Bool) (pb pm qb qm v : List ℕ)
       ↔ ((length v ≡ length pb) × Emb (fits rule pb qb) (nth pm) (nth qm) 0 (length pb) 0 (length qb) (nth v))
   pub outside : (x : ℕ) → x < length v → length qb ≤ nth v x → verified rule pb pm qb qm v ≡ false
 
+-- 02, (iii): "an empty motif embeds in every molecule, with L = 0 and no places", by any letter rule: every f is an embedding of it, for there is nothing to
+-- place; the longest prefix has no bases; the test of places passes the empty list and no other.
+pub record EmptyMotifEmbeds (rule : ℕ → ℕ → Bool) (qb qm : List ℕ) : Type 0 where
+  pub embeds : (f : ℕ → ℕ) → Emb (fits rule [] qb) (nth []) (nth qm) 0 0 0 (length qb) f
+  pub longest-0 : longest rule [] [] qb qm ≡ 0
+  pub no-places : (v : List ℕ) → (verified rule [] [] qb qm v ≡ true) ↔ (v ≡ [])
+
 -- All the claims.
 pub record Claims : Type 0 where
   pub closed : ClosedSays
@@ -42,3 +49,7 @@ pub record Claims : Type 0 where
   pub verify-says : (p pm q qm v : List ℕ) → VerifySays p pm q qm v (verifyAnswer p pm q qm v)
   pub verify-accepts : (p pm q qm v : List ℕ) → VerifyAccepts p pm q qm v
   pub verify-refuses : (p pm q qm v : List ℕ) → Refuses (verifyVerdict p pm q qm v) verified.Refused (verifyAnswer p pm q qm v)
+  pub empty-motif : (rule : ℕ → ℕ → Bool) (qb qm : List ℕ) → EmptyMotifEmbeds rule qb qm
+  pub empty-motif-verified : (q qm v : List ℕ) → EmptyMotifVerified q qm v
+  -- the test of a query says yes to it
+  pub empty-motif-test : (q : Strand) → embeds emptyMotif q ≡ true

@@ -76,5 +76,5 @@ module _ (rule : ℕ → ℕ → Bool) (pb pm qb qm : List ℕ) where
     pub none-when : (tightestLength ≡ suc (length qb)) ↔ (EmbedsWithin 0 (length qb) → ⊥)
     -- no other window is the tightest
     pub unique : (s w : ℕ) → IsTightest s w → (w ≡ tightestLength) × (s ≡ firstStart tightestLength)
-    -- that of a P without bases has start 0 and length 0
+    -- 02, (iii), of a P without bases: "Its tightest window has start 0 and length 0."
     pub empty : length pb ≡ 0 → IsTightest 0 0

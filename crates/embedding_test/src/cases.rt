@@ -50,11 +50,12 @@ fn read() {
     cases(&text[..n]);
 }
 
-// 4,097 bases, as a motif and as a molecule.
+// 4,097 bases, as a motif and as a molecule, for a motif of one base and for one of none.
 fn too_long(bases: &[u8], mates: &[u16]) {
     say(b"4,097 bases:");
     answer(embedding::verify(bases, mates, b"X", &[0], &[]));
     answer(embedding::verify(b"A", &[0], bases, mates, &[]));
+    answer(embedding::verify(b"", &[], bases, mates, &[]));
     say(b"\n");
 }
 

@@ -1,5 +1,5 @@
-// All lists of places for random nested pairs, against the definition written out: how many answers are wrong, how many are yes, and the arcs and depths
-// that they say.
+// All lists of places for random nested pairs, one of twenty with a motif that has no bases, against the definition written out: how many answers are
+// wrong, how many are yes, and the arcs and depths that they say.
 use super::make::nested;
 use super::naive::fits;
 use embedding::Verified;
@@ -139,11 +139,33 @@ fn one_pair(seed: usize, kinds: usize) -> Tally {
     )
 }
 
+// The one list of no places for the motif that has no bases.
+fn no_places(seed: usize, kinds: usize, q: &mut [u8], qm: &mut [u16], stack: &mut [u16]) -> Tally {
+    let x = nested(seed, kinds, q, qm, stack);
+    compared(x, b"", &[], q, qm, &[])
+}
+
+// The motif that has no bases, and a random molecule of 7.
+fn no_bases(seed: usize, kinds: usize) -> Tally {
+    let mut q = [0u8; 7];
+    let mut qm = [0u16; 7];
+    let mut stack = [0u16; 7];
+    no_places(seed, kinds, &mut q, &mut qm, &mut stack)
+}
+
+// In one pair of twenty the motif has no bases.
+fn pair(i: usize, seed: usize, kinds: usize) -> Tally {
+    if i % 20 == 0 {
+        return no_bases(seed, kinds);
+    }
+    one_pair(seed, kinds)
+}
+
 fn pairs(count: usize, kinds: usize) -> Tally {
     let mut sum = none(12345);
     let mut i = 0;
     while i < count {
-        sum = added(sum, one_pair(sum.seed, kinds));
+        sum = added(sum, pair(i, sum.seed, kinds));
         i += 1;
     }
     sum

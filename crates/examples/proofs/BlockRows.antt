@@ -7,7 +7,10 @@ use Rattle.block.specs.Content.{moleculeKind, entryKind, contentOf, strandBlock
 use Rattle.block.proofs.SumLaws.{weighed}
 use Rattle.block.proofs.PartLaws.{check-walk}
 use Rattle.history.specs.Examples.{bonded}
-use Rattle.examples.specs.Table.{a, bytesOfA, bytesOfGC, wasSearched, wasHit, bytesOfEntry}
+use Rattle.strand.specs.Strands.{emptyMotif}
+use Rattle.block.specs.Motif.{encodeMotif}
+use Rattle.block.proofs.Claims as block
+use Rattle.examples.specs.Table.{a, bytesOfA, bytesOfGC, wasSearched, wasHit, bytesOfEntry, bytesOfEmptyMotif, bytesOfEmptyMotifEntry}
 
 pub a-bytes : encodeMolecule a ≡ bytesOfA
 unfolding bytesOfA encodeMolecule strandBlock contentOf bytesOf weighed
@@ -20,3 +23,11 @@ gc-bytes = check-walk (contentOf moleculeKind [] (bonded .bases) (bonded .mates)
 pub entry-bytes : encodeEntry bonded wasSearched wasHit ≡ bytesOfEntry
 unfolding bytesOfEntry encodeEntry entryWith contentOf bytesOf mapBytes bitSum tab choose weighed
 entry-bytes = check-walk (contentOf entryKind [] (bonded .bases) (bonded .mates) ++ mapBytes wasSearched ++ mapBytes wasHit) refl
+
+pub empty-motif-bytes : encodeMotif emptyMotif ≡ bytesOfEmptyMotif
+unfolding bytesOfEmptyMotif
+empty-motif-bytes = block.claims .empty-motif .block
+
+pub empty-motif-entry-bytes : encodeEntry emptyMotif wasSearched wasSearched ≡ bytesOfEmptyMotifEntry
+unfolding bytesOfEmptyMotifEntry encodeEntry entryWith contentOf bytesOf mapBytes bitSum tab choose weighed
+empty-motif-entry-bytes = check-walk (contentOf entryKind [] [] [] ++ mapBytes wasSearched ++ mapBytes wasSearched) refl

@@ -1,9 +1,9 @@
--- The theorem of the examples of 01 and of 02, (i) and (ii): every row of the table holds.
+-- The theorem of the examples of 01 and of 02, (i) to (iii): every row of the table holds.
 use mathlib.Core.Path.{refl}
 use mathlib.Core.List.{List, [], _∷_, _++_}
-use Rattle.lists.specs.Vocabulary.{choose, every, some, lowestFrom, lowest, largest, select, tab, someList, putAt}
+use Rattle.lists.specs.Vocabulary.{choose, every, some, lowestFrom, lowest, largest, select, tab, someList, total, putAt}
 use Rattle.strand.specs.Strands.{lettersMatch, isLetter, notLetter, mateOutside, notMutual, crosses, crossedAt, strandVerdict, checkVerdict, checkAnswer}
-use Rattle.strand.specs.Strands.{pairVerdict}
+use Rattle.strand.specs.Strands.{pairVerdict, key}
 use Rattle.strand.specs.Folds.{begins, arcCount, liesInside, isChain, depthOf}
 use Rattle.refusals.specs.Rules.{first, refuseIf, refuseAtLowest, byVerdict}
 use Rattle.embedding.specs.Longest.{longest, prefixOk, closedTo, placesOk, verified}
@@ -18,14 +18,14 @@ use Rattle.calls.specs.Calls.{refusedBy}
 use Rattle.history.specs.Model.{add, remove, endsPeriod, start, heldIn, modelVerdict, modelAnswer, modelNext, modelResult, modelAfter, modelLog}
 use Rattle.history.specs.History.{atMostOnce, admittedFrom, admitted}
 use Rattle.history.specs.Examples.{Story, resultsOf, ByModel, AllByModel, stories, bonded, ask, settledStory, reusedStory}
-use Rattle.history.specs.Examples.{sharedSlotStory}
+use Rattle.history.specs.Examples.{sharedSlotStory, emptyMotifStory}
 use Rattle.history.proofs.Computed as computed
 use Rattle.history.proofs.Stories.{by-runs}
 use Rattle.examples.specs.Table.{Row, story, screenText, VerifiedAt, Holds, AllHold, a, screenInput, screenPrints, longMotif, fewHits, numberTwo}
-use Rattle.examples.specs.Table.{addedTwice, removedEmpty, refusals, settledRows, also, folds, windows, table, TableHolds}
-use Rattle.examples.proofs.BlockRows.{a-bytes, gc-bytes, entry-bytes}
+use Rattle.examples.specs.Table.{addedTwice, removedEmpty, emptyAdded, refusals, settledRows, also, folds, windows, emptyMotifs, table, TableHolds}
+use Rattle.examples.proofs.BlockRows.{a-bytes, gc-bytes, entry-bytes, empty-motif-bytes, empty-motif-entry-bytes}
 use Rattle.examples.proofs.BufferRows.{uneven-refused, unsound-refused}
-use Rattle.examples.proofs.ScreenRow.{screen-prints}
+use Rattle.examples.proofs.ScreenRow.{screen-prints, empty-motif-prints, empty-block-prints}
 
 -- A row and the rows after it.
 infixr 20 _&_
@@ -37,12 +37,12 @@ by-model : (t : Story) → ByModel t → Holds (story t)
 unfolding Holds
 by-model t m = (m, by-runs t m)
 
-stories-ok : ByModel longMotif × ByModel fewHits × ByModel numberTwo × ByModel addedTwice × ByModel removedEmpty
-unfolding longMotif fewHits numberTwo addedTwice removedEmpty admitted admittedFrom atMostOnce modelLog resultsOf choose every
+stories-ok : ByModel longMotif × ByModel fewHits × ByModel numberTwo × ByModel addedTwice × ByModel removedEmpty × ByModel emptyAdded
+unfolding longMotif fewHits numberTwo addedTwice removedEmpty emptyAdded admitted admittedFrom atMostOnce modelLog resultsOf choose every
     some lowestFrom lowest tab first refuseIf refuseAtLowest strandVerdict isLetter notLetter mateOutside notMutual crosses crossedAt moleculeVerdict
     motifVerdict workVerdict refusedBy byVerdict endsPeriod modelResult modelAfter start putAt isHeld heldIn inRange modelVerdict modelAnswer
     modelNext
-stories-ok = ((refl, refl), (refl, refl), (refl, refl), (refl, refl), (refl, refl))
+stories-ok = ((refl, refl), (refl, refl), (refl, refl), (refl, refl), (refl, refl), (refl, refl))
 
 refusals-hold : AllHold refusals
 unfolding refusals AllHold Holds checkVerdict checkAnswer motifVerdict matcher.lengthVerdict matcher.lengthAnswer matcher.showVerdict matcher.showAnswer
@@ -91,9 +91,9 @@ settled-hold =
     & tt
 
 -- The table's stories among those of crate history.
-own-stories : ByModel settledStory × ByModel reusedStory × ByModel sharedSlotStory
+own-stories : ByModel settledStory × ByModel reusedStory × ByModel sharedSlotStory × ByModel emptyMotifStory
 unfolding AllByModel stories
-own-stories = (computed.settled .0, computed.settled .1 .0, computed.settled .1 .1 .0)
+own-stories = (computed.settled .0, computed.settled .1 .0, computed.settled .1 .1 .0, computed.settled .1 .1 .1 .1 .0)
 
 also-hold : AllHold also
 unfolding also AllHold Holds
@@ -121,6 +121,31 @@ unfolding windows AllHold Holds windowAnswer windowOf tightestLength firstStart 
     lettersMatch longest largest prefixOk closedTo placesOk select begins arcCount liesInside isChain depthOf
 windows-hold = refl & refl & refl & refl & refl & refl & refl & refl & refl & refl & tt
 
+empty-motifs-hold : AllHold emptyMotifs
+unfolding emptyMotifs AllHold Holds windowAnswer windowOf tightestLength firstStart someCarries carries windowMate matcher.lengthVerdict matcher.lengthAnswer
+    matcher.showVerdict matcher.showAnswer verify.verifyVerdict verified byVerdict pairVerdict strandVerdict first refuseIf refuseAtLowest choose every some
+    someList lowestFrom lowest tab isLetter notLetter mateOutside notMutual crosses crossedAt lettersMatch longest largest prefixOk closedTo placesOk select
+    begins arcCount liesInside isChain depthOf key total
+empty-motifs-hold =
+    refl
+    & refl
+    & refl
+    & refl
+    & refl
+    & refl
+    & refl
+    & refl
+    & refl
+    & by-model emptyAdded (stories-ok .5)
+    & refl
+    & refl
+    & empty-motif-entry-bytes
+    & empty-motif-bytes
+    & empty-motif-prints
+    & empty-block-prints
+    & by-model emptyMotifStory (own-stories .3)
+    & tt
+
 both : (rs ss : List Row) → AllHold rs → AllHold ss → AllHold (rs ++ ss)
 unfolding AllHold
 both [] ss h k = k
@@ -132,4 +157,6 @@ screen-hold = (screen-prints, settled-hold)
 
 pub holds : TableHolds
 unfolding table
-holds = both _ windows (both _ folds (both _ also (both refusals _ refusals-hold screen-hold) also-hold) folds-hold) windows-hold
+holds =
+    let front = both refusals _ refusals-hold screen-hold in
+    both _ emptyMotifs (both _ windows (both _ folds (both _ also front also-hold) folds-hold) windows-hold) empty-motifs-hold

@@ -1,4 +1,5 @@
--- The printed example of the screen program: its catalog is what add leaves in zeroed blocks, and its query is that of a story.
+-- The rows of the screen program: any motif, then a block with A, then an empty block. The catalog is what add leaves in zeroed blocks, and the query is that
+-- of a story.
 use Prim.Native.Nat.{ℕ}
 use native.Mathlib.Omega.{arith}
 use mathlib.Core.Path.{_≡_, refl, sym, ap, ap₂, _∙_}
@@ -10,7 +11,7 @@ use borrow.Author.Tests.{le-leb}
 use lib.ListN.{length, take, drop, replicate, length-append, length-replicate}
 use lib.Seq.{take-at, drop-at, take-all}
 use Rattle.lists.specs.Vocabulary.{choose, every, some, lowestFrom, lowest, largest, select, someList, total, sameList, putAt}
-use Rattle.strand.specs.Strands.{Strand, Proper, sameStrand, key, lettersMatch, isLetter, notLetter, mateOutside, notMutual, crosses, crossedAt}
+use Rattle.strand.specs.Strands.{Strand, emptyMotif, Proper, sameStrand, key, lettersMatch, isLetter, notLetter, mateOutside, notMutual, crosses, crossedAt}
 use Rattle.strand.specs.Strands.{strandVerdict, leastMotif}
 use Rattle.refusals.specs.Rules.{motifSide, noSide, notWholeBlocks, numberTooLarge, alreadyHeld, first, refuseIf, refuseAtLowest, byVerdict}
 use Rattle.refusals.specs.declared.Verdict.the-variants.{Accepted}
@@ -24,7 +25,9 @@ use Rattle.calls.specs.declared.Added.{Added}
 use Rattle.calls.specs.declared.Queried.{Queried}
 use Rattle.calls.specs.declared.Queried.the-variants.{Hits, Refused}
 use Rattle.calls.proofs.BlockUse.{empty-length, empty-entry, molecule-length, sound-clean}
-use Rattle.block.proofs.ContentLaws.{motif-bytes, motif-sound, motif-full, motif-back, sound-held}
+use Rattle.block.proofs.Claims as block
+use Rattle.block.proofs.ContentLaws.{motif-bytes, motif-length, motif-sound, motif-full, motif-back, sound-held}
+use Rattle.strand.proofs.Claims as strand
 use Rattle.strand.proofs.VerdictLaws.{accepted-proper}
 use Rattle.calls.proofs.ReadingLaws.{clean-length, clean-block, block-zero}
 use Rattle.calls.proofs.CallLaws.{add-does}
@@ -36,10 +39,10 @@ use Rattle.history.proofs.Bytes.{bytesResult, bytesNext, bytesLog}
 use Rattle.history.proofs.Runs.{bytes-run}
 use Rattle.history.specs.Examples.{Story, resultsOf, ByModel}
 use Rattle.history.proofs.Stories.{by-runs}
-use Rattle.screening.specs.Text.{digitsIn, digits, spaced, line, lines, hitsText}
+use Rattle.screening.specs.Text.{digitsIn, digits, spaced, line, lines, hitsText, badMotifText}
 use Rattle.screening.specs.Screen.{mostScreened, isInput, firstBlock, catalogIn, screenWork, answerText, effectText, screenQuery, screenOutput}
-use Rattle.screening.proofs.ScreenLaws.{input-by-most, output-answer}
-use Rattle.examples.specs.Table.{a, screenInput, screenPrints}
+use Rattle.screening.proofs.ScreenLaws.{input-by-most, output-answer, output-bad-motif}
+use Rattle.examples.specs.Table.{a, screenInput, screenPrints, emptyMotifInput, emptyBlockInput, badMotifPrints}
 use Rattle.examples.proofs.BufferRows.{a-accepted}
 
 -- ---- the bytes of the input
@@ -51,62 +54,26 @@ code-length : length code ≡ 512
 unfolding code
 code-length = molecule-length a a-accepted
 
-input : List ℕ
-input = code ++ (code ++ emptyBlock)
+catalog : List ℕ
+catalog = code ++ emptyBlock
 
-input-length : length input ≡ 1536
-unfolding input
-input-length = omega (arith, length-append code (code ++ emptyBlock), length-append code emptyBlock, code-length, empty-length)
+-- Behind a first block of any bytes.
+module _ (head : List ℕ) (size : length head ≡ 512) where
+  input-length : length (head ++ catalog) ≡ 1536
+  unfolding catalog
+  input-length = omega (arith, length-append head (code ++ emptyBlock), length-append code emptyBlock, size, code-length, empty-length)
 
-input-ok : isInput input ≡ true
-input-ok = sym (input-by-most input (omega (arith, input-length)) (omega (arith, input-length))) ∙ few
-  where
-    few : leb (blockCount input) 65 ≡ true
-    few = le-leb (blockCount input) 65 (omega (arith, input-length))
+  input-ok : isInput (head ++ catalog) ≡ true
+  input-ok = sym (input-by-most (head ++ catalog) (omega (arith, input-length)) (omega (arith, input-length))) ∙ few
+    where
+      few : leb (blockCount (head ++ catalog)) 65 ≡ true
+      few = le-leb (blockCount (head ++ catalog)) 65 (omega (arith, input-length))
 
-first-block : firstBlock input ≡ code
-unfolding input
-first-block = take-at code (code ++ emptyBlock) 512 code-length
+  first-block : firstBlock (head ++ catalog) ≡ head
+  first-block = take-at head catalog 512 size
 
-catalog-bytes : catalogIn input ≡ code ++ emptyBlock
-unfolding input
-catalog-bytes = drop-at code (code ++ emptyBlock) 512 code-length
-
-a-motif : Proper motifSide leastMotif blockBases (a .bases) (a .mates)
-a-motif = accepted-proper motifSide leastMotif blockBases (a .bases) (a .mates) passes
-  where
-    passes : strandVerdict motifSide leastMotif blockBases (a .bases) (a .mates) ≡ Accepted
-    passes = unfold strandVerdict first refuseIf refuseAtLowest choose some lowestFrom lowest isLetter notLetter mateOutside notMutual crosses crossedAt in refl
-
-first-motif : firstBlock input ≡ encodeMotif a
-first-motif = first-block ∙ unfold code in (sym (motif-bytes a))
-
-motif-ok : holdsMotif (firstBlock input) ≡ true
-motif-ok = ap holdsMotif first-motif ∙ sound-held (encodeMotif a) (motif-sound a a-motif) (motif-full a a-motif)
-
-motif-is : motifHandedIn (firstBlock input) ≡ a
-motif-is = ap motifHandedIn first-motif ∙ motif-back a a-motif
-
--- ---- the story
-
-hits : List ℕ
-hits = replicate mostScreened 0
-
-adding : Event
-adding = call (add 0 a)
-
-asking : Event
-asking = call (query a screenWork hits)
-
-screenStory : Story
-screenStory = record { blocks = 2; slots = 1; events = adding ∷ asking ∷ []; results = done ∷ found 1 (0 ∷ []) 1 ∷ [] }
-
-screen-story-ok : ByModel screenStory
-unfolding screenStory adding asking hits admitted admittedFrom atMostOnce modelLog resultsOf embeds longest largest prefixOk
-    closedTo placesOk lettersMatch choose every some lowestFrom lowest select someList total sameList sameStrand key first refuseIf refuseAtLowest strandVerdict
-    isLetter notLetter mateOutside notMutual crosses crossedAt moleculeVerdict motifVerdict workVerdict slotOf refusedBy byVerdict endsPeriod
-    modelResult modelAfter afterQuery start putAt isHeld heldIn knownIn inRange modelVerdict embedsAt hitList searchList modelAnswer modelNext
-screen-story-ok = (refl, refl)
+  catalog-bytes : catalogIn (head ++ catalog) ≡ catalog
+  catalog-bytes = drop-at head catalog 512 size
 
 -- ---- what add leaves
 
@@ -132,8 +99,8 @@ added : addVerdict (zeroed 2 1 .catalog) (zeroed 2 1 .cache) 0 a ≡ Accepted
 unfolding zeroed
 added = add-judged (stores-zeroed 2) 1 (replicate 512 0) (length-replicate {A = ℕ} 512 0) 0 a ∙ passed
 
-left-catalog : bytesNext embeds (zeroed 2 1) (add 0 a) .catalog ≡ code ++ emptyBlock
-unfolding bytesNext zeroed putBlock code emptyBlock
+left-catalog : bytesNext embeds (zeroed 2 1) (add 0 a) .catalog ≡ catalog
+unfolding bytesNext zeroed putBlock catalog code emptyBlock
 left-catalog =
     ap (λ (x : Effect Added). x .catalog) (add-does (zeroed 2 1 .catalog) (zeroed 2 1 .cache) 0 a added)
     ∙ ap (λ (l : List ℕ). encodeMolecule a ++ l) rest
@@ -142,29 +109,24 @@ left-cache : bytesNext embeds (zeroed 2 1) (add 0 a) .cache ≡ emptyBlock
 unfolding bytesNext zeroed
 left-cache = ap (λ (x : Effect Added). x .cache) (add-does (zeroed 2 1 .catalog) (zeroed 2 1 .cache) 0 a added) ∙ clean-zeros
 
--- ---- the query of the story is the query of the input
+-- ---- the query of a motif that is found in A: that of the story is that of the input
 
-asked : QueryEffect
-asked = queryOutcome embeds (code ++ emptyBlock) emptyBlock a screenWork hits
+hits : List ℕ
+hits = replicate mostScreened 0
+
+adding : Event
+adding = call (add 0 a)
+
+asking : Strand → Event
+asking p = call (query p screenWork hits)
+
+screenStory : Strand → Story
+screenStory p = record { blocks = 2; slots = 1; events = adding ∷ asking p ∷ []; results = done ∷ found 1 (0 ∷ []) 1 ∷ [] }
 
 second : List Result → Result
 second [] = done
 second (r ∷ []) = done
 second (r ∷ s ∷ rs) = s
-
-asked-found : queryResult (asked .answer) (asked .hits) ≡ found 1 (0 ∷ []) 1
-unfolding asked
-asked-found =
-    ap₂ (λ (u v : List ℕ). queryResult (queryOutcome embeds u v a screenWork hits .answer) (queryOutcome embeds u v a screenWork hits .hits))
-    (sym left-catalog) (sym left-cache)
-    ∙ (unfold second resultsOf bytesLog bytesResult adding asking screenStory in
-    (ap second (by-runs screenStory screen-story-ok _ (bytes-run embeds (zeroed 2 1) (adding ∷ asking ∷ [])))))
-
-same-query : screenQuery embeds input screenWork (replicate mostScreened 0) ≡ asked
-unfolding screenQuery asked hits
-same-query = ap₂ (λ (u : List ℕ) (p : Strand). queryOutcome embeds u emptyBlock p screenWork (replicate mostScreened 0)) catalog-bytes motif-is
-
--- ---- the text
 
 text-of : (answer : Queried) (h : List ℕ) (count searched : ℕ) (list : List ℕ) → queryResult answer h ≡ found count list searched
     → answerText answer h ≡ hitsText count searched list
@@ -180,10 +142,71 @@ printed : hitsText 1 1 (0 ∷ []) ≡ screenPrints
 unfolding hitsText line spaced lines digits digitsIn choose
 printed = refl
 
+module _ (p : Strand) (proper : Proper motifSide leastMotif blockBases (p .bases) (p .mates)) (found-in-A : ByModel (screenStory p)) where
+  input : List ℕ
+  input = encodeMotif p ++ catalog
+
+  motif-block : firstBlock input ≡ encodeMotif p
+  unfolding input
+  motif-block = first-block (encodeMotif p) (motif-length p proper)
+
+  motif-ok : holdsMotif (firstBlock input) ≡ true
+  motif-ok = ap holdsMotif motif-block ∙ sound-held (encodeMotif p) (motif-sound p proper) (motif-full p proper)
+
+  motif-is : motifHandedIn (firstBlock input) ≡ p
+  motif-is = ap motifHandedIn motif-block ∙ motif-back p proper
+
+  asked : QueryEffect
+  asked = queryOutcome embeds catalog emptyBlock p screenWork hits
+
+  asked-found : queryResult (asked .answer) (asked .hits) ≡ found 1 (0 ∷ []) 1
+  unfolding asked
+  asked-found =
+      ap₂ (λ (u v : List ℕ). queryResult (queryOutcome embeds u v p screenWork hits .answer) (queryOutcome embeds u v p screenWork hits .hits))
+      (sym left-catalog) (sym left-cache)
+      ∙ (unfold second resultsOf bytesLog bytesResult adding asking screenStory in
+      (ap second (by-runs (screenStory p) found-in-A _ (bytes-run embeds (zeroed 2 1) (adding ∷ asking p ∷ [])))))
+
+  same-query : screenQuery embeds input screenWork (replicate mostScreened 0) ≡ asked
+  unfolding input screenQuery asked hits
+  same-query =
+      ap₂ (λ (u : List ℕ) (m : Strand). queryOutcome embeds u emptyBlock m screenWork (replicate mostScreened 0))
+      (catalog-bytes (encodeMotif p) (motif-length p proper)) motif-is
+
+  prints : screenOutput embeds (encodeMotif p ++ catalog) ≡ screenPrints
+  unfolding input
+  prints =
+      output-answer embeds input (input-ok (encodeMotif p) (motif-length p proper)) motif-ok
+      ∙ ap effectText same-query
+      ∙ text-of (asked .answer) (asked .hits) 1 1 (0 ∷ []) asked-found
+      ∙ printed
+
+-- ---- the three rows
+
+stories-ok : ByModel (screenStory a) × ByModel (screenStory emptyMotif)
+unfolding screenStory adding asking hits admitted admittedFrom atMostOnce modelLog resultsOf embeds longest largest prefixOk
+    closedTo placesOk lettersMatch choose every some lowestFrom lowest select someList total sameList sameStrand key first refuseIf refuseAtLowest strandVerdict
+    isLetter notLetter mateOutside notMutual crosses crossedAt moleculeVerdict motifVerdict workVerdict slotOf refusedBy byVerdict endsPeriod
+    modelResult modelAfter afterQuery start putAt isHeld heldIn knownIn inRange modelVerdict embedsAt hitList searchList modelAnswer modelNext
+stories-ok = ((refl, refl), (refl, refl))
+
+a-motif : Proper motifSide leastMotif blockBases (a .bases) (a .mates)
+a-motif = accepted-proper motifSide leastMotif blockBases (a .bases) (a .mates) passes
+  where
+    passes : strandVerdict motifSide leastMotif blockBases (a .bases) (a .mates) ≡ Accepted
+    passes = unfold strandVerdict first refuseIf refuseAtLowest choose some lowestFrom lowest isLetter notLetter mateOutside notMutual crosses crossedAt in refl
+
 pub screen-prints : screenOutput embeds screenInput ≡ screenPrints
-unfolding input code
-screen-prints =
-    output-answer embeds input input-ok motif-ok
-    ∙ ap effectText same-query
-    ∙ text-of (asked .answer) (asked .hits) 1 1 (0 ∷ []) asked-found
-    ∙ printed
+unfolding catalog code
+screen-prints = ap (λ (b : List ℕ). screenOutput embeds (b ++ catalog)) (sym (motif-bytes a)) ∙ prints a a-motif (stories-ok .0)
+
+pub empty-motif-prints : screenOutput embeds emptyMotifInput ≡ screenPrints
+unfolding catalog code
+empty-motif-prints =
+    prints emptyMotif (accepted-proper motifSide leastMotif blockBases [] [] (strand.claims .empty-motif-says .passes blockBases)) (stories-ok .1)
+
+pub empty-block-prints : screenOutput embeds emptyBlockInput ≡ badMotifPrints
+unfolding catalog code badMotifText line spaced
+empty-block-prints =
+    output-bad-motif embeds (emptyBlock ++ catalog) (input-ok emptyBlock empty-length)
+    (ap holdsMotif (first-block emptyBlock empty-length) ∙ block.claims .empty-motif .not-handed-in)

@@ -1,7 +1,7 @@
 -- All of 01's examples, in its order: the small examples of the table of refusals, row 8's with 136 entries, the printed example of the
 -- screen program, the nine rows of the table of settled examples, the check 1888, three blocks byte by byte, the keys 139, the story with
 -- B = 2 and S = 1, the last of the plausible and false ways, a number used again (the others are in rows 6, 3, 7 and in the story), and a
--- story with S = 2. Behind them rows for 02, (i) and (ii). Each is a row of `table`; that they all hold is `TableHolds`, and `holds`, in proofs/Holds,
+-- story with S = 2. Behind them rows for 02, (i) to (iii). Each is a row of `table`; that they all hold is `TableHolds`, and `holds`, in proofs/Holds,
 -- proves it by the definitions that the contracts of the calls cite.
 use Prim.Native.Nat.{ℕ}
 use mathlib.Core.Path.{_≡_}
@@ -10,10 +10,11 @@ use mathlib.Core.List.{List, [], _∷_, _++_}
 use lib.Dec.{eqb}
 use lib.ListN.{length, replicate, set}
 use Rattle.refusals.specs.declared.Refusal.{Refusal}
+use Rattle.refusals.specs.declared.Verdict.the-variants.{Accepted}
 use Rattle.lists.specs.Vocabulary.{tab}
 use Rattle.strand.specs.declared.Fold.{Fold}
 use Rattle.strand.specs.Folds.{foldOf}
-use Rattle.strand.specs.Strands.{Strand, strandOf, key, checkAnswer}
+use Rattle.strand.specs.Strands.{Strand, strandOf, emptyMotif, key, checkAnswer}
 use Rattle.refusals.specs.Rules.{motifSide, moleculeSide, noSide, refusal, workSize}
 use Rattle.strand.specs.declared.Checked.the-variants as checked
 use Rattle.embedding.specs.declared.Verified.{Verified}
@@ -28,18 +29,21 @@ use Rattle.window.specs.declared.Windowed.the-variants as windowed
 use Rattle.window.specs.Answers.{windowAnswer}
 use Rattle.octets.specs.Octets.{word32}
 use Rattle.block.specs.Content.{blockSize, checksumAt, rechecked, emptyBlock, encodeMolecule, encodeEntry}
+use Rattle.block.specs.Motif.{encodeMotif}
 use Rattle.block.specs.Block.{putBlock}
 use Rattle.calls.specs.Buffers.{motifVerdict}
 use Rattle.calls.specs.Calls.{Result, refused, done}
 use Rattle.history.specs.Model.{Call, add, remove, query, Event, call, Line, gave}
 use Rattle.history.specs.History.{Buffers, zeroed, Ran}
-use Rattle.history.specs.Examples.{Story, ByModel, ByRuns, gac, ggc, bonded, unbonded, ask, settledStory, reusedStory, sharedSlotStory}
+use Rattle.history.specs.Examples.{Story, ByModel, ByRuns, gac, ggc, bonded, unbonded, ask, settledStory, reusedStory, sharedSlotStory, emptyMotifStory}
 use Rattle.screening.specs.Screen.{screenOutput}
 
 -- The kinds of example, each with what it should come to.
 pub data Row : Type 0 where
   -- a strand that is refused, with the number and the place
   refusedStrand : Strand → (number place : ℕ) → Row
+  -- the same of a strand that is refused as a molecule alone
+  refusedMolecule : Strand → (number place : ℕ) → Row
   -- the calls length, show and verify on P and Q; `work` and `places` are lengths of slices
   lengthCall : (p q : Strand) (work : ℕ) → Matched → Row
   showCall : (p q : Strand) (places work : ℕ) → Matched → Row
@@ -78,6 +82,9 @@ unfoldable pub Holds : Row → Type 0
 Holds (refusedStrand q number place) =
     (checkAnswer (q .bases) (q .mates) ≡ checked.Refused (record { number = number; side = moleculeSide; place = place }))
     × (motifVerdict q ≡ refusal number motifSide place)
+-- as the molecule of check; as the motif of a query it passes
+Holds (refusedMolecule q number place) =
+    (checkAnswer (q .bases) (q .mates) ≡ checked.Refused (record { number = number; side = moleculeSide; place = place })) × (motifVerdict q ≡ Accepted)
 Holds (lengthCall p q work answer) = lengthAnswer (p .bases) (p .mates) (q .bases) (q .mates) work ≡ answer
 Holds (showCall p q places work answer) = showAnswer (p .bases) (p .mates) (q .bases) (q .mates) places work ≡ answer
 Holds (verifyCall p q places answer) = verifyAnswer (p .bases) (p .mates) (q .bases) (q .mates) places ≡ answer
@@ -133,6 +140,9 @@ numberTwo = tale (call (add 2 a) ∷ call (remove 2) ∷ []) (refused 12 noSide 
 
 unfoldable pub addedTwice : Story
 addedTwice = tale (call (add 0 a) ∷ call (add 0 a) ∷ []) (done ∷ refused 13 noSide 0 ∷ [])
+
+unfoldable pub emptyAdded : Story
+emptyAdded = tale (call (add 0 (strandOf [] [])) ∷ []) (refused 2 moleculeSide 0 ∷ [])
 
 unfoldable pub removedEmpty : Story
 removedEmpty = tale (call (remove 0) ∷ []) (refused 14 noSide 0 ∷ [])
@@ -209,8 +219,8 @@ unfoldable pub refusals : List Row
 refusals =
     -- 1: AC, mates 0
     refusedStrand (strandOf (65 ∷ 67 ∷ []) (0 ∷ [])) 1 0
-    -- 2: both empty
-    ∷ refusedStrand (strandOf [] []) 2 0
+    -- 2: both empty; 02, (iii): "Refusal 2 remains for molecules only"
+    ∷ refusedMolecule (strandOf [] []) 2 0
     -- 3: query motif of 121
     ∷ story longMotif
     -- 4: AXC
@@ -316,12 +326,69 @@ windows =
     ∷ windowCall a a 135 (windowed.Refused (directRefusal 8))
     ∷ windowCall a a 136 (windowed.At 0 1 (fold 0 0))
     -- a refusal of the motif, before one of the molecule
-    ∷ windowCall (strandOf [] []) (strandOf (65 ∷ []) (1 ∷ [])) 136 (windowed.Refused (record { number = 2; side = motifSide; place = 0 }))
+    ∷ windowCall (strandOf (88 ∷ []) (0 ∷ [])) (strandOf (65 ∷ []) (1 ∷ [])) 136 (windowed.Refused (record { number = 4; side = motifSide; place = 0 }))
+    ∷ []
+
+-- The block that hands in the motif with no bases. Its checksum is 1.
+unfoldable pub bytesOfEmptyMotif : List ℕ
+bytesOfEmptyMotif = (1 ∷ 0 ∷ zeros 506) ++ (1 ∷ 0 ∷ 0 ∷ 0 ∷ [])
+
+-- The cache entry of the motif with no bases, with 0, 9 and 511 searched, all of them hits. Its checksum is 124340 = 180 + 256 × 229 + 65536 × 1.
+unfoldable pub bytesOfEmptyMotifEntry : List ℕ
+bytesOfEmptyMotifEntry =
+    (2 ∷ 0 ∷ zeros 18)
+    ++ zeros 120
+    ++ zeros 240
+    ++ (1 ∷ 2 ∷ zeros 61)
+    ++ (128 ∷ [])
+    ++ (1 ∷ 2 ∷ zeros 61)
+    ++ (128 ∷ [])
+    ++ (180 ∷ 229 ∷ 1 ∷ 0 ∷ [])
+
+-- Inputs of the screen program: the motif with no bases, and an empty block in its place; then a block with A and an empty block.
+abbrev pub emptyMotifInput : List ℕ
+emptyMotifInput = encodeMotif emptyMotif ++ (encodeMolecule a ++ emptyBlock)
+
+abbrev pub emptyBlockInput : List ℕ
+emptyBlockInput = emptyBlock ++ (encodeMolecule a ++ emptyBlock)
+
+-- "bad motif", with its newline.
+abbrev pub badMotifPrints : List ℕ
+badMotifPrints = 98 ∷ 97 ∷ 100 ∷ 32 ∷ 109 ∷ 111 ∷ 116 ∷ 105 ∷ 102 ∷ 10 ∷ []
+
+-- 02, (iii), which has no examples of its own.
+unfoldable pub emptyMotifs : List Row
+emptyMotifs =
+    -- an empty motif "embeds in every molecule, with L = 0 and no places": in GAC, 2 1 0, with 64 + 8 × 3 entries of work; any slice of places will do
+    lengthCall emptyMotif gac 88 (matched.Prefix 0 (fold 1 1))
+    ∷ showCall emptyMotif gac 0 88 (matched.Prefix 0 (fold 1 1))
+    ∷ showCall emptyMotif gac 2 88 (matched.Prefix 0 (fold 1 1))
+    ∷ verifyCall emptyMotif gac [] (verified.Yes (fold 1 1))
+    -- "Its tightest window has start 0 and length 0."
+    ∷ windowCall emptyMotif gac 88 (windowed.At 0 0 (fold 1 1))
+    -- 8 with an entry less, 9 with a place, 1 where bases and mates differ in length
+    ∷ lengthCall emptyMotif gac 87 (notMatched 8)
+    ∷ verifyCall emptyMotif gac (0 ∷ []) (verified.Refused (directRefusal 9))
+    ∷ lengthCall (strandOf [] (0 ∷ [])) gac 88 (matched.Refused (record { number = 1; side = motifSide; place = 0 }))
+    -- the molecule is refused as ever
+    ∷ windowCall emptyMotif (strandOf (65 ∷ []) (1 ∷ [])) 136 (windowed.Refused (record { number = 5; side = moleculeSide; place = 0 }))
+    -- "Refusal 2 remains for molecules only": for Q, and for the molecule of add
+    ∷ story emptyAdded
+    ∷ lengthCall emptyMotif (strandOf [] []) 88 (matched.Refused (record { number = 2; side = moleculeSide; place = 0 }))
+    -- "It is kept with length 0 and key 0, and a motif block may have length 0."
+    ∷ keyRow emptyMotif 0
+    ∷ blockBytes (encodeEntry emptyMotif wasSearched wasSearched) bytesOfEmptyMotifEntry
+    ∷ blockBytes (encodeMotif emptyMotif) bytesOfEmptyMotif
+    -- the screen program prints for it what it prints for A, and takes no empty block for it
+    ∷ screenText emptyMotifInput screenPrints
+    ∷ screenText emptyBlockInput badMotifPrints
+    -- "Query histories may contain it"
+    ∷ story emptyMotifStory
     ∷ []
 
 -- All rows.
 unfoldable pub table : List Row
-table = refusals ++ (screenText screenInput screenPrints ∷ settledRows examples) ++ also ++ folds ++ windows
+table = refusals ++ (screenText screenInput screenPrints ∷ settledRows examples) ++ also ++ folds ++ windows ++ emptyMotifs
 
 -- The claim: every row of the table holds.
 abbrev pub TableHolds : Type 0

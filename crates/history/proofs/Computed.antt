@@ -13,8 +13,8 @@ use Rattle.calls.specs.Calls.{done, found, refusedBy}
 use Rattle.history.specs.Model.{endsPeriod, start, heldIn, knownIn, dropped, modelVerdict, embedsAt, hitList, searchList, asked, modelAnswer}
 use Rattle.history.specs.Model.{modelNext, modelResult, modelAfter, slotBlock, modelAlter, modelLog}
 use Rattle.history.specs.History.{atMostOnce, admittedFrom, admitted}
-use Rattle.history.specs.Examples.{resultsOf, ByModel, AllByModel, bonded, unbonded, settledStory, reusedStory, sharedSlotStory, alteredStory, stories}
-use Rattle.history.specs.Examples.{alteredOnce, alteredTwice, refusedBetween}
+use Rattle.history.specs.Examples.{resultsOf, ByModel, AllByModel, bonded, unbonded, settledStory, reusedStory, sharedSlotStory, alteredStory}
+use Rattle.history.specs.Examples.{emptyMotifStory, stories, alteredOnce, alteredTwice, refusedBetween}
 
 -- The keys are equal.
 pub keys : (key bonded ≡ 139) × (key unbonded ≡ 139)
@@ -23,13 +23,13 @@ keys = (refl, refl)
 
 -- The stories hold on the model.
 pub settled : AllByModel stories
-unfolding stories AllByModel settledStory reusedStory sharedSlotStory alteredStory admitted admittedFrom atMostOnce modelLog resultsOf
+unfolding stories AllByModel settledStory reusedStory sharedSlotStory alteredStory emptyMotifStory admitted admittedFrom atMostOnce modelLog resultsOf
     embeds longest largest prefixOk closedTo placesOk lettersMatch choose every some lowestFrom lowest select someList tab total sameList
     sameStrand key first refuseIf refuseAtLowest strandVerdict isLetter notLetter mateOutside notMutual crosses crossedAt moleculeVerdict
     motifVerdict workVerdict slotOf refusedBy byVerdict endsPeriod start putAt isHeld heldIn knownIn dropped inRange modelVerdict
     embedsAt hitList searchList asked modelAnswer modelNext modelResult modelAfter slotBlock modelAlter emptyBlock encodeEntry entryWith
     withChecksum contentOf bytesOf mapBytes bitSum without
-settled = ((refl, refl), ((refl, refl), ((refl, refl), ((refl, refl), tt))))
+settled = ((refl, refl), ((refl, refl), ((refl, refl), ((refl, refl), ((refl, refl), tt)))))
 
 -- With one alteration, with two, and with a refused call between.
 pub computed : ByModel alteredOnce × (admitted embeds 1 1 alteredTwice ≡ false) × (admitted embeds 1 1 refusedBetween ≡ false)

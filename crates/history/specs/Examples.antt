@@ -1,11 +1,11 @@
--- Example histories: 01's story, a number used again, one with two slots, one with alterations and refused calls between, and two that are
--- not admitted.
+-- Example histories: 01's story, a number used again, one with two slots, one with alterations and refused calls between, one of the motif with no bases,
+-- and two that are not admitted.
 use Prim.Native.Nat.{ℕ}
 use mathlib.Core.Path.{_≡_}
 use mathlib.Core.List.{List, [], _∷_}
 use mathlib.Core.Bool.{true, false}
-use Rattle.strand.specs.Strands.{Strand, strandOf}
-use Rattle.refusals.specs.Rules.{motifSide, noSide, noBases, numberTooLarge, alreadyHeld, notHeld}
+use Rattle.strand.specs.Strands.{Strand, strandOf, emptyMotif}
+use Rattle.refusals.specs.Rules.{motifSide, noSide, badLetter, numberTooLarge, alreadyHeld, notHeld}
 use Rattle.embedding.specs.Longest.{embeds}
 use Rattle.calls.specs.Calls.{Result, refused, done, found}
 use Rattle.history.specs.Model.{Call, add, remove, query, Event, call, alter, Line, start, modelLog}
@@ -139,7 +139,7 @@ alteredStory =
           ∷ alter 0 380 1
           ∷ call (ask bonded)
           ∷ alter 0 444 0
-          ∷ call (ask (strandOf [] []))
+          ∷ call (ask (strandOf (88 ∷ []) (0 ∷ [])))
           ∷ call (ask bonded)
           ∷ alter 0 1 7
           ∷ call (add 0 ggc)
@@ -151,16 +151,61 @@ alteredStory =
           ∷ done
           ∷ found 1 (0 ∷ []) 1
           ∷ found 1 (0 ∷ []) 0
-          ∷ refused noBases motifSide 0
+          ∷ refused badLetter motifSide 0
           ∷ found 1 (0 ∷ []) 1
           ∷ refused alreadyHeld noSide 0
           ∷ refused numberTooLarge noSide 0
           ∷ [];
     }
 
+-- A query of the motif with no bases, with just the work that it asks for: 64 + 8 × 160.
+abbrev pub askEmptyMotif : Call
+askEmptyMotif = query emptyMotif 1344 (9 ∷ 9 ∷ [])
+
+-- 02, (iii), with B = 2, S = 2: every held molecule is a hit of the motif with no bases, whose slot is 0 (key 0). The first query searches all, though the
+-- slot's empty block has length 0 and was altered to byte 0 = 2, as an entry has it; the next searches none. GC with an arc leaves slot 0 alone. Byte 0 of the
+-- entry altered, all are searched again; byte 1, which is 0, set to 0, none. A removed number is no hit any more. GAC, whose key is even too, takes the slot.
+unfoldable pub emptyMotifStory : Story
+emptyMotifStory =
+    record {
+      blocks = 2;
+      slots = 2;
+      events =
+          call (add 0 gac)
+          ∷ call (add 1 ggc)
+          ∷ alter 0 0 2
+          ∷ call askEmptyMotif
+          ∷ call askEmptyMotif
+          ∷ call (ask bonded)
+          ∷ call askEmptyMotif
+          ∷ alter 0 0 0
+          ∷ call askEmptyMotif
+          ∷ alter 0 1 0
+          ∷ call askEmptyMotif
+          ∷ call (remove 0)
+          ∷ call askEmptyMotif
+          ∷ call (query gac 1536 (9 ∷ 9 ∷ []))
+          ∷ call askEmptyMotif
+          ∷ [];
+      results =
+          done
+          ∷ done
+          ∷ found 2 (0 ∷ 1 ∷ []) 2
+          ∷ found 2 (0 ∷ 1 ∷ []) 0
+          ∷ found 2 (0 ∷ 1 ∷ []) 2
+          ∷ found 2 (0 ∷ 1 ∷ []) 0
+          ∷ found 2 (0 ∷ 1 ∷ []) 2
+          ∷ found 2 (0 ∷ 1 ∷ []) 0
+          ∷ done
+          ∷ found 1 (1 ∷ []) 0
+          ∷ found 0 [] 1
+          ∷ found 1 (1 ∷ []) 1
+          ∷ [];
+    }
+
 -- All of them.
 unfoldable pub stories : List Story
-stories = settledStory ∷ reusedStory ∷ sharedSlotStory ∷ alteredStory ∷ []
+stories = settledStory ∷ reusedStory ∷ sharedSlotStory ∷ alteredStory ∷ emptyMotifStory ∷ []
 
 -- Every story of a list: by the model, and by every run.
 unfoldable pub AllByModel : List Story → Type 0

@@ -2,17 +2,17 @@
 -- embedding exists. `claims`, in proofs/Claims, proves it.
 use Prim.Native.Nat.{ℕ, _%_}
 use mathlib.Core.Path.{_≡_}
-use mathlib.Core.Logic.{_⊎_}
+use mathlib.Core.Logic.{_⊎_, _↔_}
 use mathlib.Core.List.{List, [], _∷_, _++_}
 use lib.ListN.{length}
-use Rattle.strand.specs.Strands.{Strand}
+use Rattle.strand.specs.Strands.{Strand, emptyMotif}
 use Rattle.refusals.specs.Rules.{noSide, notWholeBlocks}
 use Rattle.embedding.specs.Embedding.{EmbedsIn}
 use Rattle.embedding.specs.Longest.{embeds}
 use Rattle.block.specs.Content.{blockSize}
 use Rattle.calls.specs.Calls.{refused, found}
 use Rattle.history.specs.Model.{query, Event, Line, gave}
-use Rattle.history.specs.History.{Buffers, Ran, SomeRun, SameRefusals, RightHits, RightLog, Decides, RunTheorem}
+use Rattle.history.specs.History.{Buffers, Ran, SomeRun, SameRefusals, Held, Ask, Stands, Among, RightHits, RightLog, Decides, RunTheorem}
 use Rattle.history.specs.Examples.{stories, AllByModel, AllByRuns, AlterationsLimited}
 
 -- Every accepted query of a log is right: what `right` of `RightLog` comes to for a line that is one.
@@ -21,6 +21,12 @@ QueriesRight Relation log =
     (before after : List Line) (p : Strand) (work : ℕ) (slice : List ℕ) (count : ℕ) (hits : List ℕ) (searched : ℕ)
     → log ≡ before ++ (gave (query p work slice) (found count hits searched) ∷ after)
     → RightHits Relation before (record { motif = p; count = count; hits = hits })
+
+-- 02, (iii): "Query histories may contain it, and the hit rule covers it without an exception". An empty motif embeds in every molecule, so each accepted
+-- query of it lists just the numbers then held.
+abbrev pub EmptyMotifListsHeld : List Line → Type 0
+EmptyMotifListsHeld log =
+    (before : List Line) (a : Ask) → Stands log before a → a .motif ≡ emptyMotif → (d : ℕ) → Among d (a .hits) ↔ ((q : Strand) × Held d q before)
 
 -- Buffers of which one is not whole blocks; a log whose every call is refused by rule 10.
 abbrev pub NotWhole : Buffers → Type 0
@@ -41,6 +47,8 @@ pub record Claims : Type 0 where
   pub refusals : SameRefusals embeds
   -- so every accepted query of a right log, as a line of it, is right
   pub queries : (B S : ℕ) (es : List Event) (log : List Line) → RightLog EmbedsIn embeds B S es log → QueriesRight EmbedsIn log
+  -- and every accepted query of the motif with no bases lists all that is held
+  pub empty-motif : (B S : ℕ) (es : List Event) (log : List Line) → RightLog EmbedsIn embeds B S es log → EmptyMotifListsHeld log
   -- buffers that are not whole blocks: every call of every list is refused by rule 10
   pub not-whole : (es : List Event) (β : Buffers) (log : List Line) → NotWhole β → Ran embeds β es log → AllRefused log
   -- the hypotheses can be met: the stories are admitted, alterations among them, and come to their results by the model and by every run

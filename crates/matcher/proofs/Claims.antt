@@ -1,25 +1,30 @@
 -- The claims of specs/Statements hold.
 use Prim.Native.Nat.{ℕ}
 use mathlib.Core.Path.{_≡_, refl, sym, _∙_}
-use mathlib.Core.List.{List}
+use mathlib.Core.List.{List, []}
 use native.Mathlib.Omega.{arith}
 use Rattle.refusals.specs.declared.Verdict.{Verdict}
 use Rattle.refusals.specs.declared.Verdict.the-variants as verdict
+use lib.Dec.{ltb}
 use lib.ListN.{length}
-use Rattle.refusals.specs.Rules.{noSide, byVerdict, Refuses}
-use Rattle.refusals.proofs.RuleLaws.{by-refused, by-accepted}
+use lib.Seq.{ext-getD}
+use borrow.Author.Tests.{le-ltb}
+use Rattle.refusals.specs.Rules.{noSide, wrongSlice, byVerdict, Refuses}
+use Rattle.refusals.proofs.RuleLaws.{first-without, rule-no, by-refused, by-accepted}
 use Rattle.refusals.proofs.Refusing.{Numbering, call-number, if-numbered, none-numbered, first-numbered, work-numbered, refuses-by}
 use Rattle.strand.proofs.FoldLaws.{fold-is, fold-only}
 use Rattle.strand.proofs.VerdictLaws.{pair-proper, proper-pair, pair-numbered}
 use Rattle.lists.specs.Vocabulary.{nth}
 use Rattle.strand.specs.declared.Fold.{Fold}
 use Rattle.strand.specs.Folds.{foldOf, IsFold}
-use Rattle.strand.specs.Strands.{strandOf, lettersMatch, pairVerdict}
+use Rattle.strand.specs.Strands.{strandOf, lettersMatch, checkVerdict, pairVerdict}
+use Rattle.strand.proofs.Claims as strand
 use Rattle.embedding.specs.Longest.{longest}
 use Rattle.embedding.specs.Embedding.{IsLongest, EmbedsIn}
 use Rattle.embedding.proofs.Claims as embedding
 use Rattle.matcher.specs.declared.Matched.the-variants.{Prefix, Refused}
-use Rattle.matcher.specs.Answers.{lengthVerdict, lengthAnswer, showVerdict, showAnswer, PrefixSays, WholeSays}
+use Rattle.matcher.specs.Answers.{lengthVerdict, lengthAnswer, showVerdict, showAnswer, emptyMotifVerdict, PrefixSays, WholeSays, PlacesShown}
+use Rattle.matcher.specs.Answers.{EmptyMotifMatched}
 use Rattle.matcher.specs.Statements.{Claims}
 use Rattle.matcher.proofs.CallLaws.{answer-prefix, pair-setting, length-rules, show-rules, length-facts, length-accepts, show-accepts}
 
@@ -77,6 +82,40 @@ show-numbered p pm q qm places work =
     (first-numbered _ _ (if-numbered 9 noSide (call-number 9 0 (omega arith) (omega arith) (λ n. refl)) _)
     (first-numbered _ _ (work-numbered (length p) (length q) work) none-numbered))
 
+-- ---- the motif with no bases
+
+module _ (q qm : List ℕ) (work : ℕ) where
+  empty-rules : lengthVerdict [] [] q qm work ≡ emptyMotifVerdict q qm work
+  unfolding lengthVerdict
+  empty-rules = rw (strand.claims .empty-motif-says .pair q qm)
+
+  -- Rule 9 asks for no places.
+  empty-shown : (places : ℕ) → showVerdict [] [] q qm places work ≡ emptyMotifVerdict q qm work
+  unfolding showVerdict
+  empty-shown places =
+      rw (strand.claims .empty-motif-says .pair q qm, rule-no wrongSlice noSide (ltb places 0) (le-ltb places 0 (omega arith)))
+      (first-without (checkVerdict q qm) _)
+
+  length-0 : lengthAnswer [] [] q qm work ≡ byVerdict (emptyMotifVerdict q qm work) Refused (Prefix 0 (foldOf qm))
+  unfolding lengthAnswer
+  length-0 = rw (empty-rules, embedding.claims .empty-motif lettersMatch q qm .longest-0)
+
+  show-0 : (places : ℕ) → showAnswer [] [] q qm places work ≡ byVerdict (emptyMotifVerdict q qm work) Refused (Prefix 0 (foldOf qm))
+  unfolding showAnswer
+  show-0 places = rw (empty-shown places, embedding.claims .empty-motif lettersMatch q qm .longest-0)
+
+  -- A refusal leaves the places as they were, and of 0 places all are later ones.
+  places-kept : (before after : List ℕ) → PlacesShown (showAnswer [] [] q qm (length before) work) [] [] q qm before after → after ≡ before
+  unfolding PlacesShown byVerdict
+  places-kept before after S = go (emptyMotifVerdict q qm work) (rw (show-0 (length before)) at S)
+    where
+      go : (v : Verdict) → PlacesShown (byVerdict v Refused (Prefix 0 (foldOf qm))) [] [] q qm before after → after ≡ before
+      go verdict.Accepted T = ext-getD 0 after before (T .long) (λ k h. T .kept k (omega arith))
+      go (verdict.Refused x) e = e
+
+  empty-motif-matched : EmptyMotifMatched q qm work
+  empty-motif-matched = record { length-verdict = empty-rules; show-verdict = empty-shown; length-0 = length-0; show-0 = show-0; places-kept = places-kept }
+
 pub claims : Claims
 unfolding lengthAnswer showAnswer
 claims =
@@ -95,6 +134,7 @@ claims =
         (λ e. let a = show-rules p pm q qm work places e in (pair-proper p pm q qm (a .0), a .1, a .2)),
         (λ h. sym (show-accepts p pm q qm work places (proper-pair p pm q qm (h .0)) (h .1) (h .2))),
       );
+      empty-motif-matched = empty-motif-matched;
       show-refuses = λ p pm q qm places work.
           prefix-refuses p pm q qm (showVerdict p pm q qm places work) (λ e. show-rules p pm q qm work places e .0) (show-numbered p pm q qm places work);
     }

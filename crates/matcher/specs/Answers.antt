@@ -10,7 +10,7 @@ use Rattle.refusals.specs.declared.Verdict.the-variants as verdict
 use Rattle.lists.specs.Vocabulary.{nth}
 use Rattle.strand.specs.declared.Fold.{Fold}
 use Rattle.strand.specs.Folds.{foldOf, IsFold}
-use Rattle.strand.specs.Strands.{strandOf, lettersMatch, pairVerdict, Pair}
+use Rattle.strand.specs.Strands.{strandOf, lettersMatch, checkVerdict, pairVerdict, Pair}
 use Rattle.refusals.specs.Rules.{noSide, wrongSlice, refuseIf, first, byVerdict, workSize, workRule}
 use Rattle.embedding.specs.Embedding.{lettersFit, Emb, IsLongest, EmbedsIn}
 use Rattle.embedding.specs.Longest.{longest}
@@ -45,6 +45,11 @@ abbrev pub ShowAccepts : List ℕ → List ℕ → List ℕ → List ℕ → ℕ
 ShowAccepts p pm q qm places work =
     (showVerdict p pm q qm places work ≡ verdict.Accepted) ↔ (Pair p pm q qm × (length p ≤ places) × (workSize (length p) (length q) ≤ work))
 
+-- 02, (iii), what length, show and window refuse where the motif has no bases: the molecule, then with 8 a work slice of fewer than 64 + 8n entries. Any
+-- slice of places will do.
+abbrev pub emptyMotifVerdict : List ℕ → List ℕ → ℕ → Verdict
+emptyMotifVerdict q qm work = first (checkVerdict q qm ∷ workRule 0 (length q) work ∷ [])
+
 -- 01, Length: "the largest L such that the closed prefix of L bases embeds in Q". Where the rules of length or show give verdict v,
 -- the answer r is L with f exactly when the call is accepted, the closed prefix of L bases embeds and no longer one does, and f is the fold of Q.
 abbrev pub PrefixSays : Verdict → List ℕ → List ℕ → List ℕ → List ℕ → Matched → Type 0
@@ -65,3 +70,12 @@ pub record Shown (p pm q qm : List ℕ) (L : ℕ) (old new : List ℕ) : Type 0 
 unfoldable pub PlacesShown : Matched → List ℕ → List ℕ → List ℕ → List ℕ → List ℕ → List ℕ → Type 0
 PlacesShown (Prefix L f) p pm q qm before after = Shown p pm q qm L before after
 PlacesShown (Refused x) p pm q qm before after = after ≡ before
+
+-- 02, (iii): "an empty motif embeds in every molecule, with L = 0 and no places". The whole answers of length and show for it; refused or not, show leaves
+-- the places as they were.
+pub record EmptyMotifMatched (q qm : List ℕ) (work : ℕ) : Type 0 where
+  pub length-verdict : lengthVerdict [] [] q qm work ≡ emptyMotifVerdict q qm work
+  pub show-verdict : (places : ℕ) → showVerdict [] [] q qm places work ≡ emptyMotifVerdict q qm work
+  pub length-0 : lengthAnswer [] [] q qm work ≡ byVerdict (emptyMotifVerdict q qm work) Refused (Prefix 0 (foldOf qm))
+  pub show-0 : (places : ℕ) → showAnswer [] [] q qm places work ≡ byVerdict (emptyMotifVerdict q qm work) Refused (Prefix 0 (foldOf qm))
+  pub places-kept : (before after : List ℕ) → PlacesShown (showAnswer [] [] q qm (length before) work) [] [] q qm before after → after ≡ before

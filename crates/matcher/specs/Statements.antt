@@ -4,6 +4,7 @@ use mathlib.Core.List.{List}
 use Rattle.refusals.specs.Rules.{Refuses}
 use Rattle.matcher.specs.declared.Matched.the-variants.{Refused}
 use Rattle.matcher.specs.Answers.{lengthVerdict, lengthAnswer, showVerdict, showAnswer, LengthAccepts, ShowAccepts, PrefixSays, WholeSays}
+use Rattle.matcher.specs.Answers.{EmptyMotifMatched}
 
 -- All the claims.
 pub record Claims : Type 0 where
@@ -14,4 +15,5 @@ pub record Claims : Type 0 where
   pub show-says : (p pm q qm : List ℕ) (places work : ℕ) → PrefixSays (showVerdict p pm q qm places work) p pm q qm (showAnswer p pm q qm places work)
   pub show-whole : (p pm q qm : List ℕ) (places work : ℕ) → WholeSays (showVerdict p pm q qm places work) p pm q qm (showAnswer p pm q qm places work)
   pub show-accepts : (p pm q qm : List ℕ) (places work : ℕ) → ShowAccepts p pm q qm places work
+  pub empty-motif-matched : (q qm : List ℕ) (work : ℕ) → EmptyMotifMatched q qm work
   pub show-refuses : (p pm q qm : List ℕ) (places work : ℕ) → Refuses (showVerdict p pm q qm places work) Refused (showAnswer p pm q qm places work)

@@ -36,11 +36,8 @@ fn told_of(a: Matched) -> Told {
     }
 }
 
-// The first k places are an embedding of the first k bases.
+// The first k places are an embedding of the first k bases, no places one of no bases.
 fn verified(p: &[u8], pm: &[u16], q: &[u8], qm: &[u16], places: &[u16], k: usize) -> bool {
-    if k == 0 {
-        return true;
-    }
     if p.len() < k {
         return false;
     }

@@ -14,7 +14,9 @@ mod ask;
 mod tally;
 
 use tally::Tally;
+use testing::input::MOST_LINES;
 use testing::input::kind;
+use testing::input::read;
 use testing::pairs::LINE;
 use testing::pairs::TEXT;
 use testing::pairs::rounds;
@@ -60,17 +62,19 @@ fn step(t: Tally, line: &[u8]) -> Tally {
     case(t, line)
 }
 
-fn cases(text: &[u8]) {
+fn cases(line: &mut [u8]) {
     let mut t = tally::none();
-    let mut i = 0;
-    while i < text.len() / LINE {
-        t = step(t, part(text, i % 65536 * LINE, TEXT));
+    let mut i: usize = 0;
+    while i < MOST_LINES {
+        if !read(line) {
+            return;
+        }
+        t = step(t, part(line, 0, TEXT));
         i += 1;
     }
 }
 
 fn main() {
-    let mut text = io::large_buffer();
-    let n = io::read_full(0, &mut text);
-    cases(&text[..n]);
+    let mut line = [0u8; LINE];
+    cases(&mut line);
 }

@@ -10,7 +10,7 @@ use Rattle.lists.specs.Vocabulary.{choose, lowest}
 use Rattle.refusals.specs.declared.Refusal.{Refusal}
 use Rattle.refusals.specs.declared.Verdict.{Verdict}
 use Rattle.refusals.specs.declared.Verdict.the-variants.{Accepted, Refused}
-use Rattle.refusals.specs.Rules.{badLetter, unsoundBlock, arcsCross, notHeld, moleculeSide, noSide, refusal, refuseIf, refuseAtLowest, first}
+use Rattle.refusals.specs.Rules.{noBases, badLetter, unsoundBlock, arcsCross, notHeld, moleculeSide, noSide, refusal, refuseIf, refuseAtLowest, first}
 use Rattle.refusals.specs.Rules.{byVerdict, Numbered}
 use Rattle.refusals.specs.Rules.{Refuses, Keeps, workRule}
 use Rattle.refusals.proofs.RuleLaws.{unrefused, by-accepted, by-refused}
@@ -19,10 +19,18 @@ use Rattle.refusals.proofs.RuleLaws.{unrefused, by-accepted, by-refused
 abbrev pub Numbering : Verdict → Type 0
 Numbering v = (r : Refusal) → v ≡ Refused r → Numbered (r .number) (r .side) (r .place)
 
-pub strand-number : (number side place : ℕ) → 1 ≤ number → number ≤ arcsCross → side ≤ moleculeSide → (number < badLetter → place ≡ 0)
-    → Numbered number side place
-strand-number number side place a b c d =
-    record { from = a; upto = omega arith; of-strand = λ h. c; of-call = λ h. absurd (omega arith); early = d; late = λ h n. absurd (omega arith) }
+pub strand-number : (number side place : ℕ) → 1 ≤ number → number ≤ arcsCross → side ≤ moleculeSide
+    → (number ≡ noBases → side ≡ moleculeSide) → (number < badLetter → place ≡ 0) → Numbered number side place
+strand-number number side place a b c two d =
+    record {
+      from = a;
+      upto = omega arith;
+      of-strand = λ h. c;
+      of-molecule = two;
+      of-call = λ h. absurd (omega arith);
+      early = d;
+      late = λ h n. absurd (omega arith);
+    }
 
 pub call-number : (number place : ℕ) → 8 ≤ number → number ≤ notHeld → ((number ≡ unsoundBlock → ⊥) → place ≡ 0) → Numbered number noSide place
 call-number number place a b d =
@@ -30,6 +38,7 @@ call-number number place a b d =
       from = omega arith;
       upto = b;
       of-strand = λ h. absurd (omega arith);
+      of-molecule = λ h. absurd (omega arith);
       of-call = λ h. refl;
       early = λ h. absurd (omega arith);
       late = λ h n. d n;
@@ -43,11 +52,14 @@ module _ (number side : ℕ) where
       let c : place ≡ r .place = cc in
       rw (a, b, c) at ok
 
-  -- a rule that names no place
-  pub if-numbered : Numbered number side 0 → (b : Bool) → Numbering (refuseIf number side b)
+  -- a rule that names no place; where it applies it must give a refusal of the table
+  pub when-numbered : (b : Bool) → (b ≡ true → Numbered number side 0) → Numbering (refuseIf number side b)
   unfolding refuseIf choose
-  if-numbered ok true r e = refusal-numbered 0 ok r e
-  if-numbered ok false r e = absurd (unrefused r (sym e))
+  when-numbered true ok r e = refusal-numbered 0 (ok refl) r e
+  when-numbered false ok r e = absurd (unrefused r (sym e))
+
+  pub if-numbered : Numbered number side 0 → (b : Bool) → Numbering (refuseIf number side b)
+  if-numbered ok b = when-numbered b (λ e. ok)
 
   -- a rule that names the lowest place
   pub lowest-numbered : ((place : ℕ) → Numbered number side place) → (n : ℕ) (p : ℕ → Bool) → Numbering (refuseAtLowest number side n p)

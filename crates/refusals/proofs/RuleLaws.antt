@@ -66,6 +66,12 @@ pub first-skip : (v : Verdict) (vs : List Verdict) → v ≡ Accepted → first 
 unfolding first
 first-skip v vs e = rw e
 
+-- a rule that accepts behind another may be left out
+pub first-without : (v : Verdict) (vs : List Verdict) → first (v ∷ Accepted ∷ vs) ≡ first (v ∷ vs)
+unfolding first
+first-without Accepted vs = refl
+first-without (Refused r) vs = refl
+
 pub first-stop : (v : Verdict) (vs : List Verdict) (r : Refusal) → v ≡ Refused r → first (v ∷ vs) ≡ Refused r
 unfolding first
 first-stop v vs r e = rw e

@@ -87,12 +87,13 @@ unfoldable pub byVerdict : {A : Type 0} → Verdict → (Refusal → A) → A �
 byVerdict Accepted refused accepted = accepted
 byVerdict (Refused r) refused accepted = refused r
 
--- A refusal of the table: "Numbers 1 to 7 have side 0 for a motif and 1 for a molecule; the others have side 2"; the place is 0 where the table names none,
--- which is with all but 4 to 7 and 11.
+-- A refusal of the table: "Numbers 1 to 7 have side 0 for a motif and 1 for a molecule; the others have side 2"; 02, (iii): "Refusal 2 remains for molecules
+-- only"; the place is 0 where the table names none, which is with all but 4 to 7 and 11.
 pub record Numbered (number side place : ℕ) : Type 0 where
   pub from : unequalLengths ≤ number
   pub upto : number ≤ notHeld
   pub of-strand : number ≤ arcsCross → side ≤ moleculeSide
+  pub of-molecule : number ≡ noBases → side ≡ moleculeSide
   pub of-call : arcsCross < number → side ≡ noSide
   pub early : number < badLetter → place ≡ 0
   pub late : arcsCross < number → (number ≡ unsoundBlock → ⊥) → place ≡ 0

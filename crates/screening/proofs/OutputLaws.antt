@@ -7,15 +7,15 @@ use native.Mathlib.Omega.{arith}
 use lib.Dec.{ltb}
 use lib.ListN.{length, replicate}
 use Rattle.lists.specs.Vocabulary.{choose, lowest, select}
-use Rattle.strand.specs.Strands.{Strand, strandVerdict}
-use Rattle.refusals.specs.Rules.{refusal, refuseIf, refuseAtLowest, first, byVerdict}
+use Rattle.strand.specs.Strands.{Strand, strandVerdict, leastMotif}
+use Rattle.refusals.specs.Rules.{motifSide, refusal, refuseIf, refuseAtLowest, first, byVerdict}
 use Rattle.refusals.specs.declared.Verdict.{Verdict}
 use Rattle.refusals.specs.declared.Verdict.the-variants.{Accepted, Refused}
 use Rattle.lists.proofs.ListLaws.{lowest-upto, select-short}
 use Rattle.block.specs.Motif.{holdsMotif, motifHandedIn}
 use Rattle.block.specs.Block.{blockOf, blockCount}
 use Rattle.block.specs.Content.{emptyBlock}
-use Rattle.calls.specs.Buffers.{motifVerdict, workVerdict, unsoundAt, buffersVerdict, slotOf, cleanCache}
+use Rattle.calls.specs.Buffers.{mostMotifBases, motifVerdict, workVerdict, unsoundAt, buffersVerdict, slotOf, cleanCache}
 use Rattle.calls.specs.declared.Queried.the-variants.{Refused as NotQueried}
 use Rattle.calls.specs.Calls.{QueryEffect, queried, queryVerdict, queryAccepted, queryOutcome, isHit, toSearch}
 use Rattle.screening.specs.Text.{line, spaced, badLengthText, badMotifText, mostOutput}
@@ -75,7 +75,7 @@ small-query : (m : ℕ) (catalog cache : List ℕ) (p : Strand) (work room : ℕ
 unfolding queryVerdict motifVerdict workVerdict
 small-query m catalog cache p work room h hb hm =
     small-first m _ _ (small-buffers m catalog cache h)
-    (small-first m _ _ (small-strand m 0 1 120 (p .bases) (p .mates) (omega arith) hb hm)
+    (small-first m _ _ (small-strand m motifSide leastMotif mostMotifBases (p .bases) (p .mates) (omega arith) hb hm)
     (small-first m _ _ (small-row m 9 2 _ (omega arith) (omega arith))
     (small-first m _ _ (small-row m 8 2 _ (omega arith) (omega arith)) (small-end m))))
 

@@ -19,7 +19,7 @@ use Rattle.screening.specs.declared.Screened.{Screened}
 use Rattle.screening.specs.declared.Screened.the-variants.{Written, NoRoom}
 use Rattle.screening.specs.Text.{hitsText, refusedText, badLengthText, badMotifText, mostOutput}
 
--- The input is a molecule block with the motif, then 1 to 64 catalog blocks.
+-- The input is a block handed in as a motif, then 1 to 64 catalog blocks.
 abbrev pub mostScreened : ℕ
 mostScreened = 64
 

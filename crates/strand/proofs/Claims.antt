@@ -4,6 +4,7 @@ use mathlib.Core.Path.{_≡_, refl, sym, ap, _∙_}
 use mathlib.Core.Bool.{Bool}
 use mathlib.Core.List.{List}
 use native.Mathlib.Omega.{arith}
+use Rattle.lists.specs.Vocabulary.{total}
 use Rattle.refusals.specs.declared.Verdict.{Verdict}
 use Rattle.refusals.specs.declared.Verdict.the-variants.{Accepted, Refused}
 use Rattle.refusals.specs.Rules.{moleculeSide, byVerdict, Refuses}
@@ -12,11 +13,11 @@ use Rattle.refusals.proofs.Refusing.{refuses-by}
 use Rattle.strand.specs.declared.Fold.{Fold}
 use Rattle.strand.specs.declared.Checked.the-variants as checked
 use Rattle.strand.specs.Folds.{foldOf}
-use Rattle.strand.specs.Strands.{leastMolecule, greatestLength, checkVerdict, checkAnswer, CheckAccepts, CheckSays}
-use Rattle.strand.specs.Statements.{NestedSays, StrandSays, LowestSays, FoldSays, Claims}
+use Rattle.strand.specs.Strands.{key, leastMolecule, greatestLength, checkVerdict, checkAnswer, CheckAccepts, CheckSays}
+use Rattle.strand.specs.Statements.{NestedSays, StrandSays, LowestSays, EmptyMotifSays, FoldSays, Claims}
 use Rattle.lists.proofs.ListLaws.{lowest-before, lowest-upto, lowest-passes}
 use Rattle.strand.proofs.FoldLaws.{arcs-most, depth-most, fold-is, fold-only, depth-none}
-use Rattle.strand.proofs.VerdictLaws.{nested-yes, nested-test, accepted-proper, proper-accepted, check-numbered}
+use Rattle.strand.proofs.VerdictLaws.{nested-yes, nested-test, accepted-proper, proper-accepted, check-numbered, empty-passes, empty-pair}
 
 nested-says : (mates : List ℕ) → NestedSays mates
 nested-says mates = (nested-yes mates, nested-test mates)
@@ -47,6 +48,10 @@ check-refuses bases mates =
     refuses-by (checkVerdict bases mates) checked.Refused (checked.Nested (foldOf mates)) (λ r. r) checked.Refused (λ r. refl)
     (λ r e. let z : _≡_ {A = ℕ} 0 1 = cc in omega arith) (check-numbered bases mates) (λ r s e. cc)
 
+empty-motif-says : EmptyMotifSays
+unfolding key total
+empty-motif-says = record { passes = empty-passes; pair = empty-pair; key-0 = refl }
+
 fold-says : (mates : List ℕ) → FoldSays mates
 fold-says mates = record { arcs = arcs-most mates; depth = depth-most mates; only = fold-only mates; without = depth-none mates }
 
@@ -66,6 +71,7 @@ claims =
       check-accepts = check-accepts;
       check-says = check-says;
       check-refuses = check-refuses;
+      empty-motif-says = empty-motif-says;
       fold-says = fold-says;
       lowest-says = lowest-says;
     }

@@ -1,18 +1,18 @@
 -- Tests and propositions of strands: nested mates, what an accepted strand is, a motif with a molecule, equal strands.
 use mathlib.Core.Path.{_≡_, refl, sym, ap}
 use mathlib.Core.Bool.{true, false, not, _&&_}
-use mathlib.Core.List.{List}
+use mathlib.Core.List.{List, []}
 use Prim.Native.Nat.{ℕ, _≤_, _<_}
 use native.Mathlib.Omega.{arith}
 use lib.ListN.{length}
-use borrow.Author.Tests.{eq-eqb, ltb-false, eqb-true, lt-leb}
+use borrow.Author.Tests.{eq-eqb, ltb-true, ltb-false, eqb-true, lt-leb}
 use Rattle.refusals.specs.declared.Verdict.the-variants.{Accepted}
-use Rattle.lists.specs.Vocabulary.{nth, some, sameList}
+use Rattle.lists.specs.Vocabulary.{nth, some, every, sameList}
 use Rattle.strand.specs.Strands.{Strand, sameStrand, notLetter, mateOutside, notMutual, crossedAt, isNested, Nested, Proper, strandVerdict}
 use Rattle.strand.specs.Strands.{checkVerdict, pairVerdict, Pair, leastMotif, leastMolecule, greatestLength}
 use Rattle.refusals.specs.Rules.{unequalLengths, noBases, tooLong, badLetter, badMate, matesNotMutual, arcsCross, motifSide, moleculeSide, first, Numbered}
-use Rattle.refusals.proofs.Refusing.{Numbering, strand-number, if-numbered, lowest-numbered, none-numbered, first-numbered}
-use Rattle.refusals.proofs.RuleLaws.{first-pass, rule-pass, rule-at-pass}
+use Rattle.refusals.proofs.Refusing.{Numbering, strand-number, when-numbered, if-numbered, lowest-numbered, none-numbered, first-numbered}
+use Rattle.refusals.proofs.RuleLaws.{first-one, first-pass, rule-pass, rule-at-pass}
 use Rattle.lists.proofs.ListLaws.{and-true, not-not, true-not, every-true, some-no, some-none, lowest-all, same-eq}
 use Rattle.strand.proofs.NestingLaws.{uncrossed-apart, apart-uncrossed, inside-of, paired-of}
 use Rattle.strand.proofs.LetterLaws.{letter-at, none-other}
@@ -119,6 +119,24 @@ proper-pair p pm q qm P =
       proper-accepted moleculeSide leastMolecule greatestLength q qm (P .molecule),
     )
 
+-- ---- the motif with no bases
+
+pub empty-passes : (greatest : ℕ) → strandVerdict motifSide leastMotif greatest [] [] ≡ Accepted
+unfolding every
+empty-passes greatest =
+    proper-accepted motifSide leastMotif greatest [] []
+    (record {
+      same = refl;
+      enough = omega arith;
+      small = omega arith;
+      letters = refl;
+      nested = record { inside = λ i h. absurd (omega arith); paired = λ i h. absurd (omega arith); apart = λ a i h. absurd (omega arith) };
+    })
+
+pub empty-pair : (q qm : List ℕ) → pairVerdict [] [] q qm ≡ checkVerdict q qm
+unfolding pairVerdict checkVerdict first
+empty-pair q qm = rw (empty-passes greatestLength) (first-one _)
+
 -- ---- equal strands
 
 pub same-strand-eq : (p q : Strand) → sameStrand p q ≡ true → p ≡ q
@@ -133,18 +151,20 @@ same-strand-eq p q e =
 
 module _ (side : ℕ) (known : side ≤ moleculeSide) where
   -- rules 1 to 3 name no place, rules 4 to 7 the lowest
-  plain : (number : ℕ) → 1 ≤ number → number ≤ arcsCross → Numbered number side 0
-  plain number a b = strand-number number side 0 a b known (λ h. refl)
+  plain : (number : ℕ) → 1 ≤ number → number ≤ arcsCross → (number ≡ noBases → side ≡ moleculeSide) → Numbered number side 0
+  plain number a b two = strand-number number side 0 a b known two (λ h. refl)
 
   placed : (number : ℕ) → badLetter ≤ number → number ≤ arcsCross → (place : ℕ) → Numbered number side place
-  placed number a b place = strand-number number side place (omega arith) b known (λ h. absurd (omega arith))
+  placed number a b place = strand-number number side place (omega arith) b known (λ e. absurd (omega arith)) (λ h. absurd (omega arith))
 
-  pub strand-numbered : (least greatest : ℕ) (bases mates : List ℕ) → Numbering (strandVerdict side least greatest bases mates)
+  -- rule 2 applies where a strand must have a base, and that is a molecule
+  pub strand-numbered : (least greatest : ℕ) (bases mates : List ℕ) → (0 < least → side ≡ moleculeSide)
+      → Numbering (strandVerdict side least greatest bases mates)
   unfolding strandVerdict
-  strand-numbered least greatest bases mates =
-      first-numbered _ _ (if-numbered 1 side (plain 1 (omega arith) (omega arith)) _)
-      (first-numbered _ _ (if-numbered 2 side (plain 2 (omega arith) (omega arith)) _)
-      (first-numbered _ _ (if-numbered 3 side (plain 3 (omega arith) (omega arith)) _)
+  strand-numbered least greatest bases mates only =
+      first-numbered _ _ (if-numbered 1 side (plain 1 (omega arith) (omega arith) (λ e. absurd (omega arith))) _)
+      (first-numbered _ _ (when-numbered 2 side _ (λ t. plain 2 (omega arith) (omega arith) (λ e. only (omega (arith, ltb-true (length bases) least t)))))
+      (first-numbered _ _ (if-numbered 3 side (plain 3 (omega arith) (omega arith) (λ e. absurd (omega arith))) _)
       (first-numbered _ _ (lowest-numbered 4 side (placed 4 (omega arith) (omega arith)) _ _)
       (first-numbered _ _ (lowest-numbered 5 side (placed 5 (omega arith) (omega arith)) _ _)
       (first-numbered _ _ (lowest-numbered 6 side (placed 6 (omega arith) (omega arith)) _ _)
@@ -152,10 +172,10 @@ module _ (side : ℕ) (known : side ≤ moleculeSide) where
 
 pub check-numbered : (bases mates : List ℕ) → Numbering (checkVerdict bases mates)
 unfolding checkVerdict
-check-numbered bases mates = strand-numbered moleculeSide (omega arith) leastMolecule greatestLength bases mates
+check-numbered bases mates = strand-numbered moleculeSide (omega arith) leastMolecule greatestLength bases mates (λ h. refl)
 
 pub pair-numbered : (p pm q qm : List ℕ) → Numbering (pairVerdict p pm q qm)
 unfolding pairVerdict
 pair-numbered p pm q qm =
-    first-numbered _ _ (strand-numbered motifSide (omega arith) leastMotif greatestLength p pm)
-    (first-numbered _ _ (strand-numbered moleculeSide (omega arith) leastMolecule greatestLength q qm) none-numbered)
+    first-numbered _ _ (strand-numbered motifSide (omega arith) leastMotif greatestLength p pm (λ h. absurd (omega arith)))
+    (first-numbered _ _ (strand-numbered moleculeSide (omega arith) leastMolecule greatestLength q qm (λ h. refl)) none-numbered)

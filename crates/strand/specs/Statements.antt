@@ -3,15 +3,16 @@ use Prim.Native.Nat.{ℕ, _≤_, _<_}
 use mathlib.Core.Path.{_≡_}
 use mathlib.Core.Bool.{Bool, true, false}
 use mathlib.Core.Logic.{_↔_}
-use mathlib.Core.List.{List}
+use mathlib.Core.List.{List, []}
 use lib.ListN.{length}
 use Rattle.refusals.specs.declared.Verdict.the-variants.{Accepted}
 use Rattle.lists.specs.Vocabulary.{nth, lowest}
-use Rattle.refusals.specs.Rules.{Refuses}
+use Rattle.refusals.specs.Rules.{motifSide, Refuses}
 use Rattle.strand.specs.declared.Fold.{Fold}
 use Rattle.strand.specs.declared.Checked.the-variants as checked
 use Rattle.strand.specs.Folds.{arcCount, depthOf, foldOf, IsArcCount, IsDepth, IsFold}
 use Rattle.strand.specs.Strands.{isNested, Nested, Proper, strandVerdict, checkVerdict, checkAnswer, CheckAccepts, CheckSays}
+use Rattle.strand.specs.Strands.{emptyMotif, leastMotif, pairVerdict, key}
 
 -- 01, Molecule and motif: the test of the mates passes exactly when they are in range and mutual and no two arcs cross.
 abbrev pub NestedSays : List ℕ → Type 0
@@ -28,6 +29,12 @@ pub record LowestSays (n : ℕ) (test : ℕ → Bool) : Type 0 where
   pub passes : lowest n test < n → test (lowest n test) ≡ true
   pub below : (i : ℕ) → i < lowest n test → test i ≡ false
 
+-- 02, (iii), of the motif with no bases: rules 1 to 7 let it pass; so a direct call on it refuses first what check refuses of the molecule. Its key is 0.
+pub record EmptyMotifSays : Type 0 where
+  pub passes : (greatest : ℕ) → strandVerdict motifSide leastMotif greatest [] [] ≡ Accepted
+  pub pair : (q qm : List ℕ) → pairVerdict [] [] q qm ≡ checkVerdict q qm
+  pub key-0 : key emptyMotif ≡ 0
+
 -- 02, (i), for all mates, nested or not: `arcCount` and `depthOf` are the number of arcs and the depth as the propositions say them, and no other fold is; the
 -- depth is "0 without arcs".
 pub record FoldSays (mates : List ℕ) : Type 0 where
@@ -43,5 +50,6 @@ pub record Claims : Type 0 where
   pub check-accepts : (bases mates : List ℕ) → CheckAccepts bases mates
   pub check-says : (bases mates : List ℕ) → CheckSays bases mates (checkAnswer bases mates)
   pub check-refuses : (bases mates : List ℕ) → Refuses (checkVerdict bases mates) checked.Refused (checkAnswer bases mates)
+  pub empty-motif-says : EmptyMotifSays
   pub fold-says : (mates : List ℕ) → FoldSays mates
   pub lowest-says : (n : ℕ) (test : ℕ → Bool) → LowestSays n test

@@ -24,6 +24,10 @@ pub record Strand : Type 0 where
 abbrev pub strandOf : List ℕ → List ℕ → Strand
 strandOf bs ms = record { bases = bs; mates = ms }
 
+-- 02, (iii): the motif with no bases.
+abbrev pub emptyMotif : Strand
+emptyMotif = strandOf [] []
+
 -- The same bases and the same mates.
 unfoldable pub sameStrand : Strand → Strand → Bool
 sameStrand p q = sameList (p .bases) (q .bases) && sameList (p .mates) (q .mates)
@@ -104,13 +108,14 @@ strandVerdict side least greatest bases mates =
     ∷ refuseAtLowest arcsCross side (length mates) (crossedAt mates)
     ∷ [])
 
--- 01, lengths: a molecule and a motif have 1 base at the least; 4,096 at the most in the direct calls.
+-- 01, lengths: a molecule has 1 base at the least. 02, (iii): a motif may have none, and refusal 2 "remains for molecules only".
 abbrev pub leastMolecule : ℕ
 leastMolecule = 1
 
 abbrev pub leastMotif : ℕ
-leastMotif = 1
+leastMotif = 0
 
+-- 01, lengths: 4,096 at the most in the direct calls.
 abbrev pub greatestLength : ℕ
 greatestLength = 4096
 
@@ -138,7 +143,7 @@ pairVerdict p pm q qm =
     ∷ strandVerdict moleculeSide leastMolecule greatestLength q qm
     ∷ [])
 
--- A motif and a molecule of 1 to 4,096 letters, both nested: what they let pass.
+-- A motif of at most 4,096 letters and a molecule of 1 to 4,096, both nested: what they let pass.
 pub record Pair (p pm q qm : List ℕ) : Type 0 where
   pub motif : Proper motifSide leastMotif greatestLength p pm
   pub molecule : Proper moleculeSide leastMolecule greatestLength q qm

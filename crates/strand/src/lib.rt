@@ -12,7 +12,7 @@ ghost use mathlib.Core.Path.{_≡_};
 ghost use Rattle.strand.specs.Strands.{lettersMatch, strandVerdict, checkAnswer, pairVerdict};
 
 // The least lengths of a motif and of a molecule, and the greatest length in the direct calls (specs/Strands has the same names).
-pub const LEAST_MOTIF: usize = 1;
+pub const LEAST_MOTIF: usize = 0;
 
 pub const LEAST_MOLECULE: usize = 1;
 

@@ -1,9 +1,10 @@
 // The cases of the input, a line of 48 bytes each: a command, its arguments in fixed columns, and a name from column 26.
 // Small strands: `s` has bases from column 2 and mates, a digit each, from column 13 (`X` means 65535); it is checked as a molecule and as
 // a motif. `l` is checked with the least and the greatest length of columns 24 and 25. `p` is a motif, checked with the strand A, 0 as the
-// molecule; `q` is a molecule, checked with the motif A, 0; `w` is checked as both.
+// molecule; `q` is a molecule, checked with the motif A, 0, and `e` with the motif that has no bases; `w` is checked as both.
 // Long strands stay from line to line: `f a b` gives b bases mates of form a, `b a v` and `m a v` set a base and a mate, `c a b` checks the
-// first a bases with the first b mates, and `x` and `y` check all of them as the motif and as the molecule of a pair.
+// first a bases with the first b mates, and `x` and `y` check all of them as the motif and as the molecule of a pair, `z` as the molecule for the
+// motif that has no bases.
 use super::make;
 use super::tell;
 use libc::STDIN_FILENO;
@@ -31,6 +32,9 @@ fn judge(kind: u8, bases: &[u8], mates: &[u16], least: usize, greatest: usize) {
     }
     if kind == b'q' {
         return tell::pair(b"A", &[0], bases, mates);
+    }
+    if kind == b'e' {
+        return tell::pair(b"", &[], bases, mates);
     }
     if kind == b'w' {
         tell::pair(bases, mates, bases, mates);
@@ -66,13 +70,16 @@ fn long(kind: u8, a: usize, b: usize, bases: &mut [u8], mates: &mut [u16]) {
         return tell::pair(bases, mates, b"A", &[0]);
     }
     if kind == b'y' {
-        tell::pair(b"A", &[0], bases, mates);
+        return tell::pair(b"A", &[0], bases, mates);
+    }
+    if kind == b'z' {
+        tell::pair(b"", &[], bases, mates);
     }
 }
 
 fn is_small(kind: u8) -> bool {
     match kind {
-        b's' | b'l' | b'p' | b'q' | b'w' => true,
+        b's' | b'l' | b'p' | b'q' | b'e' | b'w' => true,
         _ => false,
     }
 }

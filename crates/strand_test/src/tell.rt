@@ -46,7 +46,7 @@ pub fn both(bases: &[u8], mates: &[u16]) {
     say(b" molecule");
     tell(code_of_check(strand::check(bases, mates)));
     say(b", motif");
-    tell(code_of(strand::check_strand(bases, mates, 0, 1, 120)));
+    tell(code_of(strand::check_strand(bases, mates, 0, 0, 120)));
 }
 
 // A motif with limits of its own.

@@ -2,6 +2,9 @@
 use super::slices::byte_at;
 use super::slices::set_entry;
 
+// How many lines an input that is read line by line has at most.
+pub const MOST_LINES: usize = 99999;
+
 // Reads the next line, which is as long as the slice; false where the input ends before.
 pub fn read(line: &mut [u8]) -> bool {
     io::read_full(0, line) == line.len()

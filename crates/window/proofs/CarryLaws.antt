@@ -1,5 +1,5 @@
--- Windows that carry the motif, as the functions of the search meet them: wider windows, where a window may begin, the halving of an end and of a start, and
--- the end of the search.
+-- Windows that carry the motif, as the functions of the search meet them: wider windows, where a window may begin, the halving of an end and of a start,
+-- the end of the search, and the motif with no bases.
 use Prim.Native.Nat.{ℕ, _+_, _-_, _≤_, _<_, max}
 use mathlib.Core.Path.{_≡_, refl}
 use mathlib.Core.Bool.{true, false}
@@ -18,6 +18,7 @@ use Rattle.embedding.proofs.Answers.{clash}
 use Rattle.embedding.proofs.Segment.{fits-in}
 use Rattle.embedding.proofs.WindowLaws.{Starts, widened, starts}
 use Rattle.embedding.proofs.Tightest.{carries-within}
+use Rattle.embedding.proofs.Claims as embedding
 use Rattle.matcher.specs.Walk.{TablesFor, Carried}
 use Rattle.window.specs.declared.search.Progress.{Progress}
 use Rattle.window.specs.Search.{Ready, MayBegin, NoneBegins, EndsAt, StartsAt, NoBetter, Sought, Seek, Advanced, Found}
@@ -85,7 +86,7 @@ module _ {p pm q qm : List ℕ} where
 -- What the walks ask holds again after one of them.
 pub ready-again : {p pm tables tables′ q qm work work′ : List ℕ} → Ready p pm tables q qm work → TablesFor p pm (length q) tables′
     → length work′ ≡ length work → Ready p pm tables′ q qm work′
-ready-again R T e = record { motif = R .motif; molecule = R .molecule; made = T; room = omega (arith, R .room) }
+ready-again R T e = record { motif = R .motif; base = R .base; molecule = R .molecule; made = T; room = omega (arith, R .room) }
 
 -- ---- the steps of the search
 
@@ -209,3 +210,9 @@ module _ {p pm q qm : List ℕ} {at : Progress} (S : Seek p pm q qm at) where
 
   pub found-short : 0 < length p → at .length ≤ length p → Found p pm q qm at
   found-short m h = found-best (over-short _ _ carried-wider (S .sought) (length p) (carried-long m) h)
+
+-- A motif with no bases: the window of no bases at the molecule's start is the tightest.
+pub found-empty : {p pm q qm : List ℕ} → Inside (nth pm) (length p) → length p ≡ 0 → {next low reach : ℕ}
+    → Found p pm q qm record { start = 0; length = 0; next = next; low = low; reach = reach }
+found-empty {p} {pm} {q} {qm} H e =
+    record { tightest = λ _. embedding.claims .windows-say lettersMatch p pm q qm H .empty e; none = λ h E. omega arith }

@@ -2,7 +2,7 @@
 use Prim.Native.Nat.{ℕ}
 use mathlib.Core.Path.{_≡_, refl, sym, _∙_}
 use mathlib.Core.Logic.{_↔_}
-use mathlib.Core.List.{List}
+use mathlib.Core.List.{List, []}
 use native.Mathlib.Decide.{decLt}
 use native.Mathlib.Omega.{arith}
 use lib.Dec.{leb}
@@ -10,6 +10,7 @@ use lib.ListN.{length}
 use Rattle.refusals.specs.declared.Refusal.{Refusal}
 use Rattle.refusals.specs.declared.Verdict.{Verdict}
 use Rattle.refusals.specs.declared.Verdict.the-variants as verdict
+use Rattle.refusals.proofs.RuleLaws.{by-accepted, by-refused}
 use Rattle.refusals.proofs.Refusing.{refuses-by}
 use Rattle.refusals.specs.Rules.{Refuses}
 use Rattle.strand.specs.declared.Fold.{Fold}
@@ -20,11 +21,11 @@ use Rattle.embedding.specs.Embedding.{EmbedsIn}
 use Rattle.embedding.specs.Windows.{tightestLength, IsTightest, WindowsSay}
 use Rattle.embedding.proofs.Answers.{by-test}
 use Rattle.embedding.proofs.Claims as embedding
-use Rattle.matcher.specs.Answers.{lengthVerdict}
+use Rattle.matcher.specs.Answers.{lengthVerdict, emptyMotifVerdict}
 use Rattle.matcher.proofs.Claims as matcher
 use Rattle.window.specs.declared.Windowed.{Windowed}
 use Rattle.window.specs.declared.Windowed.the-variants.{At, Nowhere, Refused}
-use Rattle.window.specs.Answers.{windowOf, windowAnswer, WindowSays}
+use Rattle.window.specs.Answers.{windowOf, windowAnswer, WindowSays, EmptyMotifWindowed}
 use Rattle.window.specs.Statements.{Claims}
 use Rattle.window.proofs.AnswerLaws.{window-facts, answer-refused, answer-at, answer-nowhere}
 
@@ -107,5 +108,17 @@ module _ (p pm q qm : List ℕ) (work : ℕ) where
       refuses-by v Refused _ (λ r. r) Refused (λ r. refl) (not-refused (tightestLength lettersMatch p pm q qm))
       (matcher.claims .length-refuses p pm q qm work .numbered) (λ r s e. cc)
 
+-- The motif with no bases: where the call is accepted, the window of no bases at the start is the tightest.
+empty-motif-windowed : (q qm : List ℕ) (work : ℕ) → EmptyMotifWindowed q qm work
+empty-motif-windowed q qm work = go (v [] [] q qm work) refl
+  where
+    rules : v [] [] q qm work ≡ emptyMotifVerdict q qm work
+    rules = matcher.claims .empty-motif-matched q qm work .length-verdict
+
+    go : (u : Verdict) → v [] [] q qm work ≡ u → EmptyMotifWindowed q qm work
+    go (verdict.Refused x) e = sym (answer-refused [] [] q qm work x e) ∙ sym (by-refused _ _ _ x (sym rules ∙ e))
+    go verdict.Accepted e =
+        sym (answer-at [] [] q qm work e 0 0 (foldOf qm) (says [] [] q qm work e .empty refl) refl) ∙ sym (by-accepted _ _ _ (sym rules ∙ e))
+
 pub claims : Claims
-claims = record { window-says = window-says; window-refuses = window-refuses }
+claims = record { window-says = window-says; window-refuses = window-refuses; empty-motif-windowed = empty-motif-windowed }

@@ -2,7 +2,7 @@
 use Prim.Native.Nat.{ℕ}
 use mathlib.Core.Path.{_≡_}
 use mathlib.Core.Logic.{_↔_}
-use mathlib.Core.List.{List}
+use mathlib.Core.List.{List, []}
 use lib.Dec.{leb}
 use lib.ListN.{length}
 use Rattle.lists.specs.Vocabulary.{choose}
@@ -14,7 +14,7 @@ use Rattle.strand.specs.Folds.{foldOf, IsFold}
 use Rattle.strand.specs.Strands.{strandOf, lettersMatch}
 use Rattle.embedding.specs.Embedding.{EmbedsIn}
 use Rattle.embedding.specs.Windows.{tightestLength, firstStart, IsTightest}
-use Rattle.matcher.specs.Answers.{lengthVerdict}
+use Rattle.matcher.specs.Answers.{lengthVerdict, emptyMotifVerdict}
 use Rattle.window.specs.declared.Windowed.{Windowed}
 use Rattle.window.specs.declared.Windowed.the-variants.{At, Nowhere, Refused}
 
@@ -25,6 +25,10 @@ windowOf p pm q qm w = choose (leb w (length q)) (At (firstStart lettersMatch p 
 -- The call, with a work slice of so many entries. "Inputs, limits, refusals and their order are those of length."
 unfoldable pub windowAnswer : List ℕ → List ℕ → List ℕ → List ℕ → ℕ → Windowed
 windowAnswer p pm q qm work = byVerdict (lengthVerdict p pm q qm work) Refused (windowOf p pm q qm (tightestLength lettersMatch p pm q qm))
+
+-- 02, (iii): "Its tightest window has start 0 and length 0", that of an empty motif. The whole answer for it.
+abbrev pub EmptyMotifWindowed : List ℕ → List ℕ → ℕ → Type 0
+EmptyMotifWindowed q qm work = windowAnswer [] [] q qm work ≡ byVerdict (emptyMotifVerdict q qm work) Refused (At 0 0 (foldOf qm))
 
 -- Where the rules give verdict v, the answer r ..
 pub record WindowSays (v : Verdict) (p pm q qm : List ℕ) (r : Windowed) : Type 0 where

@@ -13,9 +13,11 @@ use Rattle.embedding.specs.Windows.{IsTightest}
 use Rattle.matcher.specs.Walk.{TablesFor, Carried}
 use Rattle.window.specs.declared.search.Progress.{Progress}
 
--- What every walk asks: a motif and a molecule that the rules let pass, the tables of the motif, and a work slice that is long enough.
+-- What every walk of the search asks: a motif and a molecule that the rules let pass, a first base of the motif (one with no bases is answered without a
+-- search), its tables, and a work slice that is long enough.
 pub record Ready (p pm tables q qm work : List ℕ) : Type 0 where
   pub motif : Proper motifSide leastMotif greatestLength p pm
+  pub base : 0 < length p
   pub molecule : Proper moleculeSide leastMolecule greatestLength q qm
   pub made : TablesFor p pm (length q) tables
   pub room : workSize (length p) (length q) ≤ length work

@@ -5,9 +5,10 @@ use mathlib.Core.List.{List}
 use Rattle.refusals.specs.Rules.{Refuses}
 use Rattle.matcher.specs.Answers.{lengthVerdict}
 use Rattle.window.specs.declared.Windowed.the-variants.{Refused}
-use Rattle.window.specs.Answers.{windowAnswer, WindowSays}
+use Rattle.window.specs.Answers.{windowAnswer, WindowSays, EmptyMotifWindowed}
 
 -- All the claims.
 pub record Claims : Type 0 where
   pub window-says : (p pm q qm : List ℕ) (work : ℕ) → WindowSays (lengthVerdict p pm q qm work) p pm q qm (windowAnswer p pm q qm work)
+  pub empty-motif-windowed : (q qm : List ℕ) (work : ℕ) → EmptyMotifWindowed q qm work
   pub window-refuses : (p pm q qm : List ℕ) (work : ℕ) → Refuses (lengthVerdict p pm q qm work) Refused (windowAnswer p pm q qm work)

@@ -191,7 +191,7 @@ fn narrow(
 // Goes on to the next start that is left: a window from there which is shorter than the best does not end before `low`, and the motif's first base may stand
 // there.
 fn advance(p: &[u8], pm: &[u16], q: &[u8], qm: &[u16], at: Progress) -> Progress
-    requires { ⌜ Proper motifSide leastMotif greatestLength (now p) (now pm) ⌝ }
+    requires { ⌜ Proper motifSide leastMotif greatestLength (now p) (now pm) × (0 < length (now p)) ⌝ }
     requires { ⌜ Proper moleculeSide leastMolecule greatestLength (now q) (now qm) ⌝ }
     requires { ⌜ Seek (now p) (now pm) (now q) (now qm) at × ((at .low ≤ length (now q)) × (0 < at .length)) ⌝ }
     ensures { λ r. ⌜ Seek (now (p .entry)) (now (pm .entry)) (now (q .entry)) (now (qm .entry)) r × Advanced (length (now (p .entry))) at r ⌝ }
@@ -252,7 +252,7 @@ fn search_lent(
     work: &mut [u16],
     tables: &mut [u16],
 ) -> Progress
-    requires { ⌜ Proper motifSide leastMotif greatestLength (now p) (now pm) ⌝ }
+    requires { ⌜ Proper motifSide leastMotif greatestLength (now p) (now pm) × (0 < length (now p)) ⌝ }
     requires { ⌜ Proper moleculeSide leastMolecule greatestLength (now q) (now qm) ⌝ }
     requires { ⌜ workSize (length (now p)) (length (now q)) ≤ length (now work) ⌝ }
     requires { ⌜ 5 * (length (now p) + 1) + length (now q) < length (now tables) ⌝ }
@@ -277,7 +277,7 @@ fn search_lent(
 
 // The same for short strands: their tables take little room.
 fn search_short(p: &[u8], pm: &[u16], q: &[u8], qm: &[u16], work: &mut [u16]) -> Progress
-    requires { ⌜ Proper motifSide leastMotif greatestLength (now p) (now pm) ⌝ }
+    requires { ⌜ Proper motifSide leastMotif greatestLength (now p) (now pm) × (0 < length (now p)) ⌝ }
     requires { ⌜ Proper moleculeSide leastMolecule greatestLength (now q) (now qm) ⌝ }
     requires { ⌜ workSize (length (now p)) (length (now q)) ≤ length (now work) ⌝ }
     requires { ⌜ (length (now p) ≤ 120) × (length (now q) ≤ 160) ⌝ }
@@ -289,7 +289,7 @@ fn search_short(p: &[u8], pm: &[u16], q: &[u8], qm: &[u16], work: &mut [u16]) ->
 
 // The same for any strands.
 fn search_long(p: &[u8], pm: &[u16], q: &[u8], qm: &[u16], work: &mut [u16]) -> Progress
-    requires { ⌜ Proper motifSide leastMotif greatestLength (now p) (now pm) ⌝ }
+    requires { ⌜ Proper motifSide leastMotif greatestLength (now p) (now pm) × (0 < length (now p)) ⌝ }
     requires { ⌜ Proper moleculeSide leastMolecule greatestLength (now q) (now qm) ⌝ }
     requires { ⌜ workSize (length (now p)) (length (now q)) ≤ length (now work) ⌝ }
     ensures { λ r. ⌜ Found (now (p .entry)) (now (pm .entry)) (now (q .entry)) (now (qm .entry)) r ⌝ }
@@ -299,13 +299,22 @@ fn search_long(p: &[u8], pm: &[u16], q: &[u8], qm: &[u16], work: &mut [u16]) -> 
 }
 
 // The tightest window of the molecule that carries the motif, for what the rules of the call let pass: `length` bases from `start`, or, where there is none,
-// `length` is one more than the molecule's.
+// `length` is one more than the molecule's. A motif with no bases needs no search: it is carried by the window of no bases at the molecule's start.
 pub fn tightest(p: &[u8], pm: &[u16], q: &[u8], qm: &[u16], work: &mut [u16]) -> Progress
     requires { ⌜ Proper motifSide leastMotif greatestLength (now p) (now pm) ⌝ }
     requires { ⌜ Proper moleculeSide leastMolecule greatestLength (now q) (now qm) ⌝ }
     requires { ⌜ workSize (length (now p)) (length (now q)) ≤ length (now work) ⌝ }
     ensures { λ r. ⌜ Found (now (p .entry)) (now (pm .entry)) (now (q .entry)) (now (qm .entry)) r ⌝ }
 {
+    if p.len() == 0 {
+        return Progress {
+            start: 0,
+            length: 0,
+            next: 0,
+            low: 0,
+            reach: 0,
+        };
+    }
     if p.len() <= tables::SHORT_MOTIF {
         if q.len() <= tables::SHORT_MOLECULE {
             return search_short(p, pm, q, qm, work);

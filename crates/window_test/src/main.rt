@@ -15,6 +15,7 @@ mod every;
 mod tally;
 
 use tally::Tally;
+use testing::input::MOST_LINES;
 use testing::input::kind;
 use testing::input::read;
 use testing::pairs::LINE;
@@ -22,9 +23,6 @@ use testing::pairs::TEXT;
 use testing::pairs::rounds;
 use testing::pairs::say_name;
 use testing::slices::part;
-
-// How many lines the input has at most.
-const MOST_LINES: usize = 99999;
 
 fn case(t: Tally, line: &[u8]) -> Tally {
     let n = rounds(line, 64, 4);

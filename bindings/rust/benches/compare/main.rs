@@ -170,9 +170,9 @@ fn told(answer: Result<lakhido::Matched, lakhido::Refusal>, fold: Fold) -> usize
     found.length
 }
 
-/// A window, or none, as one number by which the versions are compared: a window has a base.
+/// A window as one number by which the versions are compared; 0 for none.
 fn number(window: Option<lakhido::Window>) -> usize {
-    window.map_or(0, |w| w.start * (MOST + 1) + w.length)
+    window.map_or(0, |w| 1 + w.start * (MOST + 1) + w.length)
 }
 
 /// The window that an accepted call answers, as a number; its fold must be this.
@@ -224,7 +224,7 @@ fn windows() {
         let (found, times) = least(&format!("window, {row}"), window_versions(p, q));
         let [start, length] = match found {
             0 => ["none".into(), "none".into()],
-            _ => [found / (MOST + 1), found % (MOST + 1)].map(|x| x.to_string()),
+            _ => [(found - 1) / (MOST + 1), (found - 1) % (MOST + 1)].map(|x| x.to_string()),
         };
         print_row(&[shape.into(), q.len().to_string(), p.len().to_string(), motif.into(), start, length, checks], &times);
         goal.hold(&row, times[0] / times[1]);

@@ -142,9 +142,8 @@ pub fn segments_length(p: Strand, q: Strand, work: &mut [u16]) -> Option<(usize,
 /// valid.
 pub fn window_tightest(p: Strand, q: Strand, work: &mut [u16]) -> Option<(Option<Window>, Fold)> {
     assert_pair(p, q, work);
-    assert!(0 < p.len());
     let (mut window, mut fold) = (c::Window::default(), c::Fold::default());
-    // SAFETY: strands of any content, which the peer checks, no longer than its tables, a motif with a base, and a work slice as large as the library's.
+    // SAFETY: strands of any content, which the peer checks, no longer than its tables, and a work slice as large as the library's.
     let valid = unsafe {
         c::window_tightest(
             p.bases.as_ptr(),

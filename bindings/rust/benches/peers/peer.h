@@ -45,7 +45,7 @@ typedef struct {
 } peer_window;
 
 // The shortest window of the molecule that carries the motif, of these the first, by the library's own algorithm and with every step of its call (window.c),
-// as segments_length has them; where none carries it, the length is n + 1. The motif has a base.
+// as segments_length has them; where none carries it, the length is n + 1.
 int window_tightest(const uint8_t *p, const uint16_t *pm, size_t m, const uint8_t *q, const uint16_t *qm, size_t n, uint16_t *work, peer_window *window,
                     peer_fold *fold);
 
@@ -62,8 +62,11 @@ static inline int peer_heaviest(const uint16_t *qm, int lo, int hi) {
     return best;
 }
 
-// Whether a strand's bases are letters and its mates in range, mutual and nested (sound.c).
-int peer_strand_ok(const uint8_t *bases, const uint16_t *mates, size_t n);
+// The least lengths of a motif and of a molecule.
+enum { PEER_LEAST_MOTIF = 0, PEER_LEAST_MOLECULE = 1 };
+
+// Whether a strand has `least` bases or more, its bases are letters and its mates in range, mutual and nested (sound.c).
+int peer_strand_ok(const uint8_t *bases, const uint16_t *mates, size_t n, size_t least);
 
 // The fold of a strand (sound.c).
 peer_fold peer_fold_of(const uint16_t *mates, size_t n);

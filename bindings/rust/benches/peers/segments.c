@@ -223,7 +223,7 @@ static size_t prefix_length(const uint8_t *p, const uint16_t *pm, size_t m, cons
 
 int segments_length(const uint8_t *p, const uint16_t *pm, size_t m, const uint8_t *q, const uint16_t *qm, size_t n, uint16_t *work, size_t *length,
                     peer_fold *fold) {
-    if (!peer_strand_ok(p, pm, m) || !peer_strand_ok(q, qm, n)) return 0;
+    if (!peer_strand_ok(p, pm, m, PEER_LEAST_MOTIF) || !peer_strand_ok(q, qm, n, PEER_LEAST_MOLECULE)) return 0;
     *fold = peer_fold_of(qm, n);
     *length = prefix_length(p, pm, m, q, qm, n, work);
     return 1;

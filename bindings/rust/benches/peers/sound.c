@@ -1,4 +1,4 @@
-// The check of a strand and its fold, and the soundness pass in plain C, by the rules of document 01 and request (i) of 02.
+// The check of a strand and its fold, and the soundness pass in plain C, by the rules of document 01 and the requests (i) and (iii) of 02.
 #include "peer.h"
 
 enum { BLOCK = 512, CHECKSUM = 508, SEARCHED = 380, HITS = 444, MAP = 64 };
@@ -27,7 +27,7 @@ static int all_letters(const uint8_t *bases, size_t n) {
 static int all_inside(const uint16_t *mates, int n) {
     uint16_t largest = 0;
     for (int i = 0; i < n; i++) largest = larger(largest, mates[i]);
-    return largest < n;
+    return !n || largest < n;
 }
 
 // In range, mutual and nested, in linear time: the walk of each arc's inside jumps over the arcs in it.
@@ -41,7 +41,9 @@ static int is_nested(const uint16_t *mates, int n) {
     return 1;
 }
 
-int peer_strand_ok(const uint8_t *bases, const uint16_t *mates, size_t n) { return all_letters(bases, n) && is_nested(mates, n); }
+int peer_strand_ok(const uint8_t *bases, const uint16_t *mates, size_t n, size_t least) {
+    return least <= n && all_letters(bases, n) && is_nested(mates, n);
+}
 
 // Each arc is counted at its left end, several bases at a time.
 static uint16_t begins(uint16_t i, uint16_t mate) { return i < mate; }
@@ -70,24 +72,24 @@ static uint32_t checksum(const uint8_t *s) {
     return sum;
 }
 
-// Kind, length, zero bytes, letters, unused places, mates and checksum of a block whose bases lie from `start`, with room for `most`.
-static int content_ok(const uint8_t *s, int kind, int start, int most) {
+// Kind, length, zero bytes, letters, unused places, mates and checksum of a block whose bases lie from `start`, at least `least` and with room for `most`.
+static int content_ok(const uint8_t *s, int kind, int start, int least, int most) {
     uint16_t mates[160];
     int n = s[1], at = start + most;
-    if (s[0] != kind || n < 1 || most < n) return 0;
+    if (s[0] != kind || most < n) return 0;
     if (!zeros(s, 2, start) || !zeros(s, start + n, at) || !zeros(s, at + 2 * n, at + 2 * most)) return 0;
     for (int i = 0; i < n; i++) mates[i] = s[at + 2 * i] | s[at + 2 * i + 1] << 8;
-    if (!peer_strand_ok(s + start, mates, n)) return 0;
+    if (!peer_strand_ok(s + start, mates, n, least)) return 0;
     return checksum(s) == (s[508] | s[509] << 8 | s[510] << 16 | (uint32_t)s[511] << 24);
 }
 
-static int molecule_ok(const uint8_t *s) { return zeros(s, 0, BLOCK) || content_ok(s, 1, 28, 160); }
+static int molecule_ok(const uint8_t *s) { return zeros(s, 0, BLOCK) || content_ok(s, 1, 28, PEER_LEAST_MOLECULE, 160); }
 
 static int entry_ok(const uint8_t *s) {
     if (zeros(s, 0, BLOCK)) return 1;
     for (int i = 0; i < MAP; i++)
         if (s[HITS + i] & ~s[SEARCHED + i]) return 0;
-    return content_ok(s, 2, 20, 120);
+    return content_ok(s, 2, 20, PEER_LEAST_MOTIF, 120);
 }
 
 size_t peer_unsound_molecule(const uint8_t *catalog, size_t blocks) {

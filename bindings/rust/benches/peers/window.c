@@ -1,6 +1,6 @@
 // The library's search for the tightest window in plain C (crates/window): from start to start where the motif's first base may stand, with walks over windows
 // that are wider than what is looked for by a reach, and a window that carries the motif narrowed by halving, its end first, then its start. The call checks
-// both strands first and counts the molecule's fold (sound.c), as the library's does.
+// both strands first and counts the molecule's fold (sound.c), as the library's does. A motif with no bases needs no search.
 #include "peer.h"
 
 typedef struct {
@@ -73,9 +73,13 @@ static peer_window tightest(const Search *s) {
 
 int window_tightest(const uint8_t *p, const uint16_t *pm, size_t m, const uint8_t *q, const uint16_t *qm, size_t n, uint16_t *work, peer_window *window,
                     peer_fold *fold) {
-    if (!peer_strand_ok(p, pm, m) || !peer_strand_ok(q, qm, n)) return 0;
+    if (!peer_strand_ok(p, pm, m, PEER_LEAST_MOTIF) || !peer_strand_ok(q, qm, n, PEER_LEAST_MOLECULE)) return 0;
     peer_motif motif;
     *fold = peer_fold_of(qm, n);
+    if (m == 0) {
+        *window = (peer_window){0, 0};
+        return 1;
+    }
     peer_prepare(&motif, p, pm, m);
     *window = tightest(&(Search){&motif, q, qm, n, work});
     return 1;

@@ -1,6 +1,7 @@
 //! Random blocks: sound ones, and ones spoilt by one rule at a time.
 use crate::make;
 use crate::plain::block::{self, BLOCK, CHECKSUM, ENTRY, HIT, Layout, MOLECULE, Owned, SEARCHED};
+use crate::plain::strand::Strand;
 use crate::random::Random;
 
 /// The bytes that are not zero, for the report of a difference.
@@ -24,11 +25,18 @@ pub fn entry(r: &mut Random, motif: &Owned, numbers: usize) -> [u8; BLOCK] {
     block::entry_block(motif.lend(), bits.into_iter().map(|(d, hit)| (d, hit && r.one_in(2))))
 }
 
-fn set_number(block: &mut [u8], at: usize, value: u16) {
-    block[at..at + 2].copy_from_slice(&value.to_le_bytes());
+/// Damages the strand of a block by one of the rows 4 to 7, as far as its length allows.
+fn spoil_strand(r: &mut Random, layout: &Layout, block: &mut [u8]) {
+    let mut s = block::decode(layout, block);
+    let row = r.between(4, 7) as u32;
+    make::damage(r, &mut s, row, layout.most);
+    block[layout.bases..][..s.bases.len()].copy_from_slice(&s.bases);
+    for (i, mate) in s.mates.iter().enumerate() {
+        block[layout.mates + 2 * i..][..2].copy_from_slice(&mate.to_le_bytes());
+    }
 }
 
-/// Breaks one rule of a sound block that is not empty. Mostly the checksum is made right again, so that only the rule can tell.
+/// Breaks one rule of a sound block that is not empty, as far as its length allows. Mostly the checksum is made right again, so that only the rule can tell.
 pub fn spoil(r: &mut Random, layout: &Layout, block: &mut [u8]) {
     let n = block[1] as usize;
     let free = layout.most - n;
@@ -39,20 +47,13 @@ pub fn spoil(r: &mut Random, layout: &Layout, block: &mut [u8]) {
         3 => block[r.between(2, layout.bases - 1)] = r.pick(&[1, 65, 255]),
         4 if 0 < free => block[layout.bases + n + r.below(free)] = r.pick(&[1, 65, 255]),
         5 if 0 < free => block[layout.mates + 2 * n + r.below(2 * free)] = r.pick(&[1, 65, 255]),
-        6..=9 => {
-            let mut s = block::decode(layout, block);
-            let row = r.between(4, 7) as u32;
-            make::damage(r, &mut s, row, layout.most);
-            block[layout.bases..layout.bases + n].copy_from_slice(&s.bases);
-            for (i, &mate) in s.mates.iter().enumerate() {
-                set_number(block, layout.mates + 2 * i, mate);
-            }
-        }
+        6..=9 => spoil_strand(r, layout, block),
         10 if layout.kind == ENTRY.kind => {
             let (k, bit) = (r.below(64), 1 << r.below(8));
             block[HIT + k] |= bit;
             block[SEARCHED + k] &= !bit;
         }
+        10 => block.copy_from_slice(&block::molecule_block(Strand::new(&[], &[]))),
         11 => {
             let at = r.below(block.len());
             block.fill(0);
@@ -107,7 +108,7 @@ pub fn cache(r: &mut Random, slots: usize, numbers: usize, pool: &[Owned]) -> Ve
 
 /// Damages a cache block where it has content, else writes one byte.
 pub fn spoil_any(r: &mut Random, b: &mut [u8]) {
-    if (1..=ENTRY.most).contains(&(b[1] as usize)) {
+    if !block::empty(b) && b[1] as usize <= ENTRY.most {
         spoil(r, &ENTRY, b);
     } else {
         b[r.below(BLOCK)] = r.below(256) as u8;

@@ -90,7 +90,7 @@ pub fn pool(r: &mut Random, count: usize, longest: usize) -> (Vec<Owned>, Vec<Ow
         .map(|_| {
             let from = r.below(count);
             let most = if r.one_in(4) { ENTRY.most } else { 12 };
-            let m = r.between(1, molecules[from].bases.len().min(most));
+            let m = make::motif_length(r, molecules[from].bases.len().min(most));
             make::motif(r, &molecules[from], m)
         })
         .collect();
@@ -183,13 +183,14 @@ fn passes_as_entry(b: &[u8; BLOCK]) {
 fn every_byte_of_a_block() {
     let mut r = seeded();
     let mut count = 0;
-    for n in [1, r.between(2, MOLECULE.most - 1), MOLECULE.most] {
+    for n in [0, 1, r.between(2, MOLECULE.most - 1), MOLECULE.most] {
         let s = make::strand(&mut r, n);
         count += every_byte(&block::molecule_block(s.lend()), passes_as_molecule);
     }
-    for n in [1, r.between(2, ENTRY.most - 1), ENTRY.most] {
+    for n in [0, 1, r.between(2, ENTRY.most - 1), ENTRY.most] {
         let s = make::strand(&mut r, n);
         count += every_byte(&blocks::entry(&mut r, &s, 512), passes_as_entry);
     }
+    count += every_byte(&block::entry_block(Strand::new(&[], &[]), std::iter::empty()), passes_as_entry);
     report("every byte of a block", count);
 }

@@ -8,6 +8,7 @@ use crate::plain::embedding::{longest_by_trying, verify_linear};
 use crate::plain::strand::{Fold, Refused, Strand, fold_of};
 use crate::random::{Random, rounds, seeded};
 use crate::{folded, lent, refused, report};
+use std::ops::RangeInclusive;
 
 /// Inputs between guards, so that a write to them or beside them shows.
 pub struct Lent {
@@ -119,9 +120,9 @@ fn words(alphabet: &[u8], n: usize) -> Vec<Vec<u8>> {
     (0..n).fold(vec![Vec::new()], |shorter, _| shorter.iter().flat_map(|w| alphabet.iter().map(move |&b| [w.as_slice(), &[b]].concat())).collect())
 }
 
-/// All nested strands of 1 to n bases in two letters.
-pub fn small_strands(n: usize) -> Vec<Owned> {
-    (1..=n)
+/// All nested strands of these lengths in two letters.
+pub fn small_strands(lengths: RangeInclusive<usize>) -> Vec<Owned> {
+    lengths
         .flat_map(|n| {
             let words = words(b"GC", n);
             folds(n).into_iter().flat_map(move |mates| words.clone().into_iter().map(move |bases| Owned { bases, mates: mates.clone() }))
@@ -131,7 +132,7 @@ pub fn small_strands(n: usize) -> Vec<Owned> {
 
 #[test]
 fn all_small_pairs() {
-    let (motifs, molecules) = (small_strands(4), small_strands(5));
+    let (motifs, molecules) = (small_strands(0..=4), small_strands(1..=5));
     let mut work = vec![0; work_size(4, 5)];
     let mut count = 0;
     for q in &molecules {
@@ -190,7 +191,7 @@ fn all_small_folds() {
 
 #[test]
 fn all_small_places() {
-    let (motifs, molecules) = (small_strands(3), small_strands(3));
+    let (motifs, molecules) = (small_strands(0..=3), small_strands(1..=3));
     let mut count = 0;
     for p in &motifs {
         for q in &molecules {
@@ -218,15 +219,24 @@ fn pair(r: &mut Random, p: Strand, q: Strand) -> usize {
         places.push(r.below(q.len() + 2) as u16);
     }
     verify(p, q, &places);
-    let at = r.below(places.len());
-    places[at] = match r.below(4) {
-        0 => r.pick(&[q.len() as u16, 65535]),
-        1 => places[at].wrapping_add(1),
-        2 => places[at].wrapping_sub(1),
-        _ => r.below(q.len()) as u16,
-    };
+    spoil(r, &mut places, q.len());
     verify(p, q, &places);
     5
+}
+
+/// Changes one of the places in a molecule of n bases; where there is none, they become one too many.
+fn spoil(r: &mut Random, places: &mut Vec<u16>, n: usize) {
+    if places.is_empty() {
+        places.push(r.below(n) as u16);
+        return;
+    }
+    let at = r.below(places.len());
+    places[at] = match r.below(4) {
+        0 => r.pick(&[n as u16, 65535]),
+        1 => places[at].wrapping_add(1),
+        2 => places[at].wrapping_sub(1),
+        _ => r.below(n) as u16,
+    };
 }
 
 #[test]

@@ -20,12 +20,15 @@ struct History {
     steps: Vec<String>,
     compared: usize,
     saved: usize,
+    /// The alterations that changed a byte of the entry with no bases, and those of them that changed its byte 0.
+    changed_empty: (usize, usize),
 }
 
 impl History {
     fn new(b: usize, s: usize) -> Self {
         let steps = vec![format!("B = {b}, S = {s}")];
-        History { shop: Shop::empty(b, s), model: Model::new(b, s), b, s, altered: vec![false; s], steps, compared: 0, saved: 0 }
+        let (shop, model) = (Shop::empty(b, s), Model::new(b, s));
+        History { shop, model, b, s, altered: vec![false; s], steps, compared: 0, saved: 0, changed_empty: (0, 0) }
     }
 
     fn told(&self) -> String {
@@ -82,8 +85,18 @@ impl History {
             2 => 0,
             _ => r.below(256) as u8,
         };
+        self.set(slot, offset, value);
+    }
+
+    /// The alteration of one byte of a block that has not been altered since the last accepted call, and so is sound.
+    fn set(&mut self, slot: usize, offset: usize, value: u8) {
         self.steps.push(format!("alter block {slot}, byte {offset}: {value}"));
-        self.shop.cache[BLOCK * slot + offset] = value;
+        let block = &mut self.shop.cache[BLOCK * slot..BLOCK * (slot + 1)];
+        if block[..2] == [ENTRY.kind, 0] && block[offset] != value {
+            self.changed_empty.0 += 1;
+            self.changed_empty.1 += (offset == 0) as usize;
+        }
+        block[offset] = value;
         self.model.alter(slot, offset, value);
     }
 }
@@ -121,7 +134,7 @@ fn step(r: &mut Random, h: &mut History, molecules: &[Owned], motifs: &[Owned]) 
 #[test]
 fn random_histories() {
     let mut r = seeded();
-    let (mut compared, mut saved) = (0, 0);
+    let (mut compared, mut saved, mut changed, mut changed_first) = (0, 0, 0, 0);
     for case in 0..rounds(1_500) {
         let b = match case % 50 {
             0 => r.between(1, 512),
@@ -137,7 +150,33 @@ fn random_histories() {
         }
         compared += h.compared;
         saved += h.saved;
+        changed += h.changed_empty.0;
+        changed_first += h.changed_empty.1;
     }
-    report("histories", compared);
+    report(&format!("histories, {changed} changes of the entry with no bases, {changed_first} of its byte 0"), compared);
     assert!(30_000 < compared && compared / 100 < saved, "{compared} compared, {saved} answered from the cache alone");
+    assert!(0 < changed_first && changed_first < changed, "{changed} changes of the entry with no bases, {changed_first} of its byte 0");
+}
+
+/// The empty motif is queried, one byte of its entry set, and it is queried again: only where the byte's value changed is anything searched.
+#[test]
+fn every_byte_of_the_entry_with_no_bases() {
+    let mut r = seeded();
+    let (molecules, _) = pool(&mut r, 2, 16);
+    let empty = Owned { bases: Vec::new(), mates: Vec::new() };
+    let mut compared = 0;
+    for offset in 0..BLOCK {
+        for flip in [0, 1, 2, 4, 8, 16, 32, 64, 128] {
+            let mut h = History::new(3, 2);
+            for d in [0, 2] {
+                h.add(d, &molecules[d / 2]);
+            }
+            h.query(&empty, work_size(0, MOLECULE.most), 3);
+            h.set(0, offset, h.shop.cache[offset] ^ flip);
+            h.query(&empty, work_size(0, MOLECULE.most), 3);
+            assert_eq!((h.changed_empty.0, h.saved), if flip == 0 { (0, 1) } else { (1, 0) }, "byte {offset}, bits {flip}");
+            compared += h.compared;
+        }
+    }
+    report("every byte of the entry with no bases", compared);
 }

@@ -111,8 +111,11 @@ pub fn taken_out(r: &mut Random, q: &Owned, m: usize) -> Owned {
     }
 }
 
-/// Changes a strand a little and keeps it nested: a letter, a bond less, or a bond between neighbours more.
+/// Changes a strand a little and keeps it nested: a letter, a bond less, or a bond between neighbours more. Without bases there is nothing to change.
 pub fn nudge(r: &mut Random, s: &mut Owned) {
+    if s.bases.is_empty() {
+        return;
+    }
     let i = r.below(s.bases.len());
     match r.below(3) {
         0 => s.bases[i] = r.pick(&LETTERS),
@@ -143,18 +146,23 @@ pub fn motif(r: &mut Random, q: &Owned, m: usize) -> Owned {
     p
 }
 
-/// A molecule of n bases, and before it a motif for it, of about 1 to `most`.
+/// The length of a motif: 0 one time in twenty, else 1 to `most`.
+pub fn motif_length(r: &mut Random, most: usize) -> usize {
+    if r.one_in(20) { 0 } else { r.between(1, most) }
+}
+
+/// A molecule of n bases, and before it a motif for it, of about `motif_length`.
 pub fn pair(r: &mut Random, n: usize, most: usize) -> (Owned, Owned) {
     let q = strand(r, n);
-    let m = r.between(1, most);
+    let m = motif_length(r, most);
     (motif(r, &q, m), q)
 }
 
-/// A molecule of n bases, and before it a motif of about 1 to `most`: mostly taken out of a stretch that is not much longer, so that it embeds in a window,
+/// A molecule of n bases, and before it a motif of about `motif_length`: mostly taken out of a stretch that is not much longer, so that it embeds in a window,
 /// sometimes nudged; else as in `pair`.
 pub fn window_pair(r: &mut Random, n: usize, most: usize) -> (Owned, Owned) {
     let q = strand(r, n);
-    let m = r.between(1, most.min(n));
+    let m = motif_length(r, most.min(n));
     if r.one_in(4) {
         return (motif(r, &q, m), q);
     }

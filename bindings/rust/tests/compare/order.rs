@@ -16,6 +16,9 @@ type Label = (u32, u32);
 const MOTIF: u32 = 0;
 const MOLECULE_SIDE: u32 = 1;
 
+/// The damage by which a motif has no bases. No row refuses it: "Refusal 2 remains for molecules only" (02, (iii)).
+const NO_MOTIF_BASES: Label = (2, MOTIF);
+
 fn strand_labels(side: u32) -> Vec<Label> {
     (1..=7).map(|row| (row, side)).collect()
 }
@@ -35,14 +38,15 @@ fn apart(a: Label, b: Label) -> bool {
 }
 
 /// Runs a call on inputs damaged by each pair of labels, until both rows applied and at least `turns` times, and by random sets of labels. The call gives the
-/// rows that applied.
+/// rows that applied. Row 2 of a motif must not be among them: the plain implementation's own guard.
 fn every_pair(name: &str, labels: &[Label], never: &[(Label, Label)], turns: usize, mut call: impl FnMut(&mut Random, &[Label]) -> Vec<Refused>) {
     let mut r = seeded();
     let (turns, mut count) = (rounds(turns), 0);
     let mut run = |r: &mut Random, chosen: &[Label]| {
         count += 1;
         let rows: Vec<Label> = call(r, chosen).iter().map(|row| (row.0, row.1)).collect();
-        chosen.iter().all(|label| rows.contains(label))
+        assert!(!rows.contains(&NO_MOTIF_BASES), "{name}: the plain rows refuse a motif without bases by 2");
+        chosen.iter().all(|label| *label == NO_MOTIF_BASES || rows.contains(label))
     };
     for &a in labels {
         for &b in labels {
@@ -115,7 +119,7 @@ fn of_window() {
 #[test]
 fn of_show() {
     let labels = [strand_labels(MOTIF), strand_labels(MOLECULE_SIDE), other_labels(&[8, 9])].concat();
-    every_pair("show", &labels, &[((2, MOTIF), (9, 2))], 6, |r, labels| {
+    every_pair("show", &labels, &[(NO_MOTIF_BASES, (9, 2))], 6, |r, labels| {
         let (p, q) = pair(r, labels, LONGEST);
         let (p, q, size) = (p.lend(), q.lend(), sizes(labels, r, &p, q.bases.len()));
         let places = room(r, labels, 9, p.len());
@@ -220,11 +224,11 @@ fn of_lengths() {
     // Strands and buffers at the limits: the last that is accepted and the first that is not.
     let mut r = seeded();
     for most in [MOLECULE.most, ENTRY.most, LONGEST] {
-        for n in [1, most - 1, most, most + 1] {
+        for n in [0, 1, most - 1, most, most + 1] {
             let s = make::strand(&mut r, n);
             direct::check(s.lend());
             let mut shop = Shop::empty(2, 1);
-            assert_eq!(shop.add(1, s.lend()).is_ok(), n <= MOLECULE.most);
+            assert_eq!(shop.add(1, s.lend()).is_ok(), (1..=MOLECULE.most).contains(&n));
             let found = shop.query(s.lend(), work_size(n, MOLECULE.most), 2);
             assert_eq!(found.is_ok(), n <= ENTRY.most);
         }

@@ -1,4 +1,4 @@
-//! The plain implementation against itself: each quick way against the words of document 01 and of the requests (i) and (ii) of 02.
+//! The plain implementation against itself: each quick way against the words of document 01 and of the requests (i) to (iii) of 02.
 use crate::make;
 use crate::plain::embedding::{closed, longest_by_trying, verify, verify_linear};
 use crate::plain::strand::{Fold, Strand, depth_by_trying, fold_of, lowest_crossing, lowest_crossing_by_pairs};
@@ -40,7 +40,7 @@ fn the_verifiers_agree() {
         let (p, q) = make::pair(&mut r, n, n.min(6));
         let mut places = vec![0; p.bases.len()];
         Table::new(p.lend(), q.lend()).show(&mut places);
-        if r.one_in(2) {
+        if !places.is_empty() && r.one_in(2) {
             let at = r.below(places.len());
             places[at] = r.below(n + 2) as u16;
         }

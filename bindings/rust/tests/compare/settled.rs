@@ -1,5 +1,7 @@
-//! The settled examples of document 01, and small ones of the fold of a molecule and of the tightest window, on the library.
+//! The settled examples of document 01, and small ones of the requests (i) to (iii) of 02, on the library: the fold of a molecule, the tightest window, the
+//! empty motif.
 use crate::direct;
+use crate::plain::block;
 use crate::plain::calls;
 use crate::plain::strand::{self, Refused, Strand};
 use crate::windows;
@@ -122,6 +124,54 @@ fn tightest_windows() {
     }
 }
 
+/// "From now on an empty motif embeds in every molecule, with L = 0 and no places. Its tightest window has start 0 and length 0."
+#[test]
+fn the_empty_motif_embeds_in_every_molecule() {
+    let empty = l("", &[]);
+    let rows: [(Strand, usize, usize); 4] =
+        [(s("A", &[0]), 0, 0), (s("GAC", &[2, 1, 0]), 1, 1), (s("GGCGCC", &[5, 2, 1, 4, 3, 0]), 3, 2), (s("GCGC", &[1, 0, 3, 2]), 2, 1)];
+    for (q, arcs, depth) in rows {
+        let fold = Fold { arcs, depth };
+        let (mut work, mut places) = (vec![0; 64 + 8 * q.len()], [7, 8, 9]);
+        assert_eq!(lakhido::length(empty, lent(q), &mut work), Ok(Matched { length: 0, fold }), "length in {q:?}");
+        assert_eq!(lakhido::show(empty, lent(q), &mut [], &mut work), Ok(Matched { length: 0, fold }), "show in {q:?}");
+        assert_eq!(lakhido::show(empty, lent(q), &mut places, &mut work), Ok(Matched { length: 0, fold }), "show in {q:?}");
+        assert_eq!(places, [7, 8, 9], "show in {q:?}");
+        assert_eq!(lakhido::verify(empty, lent(q), &[]), Ok(Verified { embeds: true, fold }), "verify in {q:?}");
+        assert_eq!(lakhido::verify(empty, lent(q), &[0]).map_err(refused), Err(Refused(9, 2, 0)), "verify in {q:?}");
+        let window = Some(Window { start: 0, length: 0 });
+        assert_eq!(lakhido::window(empty, lent(q), &mut work), Ok(Windowed { window, fold }), "window in {q:?}");
+    }
+}
+
+/// "Refusal 2 remains for molecules only." Slices that differ in length are refused by 1 on either side; the work slice is that of m = 0.
+#[test]
+fn refusals_with_the_empty_motif() {
+    let (empty, a) = (l("", &[]), l("A", &[0]));
+    let rows: [(lakhido::Strand, lakhido::Strand, usize, Option<Refused>); 8] = [
+        (l("", &[0]), empty, 0, Some(Refused(1, 0, 0))),
+        (l("A", &[]), empty, 0, Some(Refused(1, 0, 0))),
+        (empty, l("", &[0]), 0, Some(Refused(1, 1, 0))),
+        (empty, empty, 0, Some(Refused(2, 1, 0))),
+        (a, empty, 0, Some(Refused(2, 1, 0))),
+        (empty, l("ACGU", &[2, 3, 0, 1]), 0, Some(Refused(7, 1, 1))),
+        (empty, a, 71, Some(Refused(8, 2, 0))),
+        (empty, a, 72, None),
+    ];
+    for (p, q, size, expected) in rows {
+        let mut work = vec![0; size];
+        assert_eq!(lakhido::length(p, q, &mut work).map_err(refused).err(), expected, "length of {p:?}, {q:?}, work {size}");
+        assert_eq!(lakhido::show(p, q, &mut [], &mut work).map_err(refused).err(), expected, "show of {p:?}, {q:?}, work {size}");
+        assert_eq!(lakhido::window(p, q, &mut work).map_err(refused).err(), expected, "window of {p:?}, {q:?}, work {size}");
+    }
+    let (mut catalog, mut cache) = ([0; BLOCK], [0; BLOCK]);
+    assert_eq!(lakhido::add(&mut catalog, &mut cache, 0, empty).map_err(refused), Err(Refused(2, 1, 0)));
+    for (p, size, hits, expected) in [(l("", &[0]), 0, 0, 1), (empty, 64 + 8 * 160, 0, 9), (empty, 63 + 8 * 160, 1, 8)] {
+        let answer = lakhido::query(&catalog, &mut cache, p, &mut vec![0; size], &mut vec![0; hits]).map_err(refused);
+        assert_eq!(answer, Err(Refused(expected, if expected == 1 { 0 } else { 2 }, 0)), "query of {p:?}, work {size}, hits {hits}");
+    }
+}
+
 #[test]
 fn refusals() {
     let check = |q| lakhido::check(q).map_err(refused);
@@ -158,23 +208,80 @@ fn refusals() {
     assert_eq!(found.map_err(refused), Err(Refused(3, 0, 0)));
 }
 
+/// A query with room for every hit: the answer, and the hits.
+fn query(catalog: &[u8], cache: &mut [u8], motif: lakhido::Strand) -> (Found, Vec<u16>) {
+    let (mut work, mut hits) = (vec![0; 64 * (motif.bases.len() + 1) + 8 * 160], vec![0; catalog.len() / BLOCK]);
+    let found = lakhido::query(catalog, cache, motif, &mut work, &mut hits).unwrap();
+    (found, hits[..found.count].to_vec())
+}
+
 #[test]
 fn the_history() {
-    let (mut catalog, mut cache, mut hits) = (vec![0; 2 * BLOCK], vec![0; BLOCK], [0; 2]);
+    let (mut catalog, mut cache) = (vec![0; 2 * BLOCK], vec![0; BLOCK]);
     let hairpin = Ok(Fold { arcs: 1, depth: 1 });
     assert_eq!(lakhido::add(&mut catalog, &mut cache, 0, l("GAC", &[2, 1, 0])), hairpin);
     assert_eq!(lakhido::add(&mut catalog, &mut cache, 1, l("GGC", &[2, 1, 0])), hairpin);
     let (bonded, free) = (l("GC", &[1, 0]), l("GC", &[0, 1]));
-    let mut query = |catalog: &[u8], cache: &mut [u8], motif| {
-        let found = lakhido::query(catalog, cache, motif, &mut [0; 64 * 3 + 8 * 160], &mut hits).unwrap();
-        (found, hits[..found.count].to_vec())
-    };
     assert_eq!(query(&catalog, &mut cache, bonded), (Found { count: 2, searched: 2 }, vec![0, 1]));
     assert_eq!(query(&catalog, &mut cache, bonded), (Found { count: 2, searched: 0 }, vec![0, 1]));
     assert_eq!(query(&catalog, &mut cache, free), (Found { count: 1, searched: 2 }, vec![1]));
     assert_eq!(query(&catalog, &mut cache, bonded), (Found { count: 2, searched: 2 }, vec![0, 1]));
     lakhido::remove(&mut catalog, &mut cache, 0).unwrap();
     assert_eq!(query(&catalog, &mut cache, bonded), (Found { count: 1, searched: 0 }, vec![1]));
+}
+
+/// "Query histories may contain it, and the hit rule covers it without an exception."
+#[test]
+fn a_history_with_the_empty_motif() {
+    let (mut catalog, mut cache, empty) = (vec![0; 3 * BLOCK], vec![0; BLOCK], l("", &[]));
+    lakhido::add(&mut catalog, &mut cache, 0, l("GAC", &[2, 1, 0])).unwrap();
+    lakhido::add(&mut catalog, &mut cache, 2, l("A", &[0])).unwrap();
+    assert_eq!(query(&catalog, &mut cache, empty), (Found { count: 2, searched: 2 }, vec![0, 2]));
+    assert_eq!(query(&catalog, &mut cache, empty), (Found { count: 2, searched: 0 }, vec![0, 2]));
+    for altered in [0, 1, 3] {
+        cache[0] = altered;
+        assert_eq!(query(&catalog, &mut cache, empty), (Found { count: 2, searched: 2 }, vec![0, 2]), "byte 0 of its entry is {altered}");
+    }
+    lakhido::remove(&mut catalog, &mut cache, 0).unwrap();
+    assert_eq!(query(&catalog, &mut cache, empty), (Found { count: 1, searched: 0 }, vec![2]));
+    lakhido::add(&mut catalog, &mut cache, 1, l("GGC", &[2, 1, 0])).unwrap();
+    assert_eq!(query(&catalog, &mut cache, empty), (Found { count: 2, searched: 1 }, vec![1, 2]));
+    assert_eq!(query(&catalog, &mut cache, l("A", &[0])), (Found { count: 1, searched: 2 }, vec![2]));
+    assert_eq!(query(&catalog, &mut cache, empty), (Found { count: 2, searched: 2 }, vec![1, 2]));
+}
+
+/// "It is kept with length 0 and key 0": in slot 0 of any cache, as byte 0 = 2, byte 1 = 0, the two maps and the checksum.
+#[test]
+fn the_entry_of_the_empty_motif() {
+    let (mut catalog, empty) = (vec![0; 12 * BLOCK], l("", &[]));
+    for d in [0, 11] {
+        lakhido::add(&mut catalog, &mut [0; BLOCK], d, l("A", &[0])).unwrap();
+    }
+    for slots in [1, 2, 64] {
+        let mut expected = vec![0; slots * BLOCK];
+        for (at, byte) in [(0, 2), (380, 1), (381, 8), (444, 1), (445, 8)] {
+            expected[at] = byte;
+        }
+        let sum: u32 = 2 + 381 + 382 * 8 + 445 + 446 * 8;
+        expected[508..512].copy_from_slice(&sum.to_le_bytes());
+        let mut cache = vec![0; slots * BLOCK];
+        query(&catalog, &mut cache, empty);
+        assert!(cache == expected, "{slots} slots: {:?}", &cache[..BLOCK]);
+    }
+}
+
+/// "and a motif block may have length 0": its bytes. In the catalog it is unsound.
+#[test]
+fn the_block_with_no_bases() {
+    let mut expected = [0; BLOCK];
+    (expected[0], expected[508]) = (1, 1);
+    let of_none = block::molecule_block(s("", &[]));
+    assert_eq!(of_none, expected);
+    let mut catalog = [block::molecule_block(s("A", &[0])), of_none].concat();
+    let (mut cache, unsound) = ([0; BLOCK], Refused(11, 2, 1));
+    assert_eq!(lakhido::add(&mut catalog, &mut cache, 1, l("A", &[0])).map_err(refused), Err(unsound));
+    assert_eq!(lakhido::remove(&mut catalog, &mut cache, 1).map_err(refused), Err(unsound));
+    assert_eq!(lakhido::query(&catalog, &mut cache, l("", &[]), &mut [0; 64 + 8 * 160], &mut [0; 2]).map_err(refused), Err(unsound));
 }
 
 #[test]

@@ -1,5 +1,5 @@
 //! Blocks of 512 bytes: checksum, soundness, encoding.
-use super::strand::{Strand, judge};
+use super::strand::{self, Strand, judge};
 
 pub const BLOCK: usize = 512;
 const MOLECULE_BASES: usize = 160;
@@ -8,6 +8,8 @@ const MOTIF_BASES: usize = 120;
 /// Where a kind of block has its content.
 pub struct Layout {
     pub kind: u8,
+    /// Of the strand that it holds: a molecule, or a motif, which may have no bases.
+    pub side: u32,
     pub most: usize,
     pub bases: usize,
     pub mates: usize,
@@ -15,8 +17,8 @@ pub struct Layout {
     pub maps: usize,
 }
 
-pub const MOLECULE: Layout = Layout { kind: 1, most: MOLECULE_BASES, bases: 28, mates: 188, maps: 508 };
-pub const ENTRY: Layout = Layout { kind: 2, most: MOTIF_BASES, bases: 20, mates: 140, maps: 380 };
+pub const MOLECULE: Layout = Layout { kind: 1, side: strand::MOLECULE, most: MOLECULE_BASES, bases: 28, mates: 188, maps: 508 };
+pub const ENTRY: Layout = Layout { kind: 2, side: strand::MOTIF, most: MOTIF_BASES, bases: 20, mates: 140, maps: 380 };
 pub const SEARCHED: usize = 380;
 pub const HIT: usize = 444;
 pub const CHECKSUM: usize = 508;
@@ -61,10 +63,10 @@ fn zero(bytes: &[u8]) -> bool {
     bytes.iter().all(|&b| b == 0)
 }
 
-/// Every rule of a block that is not empty.
+/// Every rule of a block that is not empty. The row 2 says that a molecule has a base.
 pub fn sound_full(layout: &Layout, block: &[u8]) -> bool {
     let n = block[1] as usize;
-    if block[0] != layout.kind || n == 0 || n > layout.most {
+    if block[0] != layout.kind || n > layout.most {
         return false;
     }
     if !zero(&block[2..layout.bases]) || !zero(&block[layout.bases + n..layout.mates]) || !zero(&block[layout.mates + 2 * n..layout.maps]) {
@@ -80,7 +82,7 @@ pub fn sound_full(layout: &Layout, block: &[u8]) -> bool {
     for (i, mate) in mates[..n].iter_mut().enumerate() {
         *mate = number(block, layout.mates + 2 * i);
     }
-    judge(Strand::new(&block[layout.bases..layout.bases + n], &mates[..n]), 0, layout.most).is_none()
+    judge(Strand::new(&block[layout.bases..layout.bases + n], &mates[..n]), layout.side, layout.most).is_none()
 }
 
 pub fn sound(layout: &Layout, block: &[u8]) -> bool {

@@ -57,26 +57,29 @@ fn is_letter(b: u8) -> bool {
     matches!(b, b'A' | b'C' | b'G' | b'U')
 }
 
-/// The rows 1 to 7 in their order, each with its place where it applies. A later row is asked only of what it can be read from: a mate beyond the
-/// mates there are has no mate of its own.
-const ROWS: [fn(Strand, usize) -> Option<usize>; 7] = [
-    |s, _| (s.bases.len() != s.mates.len()).then_some(0),
-    |s, _| s.bases.is_empty().then_some(0),
-    |s, most| (s.bases.len() > most).then_some(0),
-    |s, _| s.bases.iter().position(|&b| !is_letter(b)),
-    |s, _| s.mates.iter().position(|&k| k as usize >= s.bases.len()),
-    |s, _| (0..s.mates.len()).find(|&i| s.mates.get(s.mate(i)).is_none_or(|&back| back as usize != i)),
-    |s, _| lowest_crossing(s.mates),
+/// The place where a row applies to a strand, if it does; given are its side and the most bases it may have.
+type Row = fn(Strand, u32, usize) -> Option<usize>;
+
+/// The rows 1 to 7 in their order. A later row is asked only of what it can be read from: a mate beyond the mates there are has no mate of its own. 02, (iii):
+/// "Refusal 2 remains for molecules only."
+const ROWS: [Row; 7] = [
+    |s, _, _| (s.bases.len() != s.mates.len()).then_some(0),
+    |s, side, _| (side == MOLECULE && s.bases.is_empty()).then_some(0),
+    |s, _, most| (s.bases.len() > most).then_some(0),
+    |s, _, _| s.bases.iter().position(|&b| !is_letter(b)),
+    |s, _, _| s.mates.iter().position(|&k| k as usize >= s.bases.len()),
+    |s, _, _| (0..s.mates.len()).find(|&i| s.mates.get(s.mate(i)).is_none_or(|&back| back as usize != i)),
+    |s, _, _| lowest_crossing(s.mates),
 ];
 
 /// The first of the rows 1 to 7 that applies.
 pub fn judge(s: Strand, side: u32, most: usize) -> Option<Refused> {
-    (1..).zip(ROWS).find_map(|(number, row)| row(s, most).map(|place| Refused(number, side, place)))
+    (1..).zip(ROWS).find_map(|(number, row)| row(s, side, most).map(|place| Refused(number, side, place)))
 }
 
 /// All of the rows 1 to 7 that apply.
 pub fn judge_all(s: Strand, side: u32, most: usize) -> Vec<Refused> {
-    (1..).zip(ROWS).filter_map(|(number, row)| row(s, most).map(|place| Refused(number, side, place))).collect()
+    (1..).zip(ROWS).filter_map(|(number, row)| row(s, side, most).map(|place| Refused(number, side, place))).collect()
 }
 
 /// The arcs, left ends rising. Mates that are not mutual are taken as no arc.

@@ -16,8 +16,8 @@ none-requires c κs = search needs
 loop-holds : tie.Need-loop-holds Inv-loop μ-loop
 loop-holds c = search needs
 
-one-pair-requires : tie.Need-one-pair-requires Inv-loop μ-loop
-one-pair-requires c κs = search needs
+pair-requires : tie.Need-pair-requires Inv-loop μ-loop
+pair-requires c κs = search needs
 
 added-requires : tie.Need-added-requires Inv-loop μ-loop
 added-requires c κs = search needs
@@ -35,4 +35,4 @@ returns : tie.Need-returns Inv-loop μ-loop
 returns c = search needs
 
 pub pairs-spec : {M : Type 1} → statement M
-pairs-spec = tie.close (tie.spec Inv-loop μ-loop none-requires loop-holds one-pair-requires added-requires add-i loop-less loop-again returns)
+pairs-spec = tie.close (tie.spec Inv-loop μ-loop none-requires loop-holds pair-requires added-requires add-i loop-less loop-again returns)

@@ -3,8 +3,10 @@
 use borrow.Author.Needs.{needs}
 use native.Mathlib.Omega.{arith}
 use mathlib.Core.Path.{sym, _∙_}
+use Rattle.calls.specs.Buffers.{mostMotifBases}
 use Rattle.calls.proofs.JudgeLaws as judge
-use Rattle.strand.specs.Strands.{strandOf}
+use Rattle.refusals.specs.Rules.{motifSide}
+use Rattle.strand.specs.Strands.{strandOf, leastMotif}
 use Rattle.strand.proofs.VerdictLaws.{accepted-proper}
 use Rattle.search.proofs.judge.judge_query.Statement.{statement}
 use Rattle.search.proofs.judge.judge_query.Tie as tie
@@ -73,7 +75,7 @@ mul-if2 c =
     let at-start = at-check-strand .before .before .before .before .before .before .before .before in
     omega (
       arith,
-      accepted-proper 0 1 120 (at-start .args .p .now) (at-start .args .pm .now)
+      accepted-proper motifSide leastMotif mostMotifBases (at-start .args .p .now) (at-start .args .pm .now)
           (sym (at-check-strand .check-strand .ensures) ∙ at-enum-told2 .enum-told2 .given .1) .small,
     )
 
@@ -87,7 +89,7 @@ add-if2-2 c =
     let at-start = at-check-strand .before .before .before .before .before .before .before .before in
     omega (
       arith,
-      accepted-proper 0 1 120 (at-start .args .p .now) (at-start .args .pm .now)
+      accepted-proper motifSide leastMotif mostMotifBases (at-start .args .p .now) (at-start .args .pm .now)
           (sym (at-check-strand .check-strand .ensures) ∙ at-enum-told2 .enum-told2 .given .1) .small,
     )
 

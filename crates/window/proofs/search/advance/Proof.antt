@@ -31,7 +31,7 @@ returns c =
     let at-larger = at-next-begin .before in
     let at-less = at-larger .before in
     let at-start = at-less .before .before .before .before .before in
-    gone-on (at-start .pre .0 .enough) (at-start .pre .0 .nested .inside) (at-start .pre .1 .1 .0) _ _ _ (at-start .pre .1 .1 .1 .0)
+    gone-on (at-start .pre .0 .1) (at-start .pre .0 .0 .nested .inside) (at-start .pre .1 .1 .0) _ _ _ (at-start .pre .1 .1 .1 .0)
     (at-larger .larger .ensures ∙ ap (max _) (at-less .less .ensures)) (at-next-begin .next-begin .ensures) (c .larger2 .ensures)
 
 pub advance-spec : {M : Type 1} → statement M

@@ -33,7 +33,7 @@ still-carries-requires c κs =
               at-larger .larger .ensures,
               at-less .less .ensures,
               at-start .pre .1 .1 .1 .1,
-              carried-long (at-start .pre .0 .motif .enough) _ _ (at-start .pre .1 .1 .0 .here),
+              carried-long (at-start .pre .0 .base) _ _ (at-start .pre .1 .1 .0 .here),
             ),
             at-start .pre .1 .1 .1 .0,
           ),
@@ -70,7 +70,7 @@ returns c =
 sub-last-start : tie.Need-sub-last-start
 sub-last-start c =
     let at-start = c .before .before .before .before .before .before .before .before .before .before .before .before .before .before .before .before .before in
-    omega (arith, carried-long (at-start .pre .0 .motif .enough) _ _ (at-start .pre .1 .1 .0 .here))
+    omega (arith, carried-long (at-start .pre .0 .base) _ _ (at-start .pre .1 .1 .0 .here))
 
 last-start-requires : tie.Need-last-start-requires
 last-start-requires c κs =
@@ -80,7 +80,7 @@ last-start-requires c κs =
       ready-again (at-start .pre .0) (at-still-carries .still-carries .ensures .1) (at-still-carries .still-carries .kept .1 .1 .1 .1 .1 .1 .1 .1 .0),
       (
         (omega arith, at-start .pre .1 .1 .1 .0),
-        starts-from (at-start .pre .0 .motif .enough) (at-still-carries .still-carries .ensures .0 .yes (not-false _ (at-if1 .if1 .left))),
+        starts-from (at-start .pre .0 .base) (at-still-carries .still-carries .ensures .0 .yes (not-false _ (at-if1 .if1 .left))),
       ),
     )
 
@@ -118,8 +118,8 @@ returns-2 c =
             (at-last-start .last-start .ensures .0 .1 .0) (omega (
               arith,
               at-last-start .last-start .ensures .0 .1 .1,
-              at-start .pre .0 .motif .enough,
-              carried-long (at-start .pre .0 .motif .enough) _ _ (at-start .pre .1 .1 .0 .here),
+              at-start .pre .0 .base,
+              carried-long (at-start .pre .0 .base) _ _ (at-start .pre .1 .1 .0 .here),
             )),
         refl,
       ),

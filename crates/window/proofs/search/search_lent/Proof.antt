@@ -20,7 +20,7 @@ abbrev μ-loop : tie.MeasureT-loop
 prepare-requires : tie.Need-prepare-requires Inv-loop μ-loop
 prepare-requires c κs =
     let at-start = c .before .before .before .before .before .before .before in
-    ((at-start .pre .0 .same, at-start .pre .0 .small), (at-start .pre .0 .nested, omega (arith, at-start .pre .1 .1 .1)))
+    ((at-start .pre .0 .0 .same, at-start .pre .0 .0 .small), (at-start .pre .0 .0 .nested, omega (arith, at-start .pre .1 .1 .1)))
 
 add-t12 : tie.Need-add-t12 Inv-loop μ-loop
 add-t12 c =
@@ -48,7 +48,7 @@ returns : tie.Need-returns Inv-loop μ-loop
 returns c =
     let at-loop = c .before .before .before .before in
     let at-start = at-loop .before .before .before .before .before .before .before .before .before .before .before in
-    found-short (at-loop .loop .inv .0) (at-start .pre .0 .enough) (c .if2 .taken)
+    found-short (at-loop .loop .inv .0) (at-start .pre .0 .1) (c .if2 .taken)
 
 step-requires : tie.Need-step-requires Inv-loop μ-loop
 step-requires c κs =
@@ -57,12 +57,13 @@ step-requires c κs =
     let at-loop = at-if1 .before .before in
     let at-start = at-loop .before .before .before .before .before .before .before .before .before .before .before in (
       record {
-        motif = at-start .pre .0;
+        motif = at-start .pre .0 .0;
+        base = at-start .pre .0 .1;
         molecule = at-start .pre .1 .0;
         made = at-loop .loop .inv .1;
         room = omega (arith, at-start .pre .1 .1 .0, at-loop .loop .inv .3);
       },
-      (at-loop .loop .inv .0, (at-if1 .if1 .taken, omega (arith, at-if2 .if2 .left, at-start .pre .0 .enough))),
+      (at-loop .loop .inv .0, (at-if1 .if1 .taken, omega (arith, at-if2 .if2 .left, at-start .pre .0 .1))),
     )
 
 loop-less : tie.Need-loop-less Inv-loop μ-loop

@@ -10,7 +10,7 @@ slice-aggregate-search-lent c = search needs
 search-lent-requires : tie.Need-search-lent-requires
 search-lent-requires c κs =
     let at-start = c .before .before .before .before .before .before .before in
-    (at-start .pre .0, (at-start .pre .1 .0, (at-start .pre .1 .1, omega (arith, at-start .pre .0 .small, at-start .pre .1 .0 .small))))
+    (at-start .pre .0, (at-start .pre .1 .0, (at-start .pre .1 .1, omega (arith, at-start .pre .0 .0 .small, at-start .pre .1 .0 .small))))
 
 same-length : tie.Need-same-length
 same-length c = search needs
