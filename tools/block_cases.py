@@ -4,6 +4,8 @@ Each line has 48 bytes: a letter, three numbers of five digits, and a name or a 
 crates/block_test/src/cases.rt. The expected answers are those of `lakhido_model`.
 The image is three blocks and a byte; the strand has room for 162 bases; the two maps have room for 65 bytes.
 """
+import collections
+import itertools
 import random
 
 from lakhido_model import (BLOCK, CHECKSUM_AT, ENTRY, FORMS, HITS_AT, LETTERS, LONGEST_MOLECULE, LONGEST_MOTIF, MAP, MOLECULE, MOTIF, SEARCHED_AT, checksum,
@@ -106,6 +108,17 @@ class Cases:
         seal(block)
         self.set_block(0, block)
         self.ask('X', i, v, 1000 * NUMBERS[form] + 100 * old + 10 * right + sound(form, block), name)
+
+    def off(self, form, wrong, name=''):
+        """Another checksum. The line of the last byte that differs asks, and makes the checksum right again."""
+        told = wrong.to_bytes(BLOCK - CHECKSUM_AT, 'little')
+        differing = [i for i in range(CHECKSUM_AT, BLOCK) if self.image[i] != told[i - CHECKSUM_AT]]
+        for i in differing[:-1]:
+            self.store(i, told[i - CHECKSUM_AT])
+        for i in differing[-1:]:
+            self.damage(form, i, told[i - CHECKSUM_AT], name)
+        if not differing:
+            self.judge(form, name=name)
 
     # the strand into the image, and out of it
     def encoded(self, form):
@@ -498,6 +511,187 @@ def kept_numbers(t):
     t.end('entry, no bases, numbers')
 
 
+# ---- 02, (iv): soundness in one pass. A block is wrong in one stretch of those that the pass walks, in its bytes or in how they are summed.
+
+Stretch = collections.namedtuple('Stretch', 'name start end')
+
+
+def stretches(form, n):
+    """The stretches of a block of n bases that have bytes."""
+    names = ['byte 0', 'byte 1', 'head', 'letters', 'unused bases', 'mates', 'unused mates']
+    at = [0, 1, 2, form.bases_at, form.bases_at + n, form.mates_at, form.mates_at + 2 * n, form.mates_end]
+    if form is ENTRY:
+        names, at = names + ['searched', 'hits'], at + [HITS_AT, CHECKSUM_AT]
+    return [Stretch(name, a, b) for name, a, b in zip(names, at, at[1:]) if a < b]
+
+
+def few_arcs(n):
+    """One around all other bases; from 40 bases on two side by side in it, and one in the first."""
+    return [(0, n - 1)] + ([(1, n // 2), (5, 9), (n // 2 + 1, n - 2)] if n >= 40 else [])
+
+
+def lay(t, form, n, arcs=()):
+    """A strand with these arcs, in a block. An entry has the maps as they are."""
+    t.new(n, n, 300 + n, '%d bases, %d arcs' % (n, len(arcs)))
+    for i, j in arcs:
+        t.arc(i, j)
+    t.write(form)
+    t.judge(form)
+
+
+def places(stretch):
+    """First and last; of letters the middle too, and of mates both bytes of the first and of the last."""
+    a, b = stretch.start, stretch.end - 1
+    return sorted({a, b} | {'letters': {(a + b) // 2}, 'mates': {a + 1, b - 1}}.get(stretch.name, set()))
+
+
+def other_bytes(t, form, n, flips):
+    """One byte of each stretch is another, in one bit or in all."""
+    for stretch in stretches(form, n):
+        for i in places(stretch):
+            t.damage(form, i, t.image[i] ^ next(flips), stretch.name)
+
+
+def wrong_sums(block, form, n):
+    """Sums that leave out a stretch, or count it with weights one too small or one too large. A stretch of zeros gives the right sum. Each sum stands once."""
+    right, sums = checksum(block), {}
+    for name, start, end in stretches(form, n):
+        weighted, plain = sum((i + 1) * block[i] for i in range(start, end)), sum(block[start:end])
+        for wrong, how in ((right - weighted, 'left out'), (right - plain, 'weights less'), (right + plain, 'weights more')):
+            sums.setdefault(wrong, '%s, %s' % (name, how))
+    return sums
+
+
+def other_sums(t, form, n):
+    """The block is right but for its checksum: a wrong sum, or one more or less in one byte."""
+    for wrong, name in wrong_sums(t.block(0), form, n).items():
+        t.off(form, wrong, name)
+    for i in range(CHECKSUM_AT, BLOCK):
+        for by in (1, 255):
+            t.damage(form, i, (t.image[i] + by) % 256, 'checksum, off by one')
+
+
+def high_bytes(t, form, n):
+    """A mate's high byte is not 0, and the checksum does not count it, counts it with the low byte's weight, or counts the mate as one number."""
+    without = checksum(t.image)
+    for i in (form.mates_at, form.mates_at + 2 * n - 2):
+        t.store(i + 1, 1)
+        for more, name in ((0, 'left out'), (i + 1, 'low weight'), (256 * (i + 1), 'as a number')):
+            t.off(form, without + more, 'high byte, ' + name)
+        t.store(i + 1, 0)
+        t.check()
+
+
+# Lengths, with and without arcs. Those of the second list have wrong checksums too.
+LAID = {
+    MOLECULE: ([(1, 0), (2, 1), (40, 0), (159, 1), (160, 0)], [(40, 1), (160, 1)]),
+    MOTIF: ([(0, 0), (2, 1), (40, 1), (159, 0)], [(160, 1)]),
+    ENTRY: ([(1, 0), (2, 1), (40, 1), (119, 0), (120, 0)], [(0, 0), (120, 1)]),
+}
+
+
+def some_numbers(t):
+    """Numbers in the first bytes of both maps, in the middle, and in the last."""
+    t.maps()
+    for d, which in ((0, 1), (1, 3), (300, 1), (301, 3), (510, 3), (511, 1)):
+        t.mark(d, which)
+
+
+def all_numbers(t, n):
+    """Every number is searched and a hit: the checksum has four bytes."""
+    for i in range(SEARCHED_AT, CHECKSUM_AT):
+        t.store(i, 255)
+    t.check()
+    assert t.image[BLOCK - 1] == 1
+    t.judge(ENTRY)
+    other_sums(t, ENTRY, n)
+
+
+def one_pass(t, form):
+    """The empty block, and those of LAID."""
+    flips = itertools.cycle((1, 2, 128, 255, 4))
+    t.zero(0)
+    other_bytes(t, form, 0, flips)
+    some_numbers(t)
+    for summed, laid in enumerate(LAID[form]):
+        for n, with_arcs in laid:
+            lay(t, form, n, few_arcs(n) if with_arcs else ())
+            other_bytes(t, form, n, flips)
+            if summed:
+                other_sums(t, form, n)
+    high_bytes(t, form, n)
+    if form is ENTRY:
+        all_numbers(t, n)
+    t.end(NAMES[form] + ', each stretch')
+
+
+def all_values(t):
+    """Bytes 0 and 1 and a base have every value. A motif block differs from a molecule block in its least length alone."""
+    for form in (MOLECULE, ENTRY):
+        lay(t, form, 40, few_arcs(40))
+        for i in (0, 1, form.bases_at + 20):
+            for v in range(256):
+                t.damage(form, i, v)
+    lay(t, MOTIF, 1)
+    for i, v in itertools.product((0, 1), (0, 1, 2, 3, 159, 160, 161, 255)):
+        t.damage(MOTIF, i, v)
+    t.end('all values of a byte')
+
+
+def agreeing(n):
+    """Mates in range that are not nested, though each has the level of its own mate: the number of arcs that are open there."""
+    for mates in itertools.product(range(n), repeat=n):
+        opened = [sum(mate > k for k, mate in enumerate(mates[:i])) - sum(mate < k for k, mate in enumerate(mates[:i + 1])) for i in range(n)]
+        if not nested(mates) and all(opened[i] == opened[mate] for i, mate in enumerate(mates)):
+            yield mates
+
+
+def mates_stored(t, form, mates):
+    """Low bytes of mates; the last line asks, with the checksum made right."""
+    at = form.mates_at
+    *before, last = [i for i, mate in enumerate(mates) if t.image[at + 2 * i] != mate] or [0]
+    for i in before:
+        t.store(at + 2 * i, mates[i])
+    t.damage(form, at + 2 * last, mates[last])
+
+
+def few_mates(t):
+    """Of three bases all mates up to 3, which is none; of four those whose levels agree by chance, and those that name each base once and are not nested."""
+    lay(t, MOLECULE, 3)
+    for mates in itertools.product(range(4), repeat=3):
+        mates_stored(t, MOLECULE, mates)
+    once = [mates for mates in itertools.permutations(range(4)) if not nested(mates)]
+    lay(t, ENTRY, 4)
+    for mates in (*agreeing(4), *once):
+        mates_stored(t, ENTRY, mates)
+    t.end('mates of few bases')
+
+
+def long_bonds(t):
+    """Arcs in their order: where a base has two, its mate is the later, and the former names it in vain. A motif block holds as many as a molecule block."""
+    for form in (MOLECULE, ENTRY):
+        n = form.longest
+        h = n // 2
+        for name, pairs in (
+            ('side by side, nested', [(0, h), (1, 2), (h + 1, n - 1), (h + 2, n - 2)]),
+            ('crossing, the ends', [(0, n - 2), (1, n - 1)]), ('crossing, the middle', [(0, h), (h - 1, n - 1)]),
+            ('crossing, the first', [(0, 2), (1, 3)]), ('crossing, the last', [(n - 4, n - 2), (n - 3, n - 1)]),
+            ('crossing, in an arc', [(0, n - 1), (3, h), (h - 1, n - 2)]),
+            ('three, each crosses', [(0, h), (20, n - 20), (40, n - 1)]), ('three, the middle crosses', [(0, 20), (10, n - 10), (h, n - 1)]),
+            ('one base named twice', [(0, n - 1), (0, n - 2)]), ('the last named twice', [(0, n - 1), (1, n - 1)]),
+            ('one base named three times', [(h, 3), (h, n - 1), (h, 5)]), ('named in a row', [(i, i + 1) for i in range(n - 5, n - 1)]),
+        ):
+            t.new(n, n, 77, name)
+            for i, j in pairs:
+                t.arc(i, j)
+            t.write(form)
+            t.judge(form)
+        lay(t, form, n, few_arcs(n))
+        for i, v in ((0, n), (0, n - 2), (n - 1, n), (n - 1, 1), (h, n), (3, h), (n - 1, 255)):
+            t.damage(form, form.mates_at + 2 * i, v, 'the mate of base %d' % i)
+    t.end('bonds of the longest')
+
+
 def first(t):
     t.new(1, 1, 0, 'A, 0')
     t.write(MOLECULE, name='checksum 1888')
@@ -518,4 +712,8 @@ def files():
     for part in (random_molecules, random_entries, no_bases_block, no_bases_entry):
         part(t, rng)
     kept_numbers(t)
+    for form in FORMS:
+        one_pass(t, form)
+    for part in (all_values, few_mates, long_bonds):
+        part(t)
     return {'crates/block_test/stdin': ''.join(t.lines), 'crates/block_test/stdout': ''.join(t.told)}

@@ -1,4 +1,5 @@
 pub mod SumLaws
+pub mod WalkLaws
 mod SoundLaws
 pub mod PartLaws
 mod Altered

@@ -1,19 +1,18 @@
 -- What each test of the soundness test decides.
 use mathlib.Core.Path.{_≡_, refl, sym, ap, _∙_}
-use mathlib.Core.Bool.{Bool, true, false, not, _&&_, _||_, or-true}
-use mathlib.Core.List.{List, _++_}
-use Prim.Native.Nat.{ℕ, _+_, _-_, _*_, _/_, _%_, _<_, _≤_}
+use mathlib.Core.Bool.{Bool, true, false, not, _&&_, _||_, or-true, or-false}
+use mathlib.Core.List.{List}
+use Prim.Native.Nat.{ℕ, _+_, _*_, _/_, _%_, _<_, _≤_}
 use native.Mathlib.Omega.{arith}
 use native.Mathlib.Decide.{ℕ-discrete, decLt}
-use lib.ListN.{length, take, drop, length-take, length-drop}
+use lib.ListN.{length, drop, length-take, length-drop}
 use lib.Dec.{eqb}
 use borrow.Author.Tests.{eq-eqb, ne-eqb, lt-leb, le-leb, eqb-true, not-true}
-use lib.Seq.{take-at, length-take-le, take-all}
-use Rattle.lists.specs.Vocabulary.{nth, every, all, between, lowest}
-use Rattle.strand.specs.Strands.{isLetter, notLetter, isNested}
-use Rattle.lists.proofs.ListLaws.{length-tab, every-at, every-true, and-left, and-right, never, is-true, both-ways, every-lowest}
-use Rattle.octets.specs.Octets.{isZero, words, bitOf, mapBit}
-use Rattle.block.specs.Content.{checksumOk, Kind, moleculeKind, entryKind, matesAt, isEmpty, lengthIn, matesIn}
+use Rattle.lists.specs.Vocabulary.{nth, every, all, between}
+use Rattle.strand.specs.Strands.{isLetter, isNested}
+use Rattle.lists.proofs.ListLaws.{every-at, every-true, and-left, and-right, never, is-true, both-ways, zeros-not}
+use Rattle.octets.specs.Octets.{isZero, words, word32, bitOf, mapBit}
+use Rattle.block.specs.Content.{sumTo, checksumOf, checksumOk, Kind, moleculeKind, entryKind, matesAt, isEmpty, lengthIn, matesIn}
 use Rattle.octets.specs.Bits.{bitsWithin}
 use Rattle.block.proofs.PartLaws.{matesEnd}
 use Rattle.block.specs.Block.{blockOf, blockCount, baseBytesOk, mateBytesOk, bytesWith, bytesOk, contentOk, hitOk, hitsOk, strandRules, entryRules}
@@ -40,6 +39,23 @@ module _ (side blank start most n : ℕ) (s : List ℕ) where
 pub unused-mates : (at most n : ℕ) (s : List ℕ) → all isZero (between (at + 2 * n) (at + 2 * most) s) ≡ mateBytesOk at most n s
 unfolding mateBytesOk
 unused-mates at most n s = refl
+
+last-false : (a b : Bool) → b ≡ false → false ≡ (a && b)
+last-false true b e = sym e
+last-false false b e = refl
+
+last-true : (a b : Bool) → b ≡ true → a ≡ (a && b)
+last-true true b e = sym e
+last-true false b e = refl
+
+-- The bytes of the mates: nested, and zeros behind them.
+module _ (at most n : ℕ) (s : List ℕ) where
+  pub not-nested : isNested (words n (drop at s)) ≡ false → false ≡ (mateBytesOk at most n s && isNested (words n (drop at s)))
+  not-nested h = last-false (mateBytesOk at most n s) _ h
+
+  pub nested-unused : isNested (words n (drop at s)) ≡ true
+      → all isZero (between (at + 2 * n) (at + 2 * most) s) ≡ (mateBytesOk at most n s && isNested (words n (drop at s)))
+  nested-unused h = unused-mates at most n s ∙ last-true (mateBytesOk at most n s) _ h
 
 module _ (k : Kind) (n : ℕ) (s : List ℕ) where
   pub other-mark : (nth s 0 ≡ k .mark → ⊥) → false ≡ bytesWith k n s
@@ -75,6 +91,13 @@ module _ (k : Kind) (s : List ℕ) where
   unfolding contentOk
   all-but-nested h = rw h
 
+  -- Kind, length and bases are right.
+  pub content-mates : nth s 0 ≡ k .mark → k .least ≤ lengthIn s → lengthIn s ≤ k .most
+      → baseBytesOk (k .side) (k .blank) (k .start) (k .most) (lengthIn s) s ≡ true
+      → (mateBytesOk (matesAt k) (k .most) (lengthIn s) s && isNested (matesIn k s)) ≡ contentOk k s
+  unfolding contentOk
+  content-mates h1 h2 h3 h4 = ap (λ (b : Bool). b && isNested (matesIn k s)) (all-but-mates k (lengthIn s) s h1 h2 h3 h4)
+
 -- What bytes that pass say, fact by fact.
 pub record RightBytes (k : Kind) (s : List ℕ) : Type 0 where
   pub marked : nth s 0 ≡ k .mark
@@ -85,7 +108,7 @@ pub record RightBytes (k : Kind) (s : List ℕ) : Type 0 where
   pub unused : all isZero (between (k .start + lengthIn s) (matesAt k) s) ≡ true
   pub unused₂ : all isZero (between (matesAt k + 2 * lengthIn s) (matesEnd k) s) ≡ true
 
-pub right-bytes : (k : Kind) (s : List ℕ) → bytesOk k s ≡ true → RightBytes k s
+right-bytes : (k : Kind) (s : List ℕ) → bytesOk k s ≡ true → RightBytes k s
 right-bytes k s e =
     record {
       marked = h1;
@@ -131,11 +154,7 @@ facts k s e = record {
       (matesIn k s)) e;
 }
 
--- ---- letters, hit bits
-
-pub letters-is : (side : ℕ) (bases : List ℕ) (r : ℕ) → r ≡ lowest (length bases) (notLetter side bases) → eqb r (length bases) ≡ all (isLetter side) bases
-unfolding notLetter
-letters-is side bases r is = every-lowest (λ i. isLetter side (nth bases i)) (length bases) r is
+-- ---- hit bits
 
 -- The bits of byte j of the hit map lie within those of byte j of the searched map.
 abbrev pub hitByte : List ℕ → ℕ → Bool
@@ -163,6 +182,16 @@ hits-bytes s = both-ways (every 64 (hitByte s)) (every 512 (hitOk s)) to from
 
 -- ---- the whole block: of a strand, and of a cache
 
+-- A block whose first byte is not 0 is not empty.
+begins-filled : (s : List ℕ) → length s ≡ 512 → (nth s 0 ≡ 0 → ⊥) → isEmpty s ≡ false
+unfolding isEmpty
+begins-filled s hl h = zeros-not s 0 (omega arith) h
+
+-- The sum that the walk gathered against the checksum that the block has.
+pub sum-check : (s : List ℕ) {sum has : ℕ} → sum ≡ sumTo s 508 → has ≡ word32 s 508 → eqb sum has ≡ checksumOk s
+unfolding checksumOk checksumOf
+sum-check s e h = rw (e, h)
+
 module _ (k : Kind) (s : List ℕ) where
   pub strand-length : (length s ≡ 512 → ⊥) → false ≡ soundStrand k s
   unfolding soundStrand
@@ -173,14 +202,21 @@ module _ (k : Kind) (s : List ℕ) where
     unfolding soundStrand isEmpty
     strand-zero h = rw (eq-eqb (length s) 512 hl, h)
 
-    module _ (hz : all isZero s ≡ false) where
+    -- A block that begins with 0 has no kind.
+    pub strand-unmarked : 0 < k .mark → nth s 0 ≡ 0 → all isZero s ≡ soundStrand k s
+    unfolding soundStrand strandRules isEmpty contentOk
+    strand-unmarked h e =
+        let wrong : bytesOk k s ≡ false = sym (other-mark k (lengthIn s) s (λ q. omega arith)) in
+        rw (eq-eqb (length s) 512 hl, wrong) (sym (or-false (all isZero s)))
+
+    module _ (hz : nth s 0 ≡ 0 → ⊥) where
       pub strand-content : contentOk k s ≡ false → false ≡ soundStrand k s
-      unfolding soundStrand strandRules isEmpty
-      strand-content h = rw (eq-eqb (length s) 512 hl, hz, h)
+      unfolding soundStrand strandRules
+      strand-content h = rw (eq-eqb (length s) 512 hl, begins-filled s hl hz, h)
 
       pub strand-check : contentOk k s ≡ true → checksumOk s ≡ soundStrand k s
-      unfolding soundStrand strandRules isEmpty
-      strand-check h = rw (eq-eqb (length s) 512 hl, hz, h)
+      unfolding soundStrand strandRules
+      strand-check h = rw (eq-eqb (length s) 512 hl, begins-filled s hl hz, h)
 
     pub strand-rules : contentOk k s ≡ true → checksumOk s ≡ true → soundStrand k s ≡ true
     unfolding soundStrand strandRules
@@ -196,18 +232,24 @@ module _ (s : List ℕ) where
     unfolding soundEntry isEmpty
     entry-zero h = rw (eq-eqb (length s) 512 hl, h)
 
-    module _ (hz : all isZero s ≡ false) where
+    pub entry-unmarked : nth s 0 ≡ 0 → all isZero s ≡ soundEntry s
+    unfolding soundEntry entryRules isEmpty contentOk
+    entry-unmarked e =
+        let wrong : bytesOk entryKind s ≡ false = sym (other-mark entryKind (lengthIn s) s (λ q. omega arith)) in
+        rw (eq-eqb (length s) 512 hl, wrong) (sym (or-false (all isZero s)))
+
+    module _ (hz : nth s 0 ≡ 0 → ⊥) where
       pub entry-content : contentOk entryKind s ≡ false → false ≡ soundEntry s
-      unfolding soundEntry entryRules isEmpty
-      entry-content h = rw (eq-eqb (length s) 512 hl, hz, h)
+      unfolding soundEntry entryRules
+      entry-content h = rw (eq-eqb (length s) 512 hl, begins-filled s hl hz, h)
 
       pub entry-hits : contentOk entryKind s ≡ true → hitsOk s ≡ false → false ≡ soundEntry s
-      unfolding soundEntry entryRules isEmpty
-      entry-hits h k = rw (eq-eqb (length s) 512 hl, hz, h, k)
+      unfolding soundEntry entryRules
+      entry-hits h k = rw (eq-eqb (length s) 512 hl, begins-filled s hl hz, h, k)
 
       pub entry-check : contentOk entryKind s ≡ true → hitsOk s ≡ true → checksumOk s ≡ soundEntry s
-      unfolding soundEntry entryRules isEmpty
-      entry-check h k = rw (eq-eqb (length s) 512 hl, hz, h, k)
+      unfolding soundEntry entryRules
+      entry-check h k = rw (eq-eqb (length s) 512 hl, begins-filled s hl hz, h, k)
 
     pub entry-rules : contentOk entryKind s ≡ true → hitsOk s ≡ true → checksumOk s ≡ true → soundEntry s ≡ true
     unfolding soundEntry entryRules
@@ -288,16 +330,3 @@ module _ (s : List ℕ) where
 -- A buffer that ends before block d has no such block.
 pub no-block : (buf : List ℕ) (d : ℕ) → blockCount buf ≤ d → length (blockOf d buf) ≡ 512 → ⊥
 no-block buf d h e = omega (arith, h, simp (length-take, length-drop) at e)
-
--- ---- mates read into the first n places of d, whose rest is q
-
-pub first-length : (n : ℕ) (d p q : List ℕ) → n ≤ length d → length p ≡ length (take n d) → n ≡ length (take n (p ++ q))
-first-length n d p q h e = sym (ap length (take-at p q n (e ∙ length-take-le n d h)) ∙ e ∙ length-take-le n d h)
-
-pub first-read : (s d p q : List ℕ) (at n : ℕ) → n ≤ length d → p ≡ words (length (take n d)) (take (length s - at) (drop at s))
-    → take n (p ++ q) ≡ words n (drop at s)
-first-read s d p q at n h e =
-    take-at p q n (ap length e ∙ length-tab _ (length (take n d)) ∙ length-take-le n d h)
-    ∙ e
-    ∙ ap (λ (k : ℕ). words k (take (length s - at) (drop at s))) (length-take-le n d h)
-    ∙ ap (words n) (take-all (length s - at) (drop at s) (simp length-drop (omega arith)))

@@ -1,6 +1,5 @@
 -- The weighted sum of a block: one byte more, a bound, the bytes it depends on, and one byte changed. The checksum of whole blocks and of less.
 use mathlib.Core.Path.{_≡_, refl, sym, ap, ap₂, _∙_}
-use mathlib.Core.Bool.{Bool, false}
 use mathlib.Core.List.{List, [], _∷_, _++_, append-nil, append-assoc}
 use mathlib.Core.Logic.{⊎-elim}
 use Prim.Native.Nat.{ℕ, zero, suc, _+_, _*_, _<_, _≤_}
@@ -13,8 +12,8 @@ use borrow.Author.Tests.{le-leb, lt-leb}
 use Rattle.lists.specs.Vocabulary.{nth}
 use Rattle.lists.proofs.ListLaws.{choose-yes, choose-no}
 use Rattle.octets.specs.Octets.{Bytes}
-use Rattle.block.specs.Content.{sumTo, checksumOk, rechecked}
-use Rattle.block.specs.Inner.{checksumRight, recheckedWhole}
+use Rattle.block.specs.Content.{sumTo, rechecked}
+use Rattle.block.specs.Inner.{recheckedWhole}
 
 pub sum-none : (s : List ℕ) → sumTo s 0 ≡ 0
 unfolding sumTo
@@ -99,17 +98,6 @@ sum-walk s = let e : length s ≡ 0 + length s = omega arith in ap (sumTo s) e �
 -- ---- whole blocks, and less
 
 module _ (s : List ℕ) where
-  pub right-short : length s < 512 → false ≡ checksumRight s
-  unfolding checksumRight
-  right-short h = rw (lt-leb 512 (length s) h)
-
-  pub right-whole : 512 ≤ length s → checksumRight s ≡ checksumOk s
-  unfolding checksumRight
-  right-whole h = rw (le-leb 512 (length s) h)
-
-  pub right-is : (b : Bool) → 512 ≤ length s → b ≡ checksumOk s → b ≡ checksumRight s
-  right-is b h e = e ∙ sym (right-whole h)
-
   pub rechecked-short : length s < 512 → s ≡ recheckedWhole s
   unfolding recheckedWhole
   rechecked-short h = sym (choose-no _ (rechecked s) s (lt-leb 512 (length s) h))

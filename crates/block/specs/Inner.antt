@@ -1,16 +1,12 @@
--- Only the functions inside this crate need this file: the checksum of any bytes, and a kind of block by its numbers.
+-- Only the functions inside this crate need this file: a checksum written into any bytes, and a kind of block by its numbers.
 use Prim.Native.Nat.{ℕ}
 use mathlib.Core.List.{List}
-use mathlib.Core.Bool.{Bool, _&&_}
 use lib.Dec.{leb}
 use lib.ListN.{length}
 use Rattle.lists.specs.Vocabulary.{choose}
-use Rattle.block.specs.Content.{blockSize, checksumOk, rechecked, Kind}
+use Rattle.block.specs.Content.{blockSize, rechecked, Kind}
 
--- Less than a block has no checksum, and none is written.
-unfoldable pub checksumRight : List ℕ → Bool
-checksumRight s = leb blockSize (length s) && checksumOk s
-
+-- Into less than a block no checksum is written.
 unfoldable pub recheckedWhole : List ℕ → List ℕ
 recheckedWhole s = choose (leb blockSize (length s)) (rechecked s) s
 

@@ -2,3 +2,4 @@
 pub mod checksum;
 pub mod layout;
 pub mod sound;
+mod walk;

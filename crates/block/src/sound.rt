@@ -1,70 +1,62 @@
-// The soundness test of a block, linear in the block.
+// The soundness test of a block: one walk over its content, which also gathers the sum that the checksum must be.
+use crate::checksum::checksum_in;
 use crate::layout;
+use crate::walk;
+use crate::walk::Passed;
 use refusals::numbers;
 ghost use mathlib.Core.Path.{_≡_};
-ghost use Prim.Native.Nat.{_+_, _*_, _≤_};
+ghost use mathlib.Core.Bool.{true, false, _&&_};
+ghost use Prim.Native.Nat.{_+_, _*_, _≤_, _<_};
 ghost use lib.ListN.{length, drop};
-ghost use Rattle.lists.specs.Vocabulary.{all};
-ghost use Rattle.strand.specs.Strands.{isLetter, isNested};
+ghost use Rattle.strand.specs.Strands.{isNested};
 ghost use Rattle.octets.specs.Octets.{words};
-ghost use Rattle.block.specs.Content.{blockSize, checksumAt, blockBases};
+ghost use Rattle.block.specs.Content.{blockSize, checksumAt, blockBases, sumTo};
 ghost use Rattle.block.specs.Inner.{kindOf};
-ghost use Rattle.block.specs.Block.{blockOf, baseBytesOk, mateBytesOk, bytesOk, contentOk, hitsOk, soundStrand, soundMolecule, soundEntry};
+ghost use Rattle.block.specs.Block.{blockOf, baseBytesOk, mateBytesOk, contentOk, soundStrand, soundMolecule, soundEntry};
 ghost use Rattle.block.specs.Motif.{soundMotif, holdsMotif};
 
-// Whether every byte is a letter of the side.
-fn all_letters(side: u8, s: &[u8]) -> bool
-    ensures { λ r. ⌜ r ≡ all (isLetter side) (now (s .entry)) ⌝ }
-{
-    strand::letters::lowest_non_letter(side, s) == s.len()
-}
-
-// Whether the n mates that lie from `at` are nested. They are read into the start of `out`.
-fn mates_nested_lent(s: &[u8], at: usize, n: usize, out: &mut [u16]) -> bool
-    requires { ⌜ (n ≤ length (now out)) × (at + 2 * n ≤ length (now s)) ⌝ }
-    ensures { λ r. ⌜ r ≡ isNested (words n (drop at (now (s .entry)))) ⌝ }
-{
-    octets::scan::read_words(&s[at..], &mut out[..n]);
-    strand::nesting::is_nested(&out[..n])
-}
-
-// The same with a slice of its own.
-fn mates_nested(s: &[u8], at: usize, n: usize) -> bool
-    requires { ⌜ (n ≤ blockBases) × (at + 2 * n ≤ length (now s)) ⌝ }
-    ensures { λ r. ⌜ r ≡ isNested (words n (drop at (now (s .entry)))) ⌝ }
-{
-    let mut mates = [0u16; layout::BLOCK_BASES];
-    mates_nested_lent(s, at, n, &mut mates)
-}
-
-// The bytes of n bases, with room for `most` from `start` on: zeros from `blank` on, letters of the side, zeros in unused places.
-fn base_bytes_ok(s: &[u8], side: u8, blank: usize, start: usize, most: usize, n: usize) -> bool
+// The bytes up to where the mates begin, of n bases with room for `most` from `start` on: the kind's own up to `blank`, zeros up to the bases, letters of
+// the side, zeros in unused places.
+fn base_bytes(s: &[u8], side: u8, blank: usize, start: usize, most: usize, n: usize) -> Passed
     requires { ⌜ (length (now s) ≡ blockSize) × (blank ≤ start) × (start + most ≤ checksumAt) × (n ≤ most) ⌝ }
-    ensures { λ r. ⌜ r ≡ baseBytesOk side blank start most n (now (s .entry)) ⌝ }
+    ensures { λ r. ⌜ r .ok ≡ baseBytesOk side blank start most n (now (s .entry)) ⌝ }
+    ensures { λ r. ⌜ (r .ok ≡ true → r .sum ≡ sumTo (now (s .entry)) (start + most)) ⌝ }
 {
     let e = start + n;
-    let f = start + most;
-    if !octets::scan::all_zero(&s[blank..start]) {
-        return false;
+    let head = walk::zeros(s, blank, start, walk::gather(s, 0, blank, 0));
+    if !head.ok {
+        return head;
     }
-    if !all_letters(side, &s[start..e]) {
-        return false;
+    let bases = walk::bases(s, side, start, e, head.sum);
+    if !bases.ok {
+        return bases;
     }
-    octets::scan::all_zero(&s[e..f])
+    walk::zeros(s, e, start + most, bases.sum)
 }
 
-// The bytes of n mates, with room for `most` from `at` on: zeros in unused places.
-fn mate_bytes_ok(s: &[u8], at: usize, most: usize, n: usize) -> bool
-    requires { ⌜ (length (now s) ≡ blockSize) × (at + 2 * most ≤ checksumAt) × (n ≤ most) ⌝ }
-    ensures { λ r. ⌜ r ≡ mateBytesOk at most n (now (s .entry)) ⌝ }
+// The bytes of n mates, with room for `most` from `at` on: nested mates, zeros in unused places.
+fn mate_bytes(s: &[u8], at: usize, most: usize, n: usize, sum: u32) -> Passed
+    requires { ⌜ (length (now s) ≡ blockSize) × (at + 2 * most ≤ checksumAt) × (n ≤ most) × (most ≤ blockBases) × (at + 2 * blockBases ≤ blockSize) ⌝ }
+    requires { ⌜ sum ≡ sumTo (now s) at ⌝ }
+    ensures { λ r. ⌜ r .ok ≡ (mateBytesOk at most n (now (s .entry)) && isNested (words n (drop at (now (s .entry))))) ⌝ }
+    ensures { λ r. ⌜ (r .ok ≡ true → r .sum ≡ sumTo (now (s .entry)) (at + 2 * most)) ⌝ }
 {
-    let g = at + 2 * n;
-    let h = at + 2 * most;
-    octets::scan::all_zero(&s[g..h])
+    let mates = walk::mates(s, at, n, sum);
+    if !mates.ok {
+        return mates;
+    }
+    walk::zeros(s, at + 2 * n, at + 2 * most, mates.sum)
 }
 
-// Kind, length, bytes of bases and of mates of a block of the kind with these numbers.
-fn bytes_ok(
+// What is told of a block whose kind or length is wrong.
+fn refused() -> Passed
+    ensures { λ r. ⌜ r .ok ≡ false ⌝ }
+{
+    Passed { sum: 0, ok: false }
+}
+
+// The content of a block of the kind with these numbers, up to where its mates end.
+fn content(
     s: &[u8],
     mark: u8,
     side: u8,
@@ -72,63 +64,32 @@ fn bytes_ok(
     most: usize,
     blank: usize,
     start: usize,
-) -> bool
-    requires { ⌜ (length (now s) ≡ blockSize) × (blank ≤ start) × (start + 3 * most ≤ checksumAt) ⌝ }
-    ensures { λ r. ⌜ r ≡ bytesOk (kindOf mark side least most blank start) (now (s .entry)) ⌝ }
+) -> Passed
+    requires { ⌜ (length (now s) ≡ blockSize) × (blank ≤ start) × (most ≤ blockBases) × (start + 3 * most ≤ checksumAt) ⌝ }
+    requires { ⌜ start + most + 2 * blockBases ≤ blockSize ⌝ }
+    ensures { λ r. ⌜ r .ok ≡ contentOk (kindOf mark side least most blank start) (now (s .entry)) ⌝ }
+    ensures { λ r. ⌜ (r .ok ≡ true → r .sum ≡ sumTo (now (s .entry)) (start + 3 * most)) ⌝ }
 {
     let k = s[0];
     if k != mark {
-        return false;
+        return refused();
     }
     let n = s[1] as usize;
     if n < least {
-        return false;
+        return refused();
     }
     if most < n {
-        return false;
+        return refused();
     }
-    if !base_bytes_ok(s, side, blank, start, most, n) {
-        return false;
+    let bases = base_bytes(s, side, blank, start, most, n);
+    if !bases.ok {
+        return bases;
     }
-    mate_bytes_ok(s, start + most, most, n)
+    mate_bytes(s, start + most, most, n, bases.sum)
 }
 
-// The same, and the mates nested.
-fn content_ok(
-    s: &[u8],
-    mark: u8,
-    side: u8,
-    least: usize,
-    most: usize,
-    blank: usize,
-    start: usize,
-) -> bool
-    requires { ⌜ (length (now s) ≡ blockSize) × (blank ≤ start) × (most ≤ blockBases) × (start + 3 * most ≤ checksumAt) ⌝ }
-    ensures { λ r. ⌜ r ≡ contentOk (kindOf mark side least most blank start) (now (s .entry)) ⌝ }
-{
-    if !bytes_ok(s, mark, side, least, most, blank, start) {
-        return false;
-    }
-    let n = s[1] as usize;
-    mates_nested(s, start + most, n)
-}
-
-// Whether each hit bit has its searched bit, a byte of the maps at a time.
-fn hits_ok(s: &[u8]) -> bool
-    requires { ⌜ length (now s) ≡ blockSize ⌝ }
-    ensures { λ r. ⌜ r ≡ hitsOk (now (s .entry)) ⌝ }
-{
-    let mut i = 0;
-    while i < layout::MAP_SIZE {
-        if !octets::bits::within(s[layout::HIT_AT + i], s[layout::SEARCHED_AT + i]) {
-            return false;
-        }
-        i += 1;
-    }
-    true
-}
-
-// Whether s is a sound block of strands, of the kind with these numbers.
+// Whether s is a sound block of strands, of the kind with these numbers. Byte 0 of such a block is not 0, so a block that begins with 0 is sound exactly
+// when it is empty.
 fn sound_strand(
     s: &[u8],
     mark: u8,
@@ -138,19 +99,21 @@ fn sound_strand(
     blank: usize,
     start: usize,
 ) -> bool
-    requires { ⌜ (blank ≤ start) × (most ≤ blockBases) × (start + 3 * most ≤ checksumAt) ⌝ }
+    requires { ⌜ (0 < mark) × (blank ≤ start) × (most ≤ blockBases) × (start + 3 * most ≡ checksumAt) ⌝ }
+    requires { ⌜ start + most + 2 * blockBases ≤ blockSize ⌝ }
     ensures { λ r. ⌜ r ≡ soundStrand (kindOf mark side least most blank start) (now (s .entry)) ⌝ }
 {
     if s.len() != layout::BLOCK_SIZE {
         return false;
     }
-    if octets::scan::all_zero(s) {
-        return true;
+    if s[0] == 0 {
+        return octets::scan::all_zero(s);
     }
-    if !content_ok(s, mark, side, least, most, blank, start) {
+    let content = content(s, mark, side, least, most, blank, start);
+    if !content.ok {
         return false;
     }
-    crate::checksum::checksum_ok(s)
+    content.sum == checksum_in(s)
 }
 
 // Whether s is a sound block of a catalog.
@@ -200,10 +163,10 @@ pub fn sound_entry(s: &[u8]) -> bool
     if s.len() != layout::BLOCK_SIZE {
         return false;
     }
-    if octets::scan::all_zero(s) {
-        return true;
+    if s[0] == 0 {
+        return octets::scan::all_zero(s);
     }
-    if !content_ok(
+    let content = content(
         s,
         layout::ENTRY_MARK,
         numbers::MOTIF,
@@ -211,13 +174,15 @@ pub fn sound_entry(s: &[u8]) -> bool
         layout::ENTRY_BASES,
         layout::ENTRY_BLANK,
         layout::ENTRY_START,
-    ) {
+    );
+    if !content.ok {
         return false;
     }
-    if !hits_ok(s) {
+    let maps = walk::maps(s, content.sum);
+    if !maps.ok {
         return false;
     }
-    crate::checksum::checksum_ok(s)
+    maps.sum == checksum_in(s)
 }
 
 // Whether block d of a catalog is sound; false where there is no such block.

@@ -5,6 +5,11 @@ use testing::slices::byte_at;
 use testing::slices::set_byte;
 use testing::slices::sum_bytes;
 
+// A block's bytes, and where its checksum begins.
+const BLOCK: usize = 512;
+
+const CHECKSUM_AT: usize = 508;
+
 // Whether s is sound as a molecule block (kind 1), as a cache entry (2) or as a block handed in as a motif (3), or holds a motif (4).
 fn sound(kind: usize, s: &[u8]) -> usize {
     match kind {
@@ -32,6 +37,33 @@ fn damage(s: &mut [u8], a: usize, b: usize, kind: usize) -> usize {
     kind % 10 * 1000 + 10 * changed + back
 }
 
+// The sum over bytes i = 0 to 507 of (i + 1) times byte i.
+fn weighted(s: &[u8]) -> usize {
+    let mut sum: usize = 0;
+    let mut i: usize = 0;
+    while i < CHECKSUM_AT {
+        sum += (i + 1) * (byte_at(s, i) % 256);
+        i += 1;
+    }
+    sum
+}
+
+// The number in bytes 508 to 511.
+fn checksum(s: &[u8]) -> usize {
+    byte_at(s, CHECKSUM_AT) % 256
+        + 256 * (byte_at(s, CHECKSUM_AT + 1) % 256)
+        + 65536 * (byte_at(s, CHECKSUM_AT + 2) % 256)
+        + 16777216 * (byte_at(s, CHECKSUM_AT + 3) % 256)
+}
+
+// Whether bytes 508 to 511 are the sum over the others; 0 for less than a block.
+fn summed(s: &[u8]) -> usize {
+    if s.len() < BLOCK {
+        return 0;
+    }
+    (weighted(s) == checksum(s)) as usize
+}
+
 // 1 for a searched number, and 2 more for a hit.
 fn bits(s: &[u8], d: usize) -> usize {
     codec::entry::searched(s, d) as usize % 2 + codec::entry::hit(s, d) as usize % 2 * 2
@@ -46,7 +78,7 @@ fn of_block(kind: u8, s: &mut [u8], a: usize, b: usize, c: usize) -> usize {
         b'X' => damage(s, a, b, c / 1000),
         b'R' => {
             block::checksum::put_checksum(s);
-            block::checksum::checksum_ok(s) as usize
+            summed(s)
         }
         _ => {
             codec::entry::forget(s, a);
@@ -60,7 +92,7 @@ fn block_length(kind: u8, a: usize, b: usize) -> usize {
     match kind {
         b'J' => b,
         b'R' => a,
-        _ => 512,
+        _ => BLOCK,
     }
 }
 

@@ -101,7 +101,6 @@ fn decode(kind: u8, image: &[u8], size: usize, bytes: &mut [u8], words: &mut [u1
 // What the line's command answers; `blocks` and `strands` have the other letters.
 fn answer(kind: u8, image: &mut [u8], bytes: &mut [u8], words: &mut [u16]) -> usize {
     match kind {
-        0 => parts::NOTHING,
         b'N' | b'A' | b'C' | b'P' | b'G' => prepare(kind, bytes, words),
         b'M' | b'K' | b'O' | b'U' => strands::answer(kind, image, bytes, words),
         b'D' | b'E' => decode(kind, image, 512, bytes, words),
@@ -148,9 +147,13 @@ fn read(bytes: &mut [u8]) -> u8 {
     0
 }
 
-// The next line.
-pub fn run(image: &mut [u8], bytes: &mut [u8], words: &mut [u16]) {
+// The next line; false where the input has no more.
+pub fn run(image: &mut [u8], bytes: &mut [u8], words: &mut [u16]) -> bool {
     let kind = read(bytes);
+    if kind == 0 {
+        return false;
+    }
     let got = answer(kind, image, bytes, words);
     expect(bytes, words, got);
+    true
 }

@@ -6,11 +6,15 @@ mod cases;
 mod parts;
 mod strands;
 
-// At most 4,096 lines.
+use testing::input::MOST_LINES;
+
+// Every line of the input.
 fn lines(image: &mut [u8], bytes: &mut [u8], words: &mut [u16]) {
     let mut i: usize = 0;
-    while i < 4096 {
-        cases::run(image, bytes, words);
+    while i < MOST_LINES {
+        if !cases::run(image, bytes, words) {
+            return;
+        }
         i += 1;
     }
 }

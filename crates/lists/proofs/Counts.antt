@@ -1,4 +1,4 @@
--- How many numbers below n pass a test: one number more, two tests that differ at one number, and numbers that rise and pass.
+-- How many numbers below n pass a test: one number more, none more, two tests that differ at one number, and numbers that rise and pass.
 use mathlib.Core.Path.{_≡_, refl, sym, ap, _∙_}
 use mathlib.Core.Bool.{Bool, true, false}
 use mathlib.Core.List.{_∷_, [], _++_, append-nil}
@@ -30,6 +30,20 @@ count-up : (p : ℕ → Bool) (n d : ℕ) → count n p ≤ count (n + d) p
 unfolding choose
 count-up p n zero = let i : n + 0 ≡ n = omega arith in rw i (omega arith)
 count-up p n (suc d) = let i : n + suc d ≡ suc (n + d) = omega arith in rw i (omega (arith, count-up p n d, count-suc p (n + d)))
+
+-- The count of the numbers below a is that below c where none from a to before c passes, and only there.
+pub count-same : (p : ℕ → Bool) (a c : ℕ) → a ≤ c → ((x : ℕ) → a ≤ x → x < c → p x ≡ false) → count c p ≡ count a p
+count-same p a zero l h = let i : a ≡ 0 = omega arith in rw i
+count-same p a (suc c) l h = elim (ℕ-discrete a (suc c)) [
+  | yes i ↦ rw i
+  | no i ↦ count-no p c (h c (omega arith) (omega arith)) ∙ count-same p a c (omega arith) (λ x u v. h x u (omega arith))
+]
+
+pub none-more : (p : ℕ → Bool) (a c x : ℕ) → a ≤ x → x < c → count a p ≡ count c p → p x ≡ true → ⊥
+none-more p a c x l h e t =
+    let i : a + (x - a) ≡ x = omega arith in
+    let j : suc x + (c - suc x) ≡ c = omega arith in
+    omega (arith, rw i at (count-up p a (x - a)), count-yes p x t, rw j at (count-up p (suc x) (c - suc x)))
 
 pub count-ext : (n : ℕ) (p q : ℕ → Bool) → ((x : ℕ) → x < n → p x ≡ q x) → count n p ≡ count n q
 count-ext n p q h = ap length (select-ext n p q h)

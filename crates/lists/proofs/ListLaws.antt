@@ -8,7 +8,7 @@ use native.Mathlib.Omega.{arith}
 use native.Mathlib.Nat.{le-of-suc-le-suc, not-suc-le-zero, eq-or-lt-of-le}
 use native.Mathlib.Numerals.{add-one}
 use native.Mathlib.Decide.{decLt, ℕ-discrete}
-use borrow.Author.Tests.{eqb-true, eq-eqb, ne-eqb, not-false, lt-ltb, le-ltb}
+use borrow.Author.Tests.{eqb-true, eq-eqb, ne-eqb, lt-ltb, le-ltb}
 use lib.Dec.{eqb, ltb}
 use lib.ListN.{length, set, drop, length-append, List·getD-append, drop-of-length-le, replicate, getD-replicate, length-replicate, List·getD-eq-default}
 use lib.Seq.{drop-cons, set-at, append-snoc, getD-at, ext-getD}
@@ -307,20 +307,6 @@ pub tab-ext : (f g : ℕ → ℕ) (n : ℕ) → ((i : ℕ) → i < n → f i ≡
 unfolding tab
 tab-ext f g zero e = refl
 tab-ext f g (suc n) e = ap₂ (λ (x : List ℕ) (y : ℕ). x ++ (y ∷ [])) (tab-ext f g n (λ i h. e i (omega arith))) (e n (omega arith))
-
--- A pass over the numbers below n that has come to its end.
-pub every-end : (p : ℕ → Bool) (n i : ℕ) → every i p ≡ true → i ≤ n → n ≤ i → true ≡ every n p
-every-end p n i e a b = let z : i ≡ n = omega arith in sym (ap (λ (k : ℕ). every k p) (sym z) ∙ e)
-
--- No number below n fails the test.
-pub every-lowest : (p : ℕ → Bool) (n r : ℕ) → r ≡ lowest n (λ i. not (p i)) → eqb r n ≡ every n p
-every-lowest p n r is = both-ways (eqb r n) (every n p) to from
-  where
-    to : eqb r n ≡ true → every n p ≡ true
-    to e = every-true p n (λ i l. not-false (p i) (lowest-before (λ k. not (p k)) n i (omega (arith, eqb-true r n e)) l))
-
-    from : every n p ≡ true → eqb r n ≡ true
-    from e = eq-eqb r n (is ∙ lowest-all (λ k. not (p k)) n (λ i l. ap not (every-at p n i e l)))
 
 -- All entries are zero.
 pub zeros-at : (l : List ℕ) → all (λ x. eqb x 0) l ≡ true → (i : ℕ) → nth l i ≡ 0

@@ -1,15 +1,17 @@
--- Loops over slices, a turn at a time: copies, zeros, two-byte numbers, and two lists compared.
+-- Loops over slices, a turn at a time: copies, zeros, the largest byte, two-byte numbers, and two lists compared.
 use mathlib.Core.Path.{_≡_, refl, sym, ap, _∙_}
-use mathlib.Core.Bool.{true, false}
+use mathlib.Core.Bool.{Bool, true, false, _&&_}
 use mathlib.Core.List.{List, [], _∷_, _++_, append-nil}
-use Prim.Native.Nat.{ℕ, suc, _+_, _*_, _/_, _%_, _<_, _≤_}
+use Prim.Native.Nat.{ℕ, suc, _+_, _*_, _/_, _%_, _<_, _≤_, max}
 use native.Mathlib.Omega.{arith}
 use native.Mathlib.Numerals.{add-one}
 use native.Mathlib.Decide.{ℕ-discrete}
 use lib.ListN.{length, set, take, drop, replicate, length-append, length-drop, drop-of-length-le}
 use lib.Seq.{drop-cons, set-at, append-snoc, take-suc, take-all, take-at, drop-at, length-take-le, sets-eq, drop-drop}
-use Rattle.lists.specs.Vocabulary.{nth, sameList}
-use Rattle.octets.specs.Octets.{word16, words, bytesOf}
+use borrow.Author.Tests.{eq-eqb, ne-eqb}
+use lib.Dec.{eqb}
+use Rattle.lists.specs.Vocabulary.{nth, every, sameList}
+use Rattle.octets.specs.Octets.{isZero, word16, words, bytesOf}
 use Rattle.lists.proofs.ListLaws.{length-tab, nth-tab, same-place, same-all}
 
 -- ---- a copy, one entry a turn
@@ -31,6 +33,29 @@ copy-end i s d hs hd =
 pub zero-end : (i : ℕ) (d : List ℕ) → i ≡ length d → replicate i 0 ++ drop i d ≡ replicate (length d) 0
 zero-end i d e =
     ap (λ (l : List ℕ). replicate i 0 ++ l) (drop-of-length-le d {i = i} (omega arith)) ∙ append-nil (replicate i 0) ∙ ap (λ (k : ℕ). replicate k 0) e
+
+-- ---- the largest byte is 0 exactly where every byte is
+
+largest-two : (l x : ℕ) → eqb (max l x) 0 ≡ eqb x 0 && eqb l 0
+largest-two l x = elim (ℕ-discrete x 0) [
+  | yes e ↦ let m : max l x ≡ l = omega arith in rw (m, eq-eqb x 0 e)
+  | no e ↦ rw (ne-eqb x 0 e, ne-eqb (max l x) 0 (λ h. e (omega arith)))
+]
+
+-- The first i bytes have been passed; l is the largest of them.
+abbrev zeroAt : List ℕ → ℕ → Bool
+zeroAt s k = isZero (nth s k)
+
+pub largest-none : (p : ℕ → Bool) → eqb 0 0 ≡ every 0 p
+unfolding every
+largest-none p = refl
+
+pub largest-next : (s : List ℕ) (l i : ℕ) {r : ℕ} → r ≡ max l (nth s i) → eqb l 0 ≡ every i (zeroAt s) → eqb r 0 ≡ every (i + 1) (zeroAt s)
+unfolding every
+largest-next s l i e h = ap (λ (x : ℕ). eqb x 0) e ∙ largest-two l (nth s i) ∙ rw (h, add-one)
+
+pub largest-end : (s : List ℕ) (l n i : ℕ) → eqb l 0 ≡ every i (zeroAt s) → i ≤ n → n ≤ i → eqb l 0 ≡ every n (zeroAt s)
+largest-end s l n i e u v = let z : i ≡ n = omega arith in e ∙ ap (λ (k : ℕ). every k (zeroAt s)) z
 
 -- ---- two-byte numbers, two entries a turn
 

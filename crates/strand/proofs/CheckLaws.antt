@@ -9,7 +9,7 @@ use lib.Dec.{eqb, ltb}
 use borrow.Author.Tests.{eq-eqb, ne-eqb, lt-ltb, le-ltb, ltb-true}
 use Rattle.refusals.specs.declared.Verdict.the-variants.{Accepted}
 use Rattle.lists.specs.Vocabulary.{nth, some, lowest}
-use Rattle.strand.specs.Strands.{notLetter, mateOutside, notMutual, crossedAt, isNested, Inside, Paired, strandVerdict}
+use Rattle.strand.specs.Strands.{notLetter, mateOutside, notMutual, crossedAt, Inside, Paired, strandVerdict}
 use Rattle.refusals.specs.Rules.{unequalLengths, noBases, tooLong, badLetter, badMate, matesNotMutual, arcsCross, refusal, refuseIf, refuseAtLowest, first}
 use Rattle.refusals.proofs.RuleLaws.{rule-yes, rule-no, rule-at-yes, rule-at-no}
 use Rattle.lists.proofs.ListLaws.{some-none, lowest-all, lowest-before, some-lowest}
@@ -100,41 +100,9 @@ module _ (side least greatest : ℕ) (bs ms : List ℕ) where
 
 -- ---- what the searches of the code found
 
-module _ (ms : List ℕ) (i5 : ℕ) (is5 : i5 ≡ lowest (length ms) (mateOutside ms)) where
-  pub nested-outside : i5 < length ms → false ≡ isNested ms
-  unfolding isNested
-  nested-outside h = rw (some-lowest (mateOutside ms) (length ms), ← is5, lt-ltb i5 (length ms) h)
+module _ (ms : List ℕ) where
+  pub found-inside : (i5 : ℕ) → i5 ≡ lowest (length ms) (mateOutside ms) → length ms ≤ i5 → Inside (nth ms) (length ms)
+  found-inside i5 is5 h5 = inside-of ms (λ i l. lowest-before (mateOutside ms) (length ms) i (omega arith) l)
 
-  module _ (h5 : length ms ≤ i5) where
-    in-range : (i : ℕ) → i < length ms → mateOutside ms i ≡ false
-    in-range i l = lowest-before (mateOutside ms) (length ms) i (omega arith) l
-
-    pub found-inside : Inside (nth ms) (length ms)
-    found-inside = inside-of ms in-range
-
-    module _ (i6 : ℕ) (is6 : i6 ≡ lowest (length ms) (notMutual ms)) where
-      pub nested-single : i6 < length ms → false ≡ isNested ms
-      unfolding isNested
-      nested-single h = rw (
-        some-lowest (mateOutside ms) (length ms),
-        ← is5,
-        le-ltb i5 (length ms) h5,
-        some-lowest (notMutual ms) (length ms),
-        ← is6,
-        lt-ltb i6 (length ms) h,
-      )
-
-      module _ (h6 : length ms ≤ i6) where
-        pub found-paired : Paired (nth ms) (length ms)
-        found-paired = paired-of ms (λ i l. lowest-before (notMutual ms) (length ms) i (omega arith) l)
-
-        pub nested-arcs : not (some (length ms) (crossedAt ms)) ≡ isNested ms
-        unfolding isNested
-        nested-arcs = rw (
-          some-lowest (mateOutside ms) (length ms),
-          ← is5,
-          le-ltb i5 (length ms) h5,
-          some-lowest (notMutual ms) (length ms),
-          ← is6,
-          le-ltb i6 (length ms) h6,
-        )
+  pub found-paired : (i6 : ℕ) → i6 ≡ lowest (length ms) (notMutual ms) → length ms ≤ i6 → Paired (nth ms) (length ms)
+  found-paired i6 is6 h6 = paired-of ms (λ i l. lowest-before (notMutual ms) (length ms) i (omega arith) l)

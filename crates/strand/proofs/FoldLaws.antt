@@ -14,7 +14,7 @@ use Rattle.lists.proofs.ListLaws.{and-true, every-at, every-true, length-tab, n
 use Rattle.lists.proofs.Ranges.{someList-true, someList-of, Largest, largest-is, Selected, selected}
 use Rattle.lists.proofs.Counts.{count, count-yes, count-no, count-ext, count-less, rising-counts, rising-bound}
 use Rattle.strand.specs.declared.Fold.{Fold}
-use Rattle.strand.specs.Strands.{Nested}
+use Rattle.strand.specs.Strands.{Paired, Nested}
 use Rattle.strand.specs.Folds.{begins, arcCount, liesInside, isChain, depthOf, foldOf, Begins, Chain, IsMost, IsArcCount, IsDepth, IsFold}
 
 -- The largest number of a kind is one number.
@@ -147,11 +147,11 @@ abbrev pub openAt : List ℕ → ℕ → ℕ
 openAt mates i = count i (opened mates i)
 
 module _ (mates : List ℕ) where
-  opened-yes : (i a : ℕ) → i ≤ nth mates a → opened mates i a ≡ true
+  pub opened-yes : (i a : ℕ) → i ≤ nth mates a → opened mates i a ≡ true
   unfolding opened
   opened-yes i a h = le-leb i (nth mates a) h
 
-  opened-no : (i a : ℕ) → nth mates a < i → opened mates i a ≡ false
+  pub opened-no : (i a : ℕ) → nth mates a < i → opened mates i a ≡ false
   unfolding opened
   opened-no i a h = lt-leb i (nth mates a) h
 
@@ -168,11 +168,11 @@ module _ (mates : List ℕ) where
         opened-yes i a (omega arith) ∙ sym (opened-yes (suc i) a z)
   ]
 
-  module _ (N : Nested (nth mates) (length mates)) (i : ℕ) (l : i < length mates) where
+  module _ (P : Paired (nth mates) (length mates)) (i : ℕ) (l : i < length mates) where
     -- Where i is no right end, the arcs that began below i are open at i + 1 as at i.
     open-same : i ≤ nth mates i → count i (opened mates (suc i)) ≡ openAt mates i
     open-same h =
-        sym (count-ext i (opened mates i) (opened mates (suc i)) (λ a k. opened-on i a (λ e. omega (arith, N .paired a (omega arith), ap (nth mates) e))))
+        sym (count-ext i (opened mates i) (opened mates (suc i)) (λ a k. opened-on i a (λ e. omega (arith, P a (omega arith), ap (nth mates) e))))
 
     pub open-left : i < nth mates i → openAt mates (suc i) ≡ openAt mates i + 1
     open-left h =
@@ -184,9 +184,9 @@ module _ (mates : List ℕ) where
     pub open-right : nth mates i < i → openAt mates i ≡ openAt mates (suc i) + 1
     open-right h =
         count-less i (nth mates i) (opened mates i) (opened mates (suc i)) h
-        (opened-yes i (nth mates i) (omega (arith, N .paired i l)))
-        (opened-no (suc i) (nth mates i) (omega (arith, N .paired i l)))
-        (λ a k n. opened-on i a (λ e. n (sym (N .paired a (omega arith)) ∙ ap (nth mates) e)))
+        (opened-yes i (nth mates i) (omega (arith, P i l)))
+        (opened-no (suc i) (nth mates i) (omega (arith, P i l)))
+        (λ a k n. opened-on i a (λ e. n (sym (P a (omega arith)) ∙ ap (nth mates) e)))
         ∙ ap (λ (k : ℕ). k + 1) (sym (count-no (opened mates (suc i)) i (opened-no (suc i) i (omega arith))))
 
   -- ---- the arcs open at i are a chain

@@ -50,16 +50,16 @@ module _ (mates : List ℕ) (i j b e : ℕ) (is-mate : j ≡ nth mates i) (begun
       go (yes h) d =
           let x : b ≡ 1 = begun .0 h in
           let y : e ≡ 0 = ended .1 (omega arith) in
-          (omega arith, omega (arith, open-left mates N i l (omega arith)))
+          (omega arith, omega (arith, open-left mates (N .paired) i l (omega arith)))
       go (no h) (yes d) =
           let x : b ≡ 0 = begun .1 (omega arith) in
           let y : e ≡ 1 = ended .0 d in
-          let z = open-right mates N i l (omega arith) in
+          let z = open-right mates (N .paired) i l (omega arith) in
           (omega arith, omega arith)
       go (no h) (no d) =
           let x : b ≡ 0 = begun .1 (omega arith) in
           let y : e ≡ 0 = ended .1 (omega arith) in
-          (omega arith, omega (arith, open-none mates N i l (omega arith)))
+          (omega arith, omega (arith, open-none mates (N .paired) i l (omega arith)))
 
 -- The walk has come to i: the arcs open, and the most that were open at once.
 pub record Walked (mates : List ℕ) (i level depth : ℕ) : Type 0 where

@@ -1,8 +1,10 @@
 mod NestingLaws
 mod KeyLaws
 mod CheckLaws
-mod LetterLaws
+pub mod LetterLaws
 pub mod VerdictLaws
 pub mod FoldLaws
 mod FoldWalk
+pub mod LevelLaws
+mod LevelWalk
 pub mod Claims

@@ -1,5 +1,6 @@
--- The definitions in reading order. Nesting is for the contract of one inner function.
+-- The definitions in reading order. Nesting and Levels are for the contracts of inner functions.
 pub mod Folds
 pub mod Strands
 pub mod Statements
 pub mod Nesting
+pub mod Levels

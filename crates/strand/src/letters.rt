@@ -14,14 +14,14 @@ fn same(a: u8, b: u8) -> u8
 }
 
 // 1 for A, C, G or U, on either side, else 0.
-fn is_letter(side: u8, b: u8) -> u8
+pub fn is_letter(side: u8, b: u8) -> u8
     ensures { λ r. ⌜ r ≡ choose (isLetter side b) 1 0 ⌝ }
 {
     same(b, 65) + same(b, 67) + same(b, 71) + same(b, 85)
 }
 
 // The smaller of two bytes.
-fn smaller(a: u8, b: u8) -> u8
+pub fn smaller(a: u8, b: u8) -> u8
     ensures { λ r. ⌜ r ≡ min a b ⌝ }
 {
     if a < b { a } else { b }

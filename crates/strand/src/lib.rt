@@ -2,7 +2,8 @@
 pub mod depth;
 pub mod key;
 pub mod letters;
-pub mod nesting;
+pub mod levels;
+mod nesting;
 
 use refusals::Refusal;
 use refusals::Verdict;

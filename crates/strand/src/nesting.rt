@@ -5,7 +5,7 @@ ghost use Prim.Native.Nat.{ℕ, _≤_, _<_, max};
 ghost use lib.ListN.{length};
 ghost use Rattle.lists.specs.Vocabulary.{nth, some, lowest};
 ghost use Rattle.lists.proofs.ListLaws.{Tells};
-ghost use Rattle.strand.specs.Strands.{mateOutside, notMutual, crosses, crossedAt, isNested, Inside, Paired};
+ghost use Rattle.strand.specs.Strands.{mateOutside, notMutual, crosses, crossedAt, Inside, Paired};
 ghost use Rattle.strand.specs.Nesting.{Closes};
 
 // The larger of two mates.
@@ -99,19 +99,6 @@ pub(crate) fn arcs_close(mates: &[u16]) -> bool
         }
     }
     true
-}
-
-// Whether the mates are in range, mutual and nested, in linear time.
-pub fn is_nested(mates: &[u16]) -> bool
-    ensures { λ r. ⌜ r ≡ isNested (now (mates .entry)) ⌝ }
-{
-    if lowest_outside(mates) < mates.len() {
-        return false;
-    }
-    if lowest_not_mutual(mates) < mates.len() {
-        return false;
-    }
-    arcs_close(mates)
 }
 
 // Whether the arcs (a, b) and (i, j) cross.

@@ -13,7 +13,7 @@ mod random;
 mod timing;
 
 use lakhido::{BLOCK, BLOCKS_MOST, MOLECULE_MOST, MOST, MOTIF_MOST, SLOTS_MOST};
-use peers::By;
+use peers::{By, Sum};
 use plain::block::{self, Owned};
 use plain::calls;
 use plain::strand::{Fold, Strand, fold_of};
@@ -24,6 +24,8 @@ use timing::{TURNS, Version, least};
 const SEED: u64 = 20;
 const SIZES: [(usize, usize); 5] = [(160, 20), (160, 120), (1500, 200), (4096, 512), (4096, 4096)];
 const WINDOW_SIZES: [(usize, usize); 4] = [(160, 20), (160, 60), (1500, 100), (4096, 512)];
+/// The bases of a molecule that fills a quarter of its block.
+const SHORT: usize = MOLECULE_MOST / 4;
 const SHAPES: [&str; 5] = ["no arcs", "random fold", "stem", "comb", "balanced"];
 
 fn fold(r: &mut Random, shape: &str, n: usize) -> Vec<u16> {
@@ -267,51 +269,81 @@ fn shows() {
     goal.told();
 }
 
-/// A catalog of molecules of one shape.
-fn catalog(r: &mut Random, shape: &str) -> Vec<u8> {
-    (0..BLOCKS_MOST).flat_map(|_| block::molecule_block(strand(r, shape, MOLECULE_MOST).lend())).collect()
+/// A catalog of molecules of one shape and n bases.
+fn catalog(r: &mut Random, shape: &str, n: usize) -> Vec<u8> {
+    (0..BLOCKS_MOST).flat_map(|_| block::molecule_block(strand(r, shape, n).lend())).collect()
+}
+
+/// A cache of motifs of one shape.
+fn cache(r: &mut Random, shape: &str) -> Vec<u8> {
+    let entry = |d: usize| {
+        let p = strand(r, shape, MOTIF_MOST);
+        block::entry_block(p.lend(), (0..BLOCKS_MOST).map(|k| (k, k % 7 == d % 7)))
+    };
+    (0..SLOTS_MOST).flat_map(entry).collect()
+}
+
+/// The soundness pass over a catalog: a remove of a number behind its end, which is refused after the pass.
+fn molecule_passes(catalog: &[u8]) -> Vec<Version<'_>> {
+    let (mut ours, mut of_rust) = (catalog.to_vec(), catalog.to_vec());
+    let (mut cache, mut other) = ([0; BLOCK], [0; BLOCK]);
+    let of_c = |sum: Sum| -> Version {
+        let bytes = catalog.to_vec();
+        Box::new(move || if peers::unsound_molecule(sum, &bytes) == BLOCKS_MOST { 12 } else { 11 })
+    };
+    vec![
+        Box::new(move || lakhido::remove(&mut ours, &mut cache, BLOCKS_MOST).expect_err("refused").reason.number() as usize),
+        of_c(Sum::Walked),
+        of_c(Sum::Apart),
+        Box::new(move || calls::remove(&mut of_rust, &mut other, BLOCKS_MOST).expect_err("refused").0 as usize),
+    ]
+}
+
+/// The soundness pass over a cache: a query in a catalog of one empty block.
+fn entry_passes(cache: &[u8]) -> Vec<Version<'_>> {
+    let (mut ours, mut of_rust) = (cache.to_vec(), cache.to_vec());
+    let empty = [0; BLOCK];
+    let (motif, mut work) = (Strand::new(b"A", &[0]), vec![0; lakhido::query_work_size(1)]);
+    let size = work.len();
+    let of_c = |sum: Sum| -> Version {
+        let bytes = cache.to_vec();
+        Box::new(move || SLOTS_MOST - peers::unsound_entry(sum, &bytes))
+    };
+    vec![
+        Box::new(move || lakhido::query(&empty, &mut ours, lent(motif), &mut work, &mut [0]).expect("accepted").count),
+        of_c(Sum::Walked),
+        of_c(Sum::Apart),
+        Box::new(move || calls::query(&empty, &mut of_rust, motif, size, &mut [0]).expect("accepted").0),
+    ]
 }
 
 fn soundness() {
+    println!("\n### Soundness pass\n\nMicroseconds for {BLOCKS_MOST} molecule blocks, of n bases or empty (a remove of number {BLOCKS_MOST}, which");
     println!(
-        "\n### Soundness pass\n\nMicroseconds for {BLOCKS_MOST} molecule blocks of {MOLECULE_MOST} bases (a remove of number {BLOCKS_MOST}, which is refused after the pass), and for {SLOTS_MOST} entries of {MOTIF_MOST} bases (a query in"
+        "is refused after the pass), and for {SLOTS_MOST} entries (a query in a catalog of one empty block, with the writing of one entry, which the"
     );
-    println!("a catalog of one empty block, with the writing of one entry, which the C version does not do). Nothing is cleared before a call.");
-    print_head("shape | blocks | library | C | Rust | / C | / Rust");
-    let mut goal = Goal::new("soundness pass / C", 1.5);
+    println!("C versions do not do). C, one walk takes the library's stretches; C, sum apart walks the block once more for the checksum. Nothing is");
+    println!("cleared before a call.");
+    print_head("shape | blocks | n | library | C, one walk | C, sum apart | Rust | / C one walk | / C sum apart | / Rust");
+    let mut by_walk = Goal::new("soundness pass / C, one walk", 1.1);
+    let mut by_apart = Goal::new("soundness pass / C, sum apart", 0.6);
+    let mut row = |words: [String; 3], versions: Vec<Version>| {
+        let name = words.join(", ");
+        let (_, times) = least(&format!("soundness, {name}"), versions);
+        print_row(&words, &times);
+        by_walk.hold(&name, times[0] / times[1]);
+        by_apart.hold(&name, times[0] / times[2]);
+    };
     let mut r = Random::new(SEED);
     for shape in SHAPES {
-        let mut bytes = catalog(&mut r, shape);
-        let (of_c, mut of_rust) = (bytes.clone(), bytes.clone());
-        let (mut cache, mut other) = (vec![0; BLOCK], vec![0; BLOCK]);
-        let versions: Vec<Version> = vec![
-            Box::new(move || lakhido::remove(&mut bytes, &mut cache, BLOCKS_MOST).expect_err("refused").reason.number() as usize),
-            Box::new(move || if peers::unsound_molecule(&of_c) == BLOCKS_MOST { 12 } else { 11 }),
-            Box::new(move || calls::remove(&mut of_rust, &mut other, BLOCKS_MOST).expect_err("refused").0 as usize),
-        ];
-        let (_, times) = least(&format!("soundness, {shape}, molecules"), versions);
-        print_row(&[shape.into(), format!("{BLOCKS_MOST} molecules")], &times);
-        goal.hold(&format!("{shape}, molecules"), times[0] / times[1]);
-
-        let entries = (0..SLOTS_MOST).flat_map(|d| {
-            let p = strand(&mut r, shape, MOTIF_MOST);
-            block::entry_block(p.lend(), (0..BLOCKS_MOST).map(|k| (k, k % 7 == d % 7)))
-        });
-        let mut cache: Vec<u8> = entries.collect();
-        let (of_c, mut of_rust) = (cache.clone(), cache.clone());
-        let empty = [0; BLOCK];
-        let (motif, mut work) = (Strand::new(b"A", &[0]), vec![0; lakhido::query_work_size(1)]);
-        let size = work.len();
-        let versions: Vec<Version> = vec![
-            Box::new(move || lakhido::query(&empty, &mut cache, lent(motif), &mut work, &mut [0]).expect("accepted").count),
-            Box::new(move || SLOTS_MOST - peers::unsound_entry(&of_c)),
-            Box::new(move || calls::query(&empty, &mut of_rust, motif, size, &mut [0]).expect("accepted").0),
-        ];
-        let (_, times) = least(&format!("soundness, {shape}, entries"), versions);
-        print_row(&[shape.into(), format!("{SLOTS_MOST} entries")], &times);
-        goal.hold(&format!("{shape}, entries"), times[0] / times[1]);
+        for n in [MOLECULE_MOST, SHORT] {
+            row([shape.into(), format!("{BLOCKS_MOST} molecules"), n.to_string()], molecule_passes(&catalog(&mut r, shape, n)));
+        }
+        row([shape.into(), format!("{SLOTS_MOST} entries"), MOTIF_MOST.to_string()], entry_passes(&cache(&mut r, shape)));
     }
-    goal.told();
+    row(["empty".into(), format!("{BLOCKS_MOST} blocks"), "0".into()], molecule_passes(&vec![0; BLOCK * BLOCKS_MOST]));
+    by_walk.told();
+    by_apart.told();
 }
 
 /// One query of each version on buffers of its own; a cold one begins with a cache of zeros.
@@ -365,7 +397,7 @@ fn queries() {
     let mut by_same = Goal::new("cold query / C of the same algorithm", 0.95);
     for Case { shape, motif, p, q } in cases(&SIZES[..2], make::taken_out) {
         let mut r = Random::new(SEED + p.bases.len() as u64);
-        let mut bytes = catalog(&mut r, shape);
+        let mut bytes = catalog(&mut r, shape, MOLECULE_MOST);
         if motif == "embeds" {
             // Every fourth molecule has the motif.
             for d in (0..BLOCKS_MOST).step_by(4) {

@@ -28,6 +28,10 @@ mod c {
     type Embeds = unsafe extern "C" fn(*mut Motif, *const u8, *const u16, usize, *mut u16) -> std::ffi::c_int;
     pub const SEARCHES: [Embeds; 2] = [rows_embeds, segments_embeds];
 
+    type Unsound = unsafe extern "C" fn(*const u8, usize) -> usize;
+    pub const MOLECULE_PASSES: [Unsound; 2] = [walk_unsound_molecule, apart_unsound_molecule];
+    pub const ENTRY_PASSES: [Unsound; 2] = [walk_unsound_entry, apart_unsound_entry];
+
     unsafe extern "C" {
         pub fn rows_length(p: *const u8, pm: *const u16, m: usize, q: *const u8, qm: *const u16, n: usize, work: *mut u16) -> usize;
         pub fn segments_length(
@@ -65,8 +69,10 @@ mod c {
             places: *mut u16,
             fold: *mut Fold,
         ) -> usize;
-        pub fn peer_unsound_molecule(catalog: *const u8, blocks: usize) -> usize;
-        pub fn peer_unsound_entry(cache: *const u8, blocks: usize) -> usize;
+        fn walk_unsound_molecule(catalog: *const u8, blocks: usize) -> usize;
+        fn walk_unsound_entry(cache: *const u8, blocks: usize) -> usize;
+        fn apart_unsound_molecule(catalog: *const u8, blocks: usize) -> usize;
+        fn apart_unsound_entry(cache: *const u8, blocks: usize) -> usize;
         pub fn peer_query(
             embeds: Embeds,
             catalog: *const u8,
@@ -90,6 +96,15 @@ pub enum By {
     Rows = 0,
     /// The library's own algorithm.
     Segments = 1,
+}
+
+/// How a C soundness pass has the checksum.
+#[derive(Clone, Copy)]
+pub enum Sum {
+    /// Gathered in the one walk over the block, in the library's stretches.
+    Walked = 0,
+    /// A walk of its own.
+    Apart = 1,
 }
 
 fn assert_lengths(s: Strand, most: usize) {
@@ -189,15 +204,15 @@ pub unsafe fn show(p: Strand, q: Strand, rows: &mut [u16], places: &mut [u16]) -
 }
 
 /// The lowest unsound molecule block, or the number of blocks.
-pub fn unsound_molecule(catalog: &[u8]) -> usize {
+pub fn unsound_molecule(sum: Sum, catalog: &[u8]) -> usize {
     // SAFETY: reads whole blocks of any content.
-    unsafe { c::peer_unsound_molecule(catalog.as_ptr(), catalog.len() / BLOCK) }
+    unsafe { c::MOLECULE_PASSES[sum as usize](catalog.as_ptr(), catalog.len() / BLOCK) }
 }
 
 /// The lowest unsound cache entry, or the number of blocks.
-pub fn unsound_entry(cache: &[u8]) -> usize {
+pub fn unsound_entry(sum: Sum, cache: &[u8]) -> usize {
     // SAFETY: reads whole blocks of any content.
-    unsafe { c::peer_unsound_entry(cache.as_ptr(), cache.len() / BLOCK) }
+    unsafe { c::ENTRY_PASSES[sum as usize](cache.as_ptr(), cache.len() / BLOCK) }
 }
 
 /// The count of hits and of molecules searched.

@@ -71,9 +71,10 @@ int peer_strand_ok(const uint8_t *bases, const uint16_t *mates, size_t n, size_t
 // The fold of a strand (sound.c).
 peer_fold peer_fold_of(const uint16_t *mates, size_t n);
 
-// The lowest unsound block of a buffer of molecule blocks, and of one of cache entries; the number of blocks where all are sound (sound.c).
-size_t peer_unsound_molecule(const uint8_t *catalog, size_t blocks);
-size_t peer_unsound_entry(const uint8_t *cache, size_t blocks);
+// The lowest unsound block of a buffer of molecule blocks, and of one of cache entries; the number of blocks where all are sound (sound.c). In one walk over
+// the block in the library's stretches, and with a walk for the checksum alone.
+typedef size_t peer_unsound(const uint8_t *buffer, size_t blocks);
+peer_unsound walk_unsound_molecule, walk_unsound_entry, apart_unsound_molecule, apart_unsound_entry;
 
 // Writes the checksum of a block.
 void peer_put_checksum(uint8_t *block);

@@ -44,9 +44,9 @@ long peer_query(peer_embeds *embeds, const uint8_t *catalog, size_t blocks, uint
                 uint16_t *work, uint16_t *hits, size_t *searched) {
     uint8_t held[MAP] = {0}, found[MAP] = {0};
     size_t key = 0, count = 0;
-    if (peer_unsound_molecule(catalog, blocks) < blocks) return -1;
+    if (walk_unsound_molecule(catalog, blocks) < blocks) return -1;
     for (size_t s = 0; s < slots; s++)
-        if (peer_unsound_entry(cache + BLOCK * s, 1) == 0) memset(cache + BLOCK * s, 0, BLOCK);
+        if (walk_unsound_entry(cache + BLOCK * s, 1) == 0) memset(cache + BLOCK * s, 0, BLOCK);
     for (size_t j = 0; j < m; j++) key += p[j] + pm[j];
     uint8_t *entry = cache + BLOCK * (key % slots);
     int same = keeps(entry, p, pm, m);

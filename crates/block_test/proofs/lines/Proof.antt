@@ -1,33 +1,23 @@
--- `block_test::lines` meets its contract. No step fails and the loop ends: the invariant is i ≤ 4096, and that the three slices keep their lengths.
+-- `block_test::lines` meets its contract. No step fails and the loop ends: the invariant is i ≤ 99999, and that the three slices keep their lengths.
 use borrow.Author.Needs.{needs}
 use Prim.Native.Nat.{_-_, _≤_}
-use native.Mathlib.Omega.{arith}
-use mathlib.Core.Path.{_≡_, refl}
+use mathlib.Core.Path.{_≡_}
 use lib.ListN.{length}
 use Rattle.block_test.proofs.lines.Statement.{statement}
 use Rattle.block_test.proofs.lines.Tie as tie
 
 abbrev Inv-loop : tie.InvT-loop
-Inv-loop image₀ bytes₀ words₀ i₀ image bytes words i = (i ≤ 4096) × (length image ≡ length image₀) × (length bytes ≡ length bytes₀)
+Inv-loop image₀ bytes₀ words₀ i₀ image bytes words i = (i ≤ 99999) × (length image ≡ length image₀) × (length bytes ≡ length bytes₀)
     × (length words ≡ length words₀)
 
 abbrev μ-loop : tie.MeasureT-loop
-μ-loop image₀ bytes₀ words₀ i₀ image bytes words i = 4096 - i
+μ-loop image₀ bytes₀ words₀ i₀ image bytes words i = 99999 - i
 
 loop-holds : tie.Need-loop-holds Inv-loop μ-loop
-loop-holds c = (omega arith, refl, refl, refl)
+loop-holds c = search needs
 
 run-requires : tie.Need-run-requires Inv-loop μ-loop
 run-requires c κs = search needs
-
-add-i : tie.Need-add-i Inv-loop μ-loop
-add-i c = omega arith
-
-loop-less : tie.Need-loop-less Inv-loop μ-loop
-loop-less c = omega arith
-
-loop-again : tie.Need-loop-again Inv-loop μ-loop
-loop-again c = (omega arith, search needs, search needs, search needs)
 
 same-length : tie.Need-same-length Inv-loop μ-loop
 same-length c = search needs
@@ -39,7 +29,29 @@ same-length-3 : tie.Need-same-length-3 Inv-loop μ-loop
 same-length-3 c = search needs
 
 returns : tie.Need-returns Inv-loop μ-loop
-returns c = tt
+returns c = search needs
+
+add-i : tie.Need-add-i Inv-loop μ-loop
+add-i c = search needs
+
+loop-less : tie.Need-loop-less Inv-loop μ-loop
+loop-less c = search needs
+
+loop-again : tie.Need-loop-again Inv-loop μ-loop
+loop-again c = search needs
+
+same-length-4 : tie.Need-same-length-4 Inv-loop μ-loop
+same-length-4 c = search needs
+
+same-length-5 : tie.Need-same-length-5 Inv-loop μ-loop
+same-length-5 c = search needs
+
+same-length-6 : tie.Need-same-length-6 Inv-loop μ-loop
+same-length-6 c = search needs
+
+returns-2 : tie.Need-returns-2 Inv-loop μ-loop
+returns-2 c = search needs
 
 pub lines-spec : {M : Type 1} → statement M
-lines-spec = tie.close (tie.spec Inv-loop μ-loop loop-holds run-requires add-i loop-less loop-again same-length same-length-2 same-length-3 returns)
+lines-spec = tie.close (tie.spec Inv-loop μ-loop loop-holds run-requires same-length same-length-2 same-length-3 returns add-i loop-less loop-again
+    same-length-4 same-length-5 same-length-6 returns-2)

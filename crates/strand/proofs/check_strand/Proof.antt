@@ -97,8 +97,7 @@ arcs-close-requires c κs =
     let at-lowest-outside = at-if5 .before in
     let at-start = at-lowest-outside .before .before .before .before .before .before .before .before in (
       found-inside (at-start .args .mates .now) _ (at-lowest-outside .lowest-outside .ensures) (at-if5 .if5 .left),
-      found-paired (at-start .args .mates .now) _ (at-lowest-outside .lowest-outside .ensures) (at-if5 .if5 .left) _
-          (at-lowest-not-mutual .lowest-not-mutual .ensures) (c .if6 .left),
+      found-paired (at-start .args .mates .now) _ (at-lowest-not-mutual .lowest-not-mutual .ensures) (c .if6 .left),
     )
 
 returns-7 : tie.Need-returns-7

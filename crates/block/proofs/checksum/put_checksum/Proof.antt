@@ -2,16 +2,17 @@
 use borrow.Author.Needs.{needs}
 use native.Mathlib.Omega.{arith}
 use lib.ListN.{length-set}
-use Rattle.block.specs.Content.{rechecked}
-use Rattle.block.proofs.SumLaws.{rechecked-short, rechecked-is}
+use mathlib.Core.Path.{sym}
+use Rattle.block.specs.Content.{rechecked, checksumOf}
+use Rattle.block.proofs.SumLaws.{sum-none, rechecked-short, rechecked-is}
 use Rattle.block.proofs.checksum.put_checksum.Statement.{statement}
 use Rattle.block.proofs.checksum.put_checksum.Tie as tie
 
 returns : tie.Need-returns
 returns c = rechecked-short _ (c .if1 .taken)
 
-checksum-of-requires : tie.Need-checksum-of-requires
-checksum-of-requires c κs = search needs
+gather-requires : tie.Need-gather-requires
+gather-requires c κs = ((omega arith, omega arith, omega arith), sym (sum-none _))
 
 cast-s : tie.Need-cast-s
 cast-s c = search needs
@@ -50,9 +51,9 @@ same-length : tie.Need-same-length
 same-length c = search needs
 
 returns-2 : tie.Need-returns-2
-unfolding rechecked
+unfolding rechecked checksumOf
 returns-2 c = rechecked-is _ _ (c .before .before .if1 .left) cc
 
 pub put-checksum-spec : {M : Type 1} → statement M
-put-checksum-spec = tie.close (tie.spec returns checksum-of-requires cast-s slice-write-s cast-s-2 add-s slice-write-s-2 cast-s-3 add-s-2 slice-write-s-3
+put-checksum-spec = tie.close (tie.spec returns gather-requires cast-s slice-write-s cast-s-2 add-s slice-write-s-2 cast-s-3 add-s-2 slice-write-s-3
     cast-s-4 add-s-3 slice-write-s-4 same-length returns-2)
