@@ -9,7 +9,7 @@
  *
  * The empty motif. A molecule has at least one base; a motif may have none: both its lengths are 0. The empty motif embeds in every molecule:
  * length answers 0, and so does show, which takes any `places` and leaves them as they are; verify answers 1 for no places and is refused by 9 for more;
- * window finds the window with start 0 and length 0; query lists every molecule of the catalog.
+ * window finds the window with start 0 and length 0; query lists every molecule of the catalog, and so does batch.
  *
  * Buffers. Each buffer is a pointer and its length in elements (bytes, or 16-bit numbers).
  * - A pointer to 16-bit numbers is aligned to 2 bytes. Pointers to bytes need no alignment.
@@ -33,10 +33,10 @@ extern "C" {
 #endif
 
 /* The version of this file and of the library. */
-#define LAKHIDO_VERSION "0.4.1"
+#define LAKHIDO_VERSION "0.5.0"
 
 /* Lengths of strands. For check, length, show, window and verify a molecule has 1 to LAKHIDO_MOST bases, a motif 0 to LAKHIDO_MOST. A molecule of
- * the catalog has 1 to LAKHIDO_MOLECULE_MOST, the motif of a query 0 to LAKHIDO_MOTIF_MOST. */
+ * the catalog has 1 to LAKHIDO_MOLECULE_MOST, a motif of a query or a batch 0 to LAKHIDO_MOTIF_MOST. */
 #define LAKHIDO_MOST 4096
 #define LAKHIDO_MOLECULE_MOST 160
 #define LAKHIDO_MOTIF_MOST 120
@@ -48,8 +48,11 @@ extern "C" {
 #define LAKHIDO_BLOCKS_MOST 512
 #define LAKHIDO_SLOTS_MOST 64
 
-/* Entries of `work` for length, show and window, the motif having m and the molecule n bases; and for query, the motif having m bases. A
- * longer slice is fine. */
+/* The motifs of a batch: 1 to LAKHIDO_MOTIFS_MOST, each in a block of its own. */
+#define LAKHIDO_MOTIFS_MOST 16
+
+/* Entries of `work` for length, show and window, the motif having m and the molecule n bases; and for query, the motif having m bases, and
+ * batch, the longest motif having m. A longer slice is fine. */
 #define LAKHIDO_WORK(m, n) ((size_t)64 * ((size_t)(m) + 1) + (size_t)8 * (size_t)(n))
 #define LAKHIDO_QUERY_WORK(m) LAKHIDO_WORK(m, LAKHIDO_MOLECULE_MOST)
 
@@ -62,25 +65,29 @@ enum lakhido_refusal {
     /* Side LAKHIDO_MOTIF or LAKHIDO_MOLECULE. */
     LAKHIDO_UNEQUAL_LENGTHS = 1,  /* bases and mates differ in length */
     LAKHIDO_NO_BASES = 2,         /* no bases, of the molecule: a motif may have none */
-    LAKHIDO_TOO_LONG = 3,         /* more bases than the call takes */
+    LAKHIDO_TOO_LONG = 3,         /* more bases than the call takes; place: in a batch the index of the lowest such motif */
     LAKHIDO_BAD_LETTER = 4,       /* a base that is no letter; place: the lowest */
     LAKHIDO_BAD_MATE = 5,         /* a mate that is no position; place: the lowest base that has one */
     LAKHIDO_MATES_NOT_MUTUAL = 6, /* place: the lowest i whose mate's mate is not i */
     LAKHIDO_ARCS_CROSS = 7,       /* arcs (a, b) and (i, j) with a < i < b < j; place: the lowest such i */
     /* Side LAKHIDO_NEITHER. */
     LAKHIDO_WORK_TOO_SHORT = 8,    /* fewer entries than LAKHIDO_WORK or LAKHIDO_QUERY_WORK says */
-    LAKHIDO_WRONG_SLICE = 9,       /* show: fewer places than bases; verify: places not as many as bases; query: fewer hits than blocks */
+    LAKHIDO_WRONG_SLICE = 9,       /* show: fewer places than bases; verify: places not as many as bases; query: fewer hits than blocks;
+                                    * batch: fewer hits than motifs times blocks */
     LAKHIDO_NOT_WHOLE_BLOCKS = 10, /* catalog or cache: not whole blocks, none, or too many */
     LAKHIDO_UNSOUND_BLOCK = 11,    /* an unsound block in the catalog; place: the lowest */
     LAKHIDO_NUMBER_TOO_LARGE = 12, /* a molecule number that is no block of the catalog */
     LAKHIDO_ALREADY_HELD = 13,     /* add: the number has a molecule */
-    LAKHIDO_NOT_HELD = 14          /* remove: the number has none */
+    LAKHIDO_NOT_HELD = 14,         /* remove: the number has none */
+    /* Side LAKHIDO_MOTIF. */
+    LAKHIDO_BAD_MOTIFS = 15 /* the motif buffer of a batch is not 1 to LAKHIDO_MOTIFS_MOST whole blocks, place 0; or a block of it is unsound or empty,
+                             * place: the lowest */
 };
 
 /* The side of a refusal. */
 enum lakhido_side { LAKHIDO_MOTIF = 0, LAKHIDO_MOLECULE = 1, LAKHIDO_NEITHER = 2 };
 
-/* What a call answers, but for window. Refused: refusal, side and place, and 0 in the other fields. Accepted: 0 in refusal, side and place, and
+/* What a call answers, but for window and batch. Refused: refusal, side and place, and 0 in the other fields. Accepted: 0 in refusal, side and place, and
  * in the other fields what the call says; 0 where it says nothing.
  *
  * `arcs` and `depth` are the molecule's, never the motif's, in check, length, show, verify (where `value` is 1 and where it is 0) and add; remove
@@ -109,6 +116,17 @@ typedef struct lakhido_window_answer {
     size_t arcs;
     size_t depth;
 } lakhido_window_answer;
+
+/* What batch answers. Refused: refusal, side and place, and 0 in the other fields. Accepted: 0 in refusal, side and place; `read` is how many molecules
+ * were read; `counts[t]` and `searched[t]` are what lakhido_query has in `value` and `searched` for motif t, and 0 where the batch has no motif t. */
+typedef struct lakhido_batch_answer {
+    size_t refusal;
+    size_t side;
+    size_t place;
+    size_t read;
+    size_t counts[LAKHIDO_MOTIFS_MOST];
+    size_t searched[LAKHIDO_MOTIFS_MOST];
+} lakhido_batch_answer;
 
 /* Accepts a nested molecule of 1 to LAKHIDO_MOST bases.
  * arcs, depth: those of the molecule.
@@ -172,6 +190,28 @@ lakhido_answer lakhido_remove(uint8_t *catalog, size_t catalog_length, uint8_t *
 lakhido_answer lakhido_query(const uint8_t *catalog, size_t catalog_length, uint8_t *cache, size_t cache_length, const uint8_t *motif_bases,
                              size_t motif_bases_length, const uint16_t *motif_mates, size_t motif_mates_length, uint16_t *work,
                              size_t work_length, uint16_t *hits, size_t hits_length);
+
+/* Queries for a family of motifs in one call, which reads each molecule once for all of them. Counts, hits, searched numbers and the cache afterwards
+ * are those of lakhido_query for each motif in the order of the buffer, each with the cache that the one before left; so what is said there of a
+ * believed cache entry holds here too.
+ * `motifs` is 1 to LAKHIDO_MOTIFS_MOST blocks, motif t in the LAKHIDO_BLOCK bytes from LAKHIDO_BLOCK * t on, laid out as docs/FORMAT.md says of a motif
+ * block: as a molecule of the catalog, but that the length may be 0. The motif with no bases is byte 0 = 1, byte 508 = 1, else zeros; a block of zeros is
+ * empty and no motif. The same motif may stand there twice.
+ * counts: for each motif how many molecules of the catalog it embeds in.
+ * Writes their numbers, rising, to `hits`: with B blocks in the catalog those of motif t to the entries from t * B on, and keeps every other entry, those
+ * between two lists too. `hits` has at least B entries for each motif. With B = 3, two motifs, the first in molecules 0 and 2, the second in 1, entries
+ * 0, 1 and 3 are written: 0, 2 and 1.
+ * searched: for each motif how many molecules its query searches. A motif that stands in the batch before, with no other motif of its slot between,
+ * searches none; one whose slot another motif of the batch took last searches all.
+ * read: how many molecules at least one of these queries searches, each counted once, however many do. If the first motif searches molecule 4 and the
+ * second 3 and 4, `read` is 2.
+ * Zeroes every unsound block of the cache and writes the blocks of the motifs' slots. `work` is that of the longest motif. An accepted call leaves
+ * anything in `work`.
+ * Refused by: 10, 11, 15, 3 of the motifs (0 to LAKHIDO_MOTIF_MOST bases), 9, 8. A block may have up to LAKHIDO_MOLECULE_MOST bases: one of 121 is
+ * sound, and 3 refuses it. If block 0 has 121 bases and block 1 is empty, the refusal is 15 with place 1; without block 1 it is 3 with place 0. The
+ * other rules of a motif are those of a sound block. */
+lakhido_batch_answer lakhido_batch(const uint8_t *catalog, size_t catalog_length, uint8_t *cache, size_t cache_length, const uint8_t *motifs,
+                                   size_t motifs_length, uint16_t *work, size_t work_length, uint16_t *hits, size_t hits_length);
 
 #ifdef __cplusplus
 }

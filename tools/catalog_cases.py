@@ -1,220 +1,12 @@
 """For tests alone: the lines that catalog_test reads, and what it must write. `tools/verify-cases` writes the files.
 
-The columns of a line are described in crates/catalog_test/src/main.rt. The answers of the cases are written here by hand, from the table of
-refusals and its order, for an add from 02, (i), for a motif with no bases from 02, (iii); those of random calls come from the reference model of
-`Random`. `Model` must give the same answers, and says what bytes and hits a call leaves.
+The answers of the cases are written here by hand, from the table of refusals and its order, for an add from 02, (i), for a motif with no bases from
+02, (iii); those of random calls come from the reference model of `Random`. `Model` must give the same answers, and says what bytes and hits a
+call leaves.
 """
-import collections
-import functools
-
-import lakhido_model
-from lakhido_model import (BLOCK, CHECKSUM_AT, ENTRY, FOLDED, HITS_AT, LONGEST_MOLECULE, LONGEST_MOTIF, MOLECULE, MOST_BLOCKS, MOST_SLOTS, SEARCHED_AT,
-                           decode, encode, forget, has_bit, key, molecule_refusal, motif_refusal, seal, set_bit, work_size)
-from testing_crate import ROW, after, folded, found, is_refused, refused, total
-
-LARGEST = 9999999  # the field that means the largest number of all
-CACHE = (MOST_BLOCKS + 1) * BLOCK  # where the cache begins in the buffer of the test program
-UNTOUCHED = 0x0707  # an entry of the hits before a call
-LINES, TOLD, COUNTS = [], [], collections.Counter()
-
-
-# ---- lines
-
-def say(text):
-    LINES.append('%-103s\n' % text)
-
-
-def count(kind, answer):
-    """Counts a call."""
-    if is_refused(answer):
-        COUNTS[answer // ROW] += 1
-    elif kind == 'Q':
-        COUNTS['queries'] += 1
-        COUNTS['hits'] += answer // 10000 % 10000
-        COUNTS['searches'] += answer % 10000
-    else:
-        COUNTS['accepted'] += 1
-        COUNTS['arcs'] += answer // 10000 % 10000
-        COUNTS['depths'] += answer % 10000
-
-
-def group(name):
-    """Ends a group: its line, and what the test program writes of its counts."""
-    say('G %02d %s' % (len(name), name))
-    rows = sorted(row for row in COUNTS if isinstance(row, int))
-    told = ('accepted', 'arcs', 'depths', 'queries', 'hits', 'searches', 'bytes')
-    TOLD.append('%s: wrong 0; adds and removes %d with arcs %d and depths %d, queries %d with hits %d and searches %d; bytes set %d; refused by row%s\n' % (
-        name, *(COUNTS[k] for k in told), ''.join(' %d:%d' % (row, COUNTS[row]) for row in rows)))
-    COUNTS.clear()
-
-
-block_total = functools.cache(total)
-
-
-def bytes_total(data):
-    sum = 0
-    for i in range(0, len(data), BLOCK):
-        block = bytes(data[i:i + BLOCK])
-        sum = (sum * pow(31, len(block), 2 ** 32) + block_total(block)) % 2 ** 32
-    return sum
-
-
-# ---- the calls on bytes
-
-def strand_refusal(side, bases, mates):
-    """The number of the first refusal of a query's motif (side 0) or of a molecule (side 1), or 0."""
-    refusal = molecule_refusal(bases, mates, LONGEST_MOLECULE) if side else motif_refusal(bases, mates, LONGEST_MOTIF)
-    return refused(refusal[0], side, refusal[1]) if refusal else 0
-
-
-embeds = functools.cache(lakhido_model.embeds)
-sound = functools.cache(lakhido_model.sound)
-fold = functools.cache(lakhido_model.fold)
-
-
-class Model:
-    """The bytes of catalog and cache."""
-
-    def __init__(self):
-        self.bytes = bytearray(CACHE + (MOST_SLOTS + 1) * BLOCK)
-
-    def block(self, b):
-        return self.bytes[BLOCK * b:BLOCK * (b + 1)]
-
-    def put(self, b, block):
-        self.bytes[BLOCK * b:BLOCK * (b + 1)] = block
-
-    def sound(self, form, b):
-        return sound(form, bytes(self.block(b)))
-
-    def set(self, i, v, sealed):
-        """Sets a byte of a block, and where `sealed` its checksum: those bytes of it that are other ones then."""
-        b, old = i // BLOCK, bytes(self.bytes)
-        self.bytes[i] = v
-        if sealed:
-            block = self.block(b)
-            seal(block)
-            self.put(b, block)
-        return [(j, self.bytes[j]) for j in range(BLOCK * b + CHECKSUM_AT, BLOCK * (b + 1)) if j != i and self.bytes[j] != old[j]]
-
-    def held(self, d):
-        return self.bytes[BLOCK * d] != 0
-
-    def verdict(self, kind, d, cat, cache, work, hits, bases, mates):
-        for n, most in ((cat, MOST_BLOCKS), (cache, MOST_SLOTS)):
-            if n % BLOCK or not 1 <= n // BLOCK <= most:
-                return refused(10, 2)
-        for i in range(cat // BLOCK):
-            if not self.sound(MOLECULE, i):
-                return refused(11, 2, i)
-        if kind == 'Q':
-            late = refused(9, 2) if hits < cat // BLOCK else refused(8, 2) if work < work_size(len(bases)) else 0
-            return strand_refusal(0, bases, mates) or late
-        if cat // BLOCK <= d:
-            return refused(12, 2)
-        if kind == 'R':
-            return 0 if self.held(d) else refused(14, 2)
-        return refused(13, 2) if self.held(d) else strand_refusal(1, bases, mates)
-
-    def tidy(self, kind, d, slots):
-        """An accepted call empties unsound cache blocks, and remove takes d out of the others."""
-        for b in range(CACHE // BLOCK, CACHE // BLOCK + slots):
-            block = self.block(b) if self.sound(ENTRY, b) else bytearray(BLOCK)
-            if kind == 'R':
-                forget(block, d)
-            self.put(b, block)
-
-    def query(self, n, slots, bases, mates):
-        """The hits, and how many molecules were searched."""
-        b = CACHE // BLOCK + key(bases, mates) % slots
-        entry, old, hits, searched = encode(ENTRY, bases, mates), self.block(b), [], 0
-        known = old[:SEARCHED_AT] == entry[:SEARCHED_AT]
-        for d in filter(self.held, range(n)):
-            if known and has_bit(old, SEARCHED_AT, d):
-                hit = has_bit(old, HITS_AT, d)
-            else:
-                q, qm = decode(MOLECULE, self.block(d))
-                hit = embeds(bases, tuple(mates), q, tuple(qm))
-                searched += 1
-            set_bit(entry, SEARCHED_AT, d)
-            if hit:
-                set_bit(entry, HITS_AT, d)
-                hits.append(d)
-        seal(entry)
-        self.put(b, entry)
-        return hits, searched
-
-    def call(self, kind, d, cat, cache, work, hits, bases, mates):
-        """The answer of a call, and the whole slice of hits that it leaves."""
-        v, list = self.verdict(kind, d, cat, cache, work, hits, bases, mates), []
-        if v == 0:
-            self.tidy(kind, d, cache // BLOCK)
-            if kind == 'A':
-                self.put(d, encode(MOLECULE, bases, mates))
-                v = folded(*fold(tuple(mates)))
-            elif kind == 'R':
-                self.put(d, bytes(BLOCK))
-            else:
-                list, searched = self.query(cat // BLOCK, cache // BLOCK, bases, mates)
-                v = found(len(list), searched)
-        return v, list + [UNTOUCHED] * (MOST_BLOCKS - len(list))
-
-
-MODEL = Model()
-
-
-def number_of(digit):
-    return 65535 if digit == 'z' else int(digit, 36)
-
-
-def line(kind, d=0, cat=0, cache=0, work=0, hits=0, answer=0, bases='', mates='', note=''):
-    """A line, and for a call what it leaves."""
-    if note:
-        say('# ' + note)
-    long = mates[:1] in ('-', '=')
-    n, k = (int(mates[1:]),) * 2 if long else (len(bases), len(mates))
-    left = listed = 0
-    if kind in 'ARQ':
-        all_bases = (bases * n)[:n]
-        all_mates = [(n - 1 - i if mates[0] == '=' else i) if long else number_of(mates[i]) for i in range(k)]
-        got, list = MODEL.call(kind, d, cat, cache, work, hits, all_bases, all_mates)
-        assert got == answer, (got, answer, note)
-        left = (bytes_total(MODEL.bytes[:cat]) + bytes_total(MODEL.bytes[CACHE:CACHE + cache])) % 2 ** 32
-        listed = total(list) if kind == 'Q' else 0
-        count(kind, answer)
-    say('%s %07d %06d %05d %05d %03d %09d %-13s %-13s %02d %03d %03d %010d %010d'
-        % (kind, d, cat, cache, work, hits, answer, bases, mates[0] if long else mates, len(bases), n, k, left, listed))
-
-
-class World:
-    """Calls with so many catalog and cache blocks."""
-
-    def __init__(self, b, s):
-        self.b, self.cat, self.cache = b, BLOCK * b, BLOCK * s
-        MODEL.__init__()
-        line('N')
-
-    def add(self, d, bases, mates, answer, note='', cat=None, cache=None):
-        line('A', d, self.cat if cat is None else cat, self.cache if cache is None else cache, answer=answer, bases=bases, mates=mates, note=note)
-
-    def remove(self, d, answer=0, note='', cat=None, cache=None):
-        line('R', d, self.cat if cat is None else cat, self.cache if cache is None else cache, answer=answer, note=note)
-
-    def query(self, bases, mates, answer, note='', work=None, hits=None, cat=None, cache=None):
-        n = int(mates[1:]) if mates[:1] in ('-', '=') else len(bases)
-        line('Q', 0, self.cat if cat is None else cat, self.cache if cache is None else cache,
-             work_size(n) if work is None else work, self.b if hits is None else hits, answer=answer, bases=bases, mates=mates, note=note)
-
-
-def set_byte(kind, i, v, note=''):
-    """A byte of the catalog, or one of the cache: an alteration (S), one that leaves the block unsound though its checksum is right (U), or one that
-    makes a foreign entry (F). With the right checksum its bytes are set too."""
-    for j, w in MODEL.set(i, v, kind != 'S'):
-        line('B', j, work=w)
-    form = ENTRY if CACHE <= i else MOLECULE
-    assert kind == 'S' or MODEL.sound(form, i // BLOCK) == (kind == 'F'), (i, v, note)
-    line('S', i, work=v, note=note)
-    COUNTS['bytes'] += 1
+from catalog_lines import CACHE, LARGEST, Random, World, begin, buffers, files_of, group, hairpins, set_byte
+from lakhido_model import BLOCK, CHECKSUM_AT, ENTRY, FOLDED, HITS_AT, SEARCHED_AT, key
+from testing_crate import folded, found, refused
 
 
 def strands(call, side, too_long, none):
@@ -234,14 +26,6 @@ def strands(call, side, too_long, none):
     call('AC', '11', refused(6, side), 'row 6')
     call('ACGUA', '23010', refused(6, side, 4), 'rows 6 and 7')
     call('ACGU', '2301', refused(7, side, 1), 'row 7')
-
-
-def buffers(call):
-    """Row 10 for each way in which a buffer is not 1 to 512, or 1 to 64, whole blocks."""
-    for cat, note in ((0, 'no catalog'), (511, 'catalog of 511 bytes'), (1025, 'catalog of 1025 bytes'), (262656, 'catalog of 513 blocks')):
-        call(refused(10, 2), 'row 10, ' + note, cat=cat)
-    for cache, note in ((0, 'no cache'), (511, 'cache of 511 bytes'), (513, 'cache of 513 bytes'), (33280, 'cache of 65 blocks')):
-        call(refused(10, 2), 'row 10, ' + note, cache=cache)
 
 
 def rows_of_add():
@@ -331,14 +115,6 @@ def unsound_blocks():
     set_byte('U', BLOCK, 1, 'a molecule block of length 0')
     unsound(w, 'a molecule block of length 0')
     group('unsound molecule blocks')
-
-
-def hairpins(slots):
-    """Two blocks, with GAC under 0 and GGC under 1, each with its ends bonded."""
-    w = World(2, slots)
-    w.add(0, 'GAC', '210', folded(1, 1))
-    w.add(1, 'GGC', '210', folded(1, 1))
-    return w
 
 
 def folds():
@@ -605,155 +381,6 @@ def largest_buffers():
     group('512 blocks of one molecule, 64 slots')
 
 
-def below(x, by, n):
-    """A number below n from the digits of x beyond a divisor."""
-    return x // by % 65536 % n
-
-
-def closed(mates, j, i):
-    """No bond leaves j to i, and j has none."""
-    return mates[j] == j and all(j <= mates[z] <= i for z in range(j, i))
-
-
-def nested(x, n):
-    """A nested strand of n bases, each bonded with an earlier one where that may be."""
-    bases, mates = [], []
-    for i in range(n):
-        bases.append('GGGCCCAU'[below(x, 8, 8)])
-        mates.append(i)
-        j = below(x, 64, i + 1)
-        if closed(mates, j, i):
-            mates[i], mates[j] = j, i
-        x = after(x)
-    return bases, mates
-
-
-def spoil(how, x, bases, mates):
-    """For 0, 1 and 2: a base that is no letter, any mate, a bond that may cross another."""
-    i, j = below(x, 4, len(bases)), below(x, 64, len(bases))
-    if how == 0:
-        bases[i] = 'X'
-    if how == 1:
-        mates[i] = j + i % 2
-    if how == 2 and mates[i] == i and mates[j] == j:
-        mates[i], mates[j] = j, i
-
-
-class Random(World):
-    """Random calls, with their answers from the reference model: the molecules that are held, and for each slot a motif with the numbers that were
-    searched and those that are hits."""
-
-    def __init__(self, b, s):
-        super().__init__(b, s)
-        self.held, self.entries, self.altered = {}, [None] * s, {}
-
-    def block(self, k):
-        """The bytes of cache block k."""
-        out = bytearray(BLOCK)
-        if self.entries[k]:
-            (bases, mates), searched, hits = self.entries[k]
-            out = encode(ENTRY, bases, mates)
-            for at, numbers in ((SEARCHED_AT, searched), (HITS_AT, hits)):
-                for d in numbers:
-                    set_bit(out, at, d)
-            seal(out)
-        for i, v in self.altered.get(k, {}).items():
-            out[i] = v
-        return out
-
-    def tidy(self):
-        """An accepted call empties altered blocks."""
-        for k in self.altered:
-            self.entries[k] = None
-        self.altered = {}
-
-    def update(self, kind, d, bases, mates):
-        if self.b <= d:
-            return refused(12, 2)
-        if kind == 'A' and d in self.held:
-            return refused(13, 2)
-        if kind == 'A' and strand_refusal(1, bases, mates):
-            return strand_refusal(1, bases, mates)
-        if kind == 'R' and d not in self.held:
-            return refused(14, 2)
-        self.tidy()
-        if kind == 'A':
-            self.held[d] = bases, mates
-            return folded(*fold(tuple(mates)))
-        del self.held[d]
-        for entry in filter(None, self.entries):
-            entry[1].discard(d)
-            entry[2].discard(d)
-        return 0
-
-    def ask(self, bases, mates, work, hits):
-        v = strand_refusal(0, bases, mates)
-        if v or hits < self.b:
-            return v or refused(9, 2)
-        if work < work_size(len(bases)):
-            return refused(8, 2)
-        self.tidy()
-        k = key(bases, mates) % len(self.entries)
-        if not self.entries[k] or self.entries[k][0] != (bases, mates):
-            self.entries[k] = (bases, mates), set(), set()
-        searched, hit = self.entries[k][1:]
-        fresh = set(self.held) - searched
-        hit.update(d for d in fresh if embeds(bases, tuple(mates), self.held[d][0], tuple(self.held[d][1])))
-        searched.update(fresh)
-        return found(len(hit), len(fresh))
-
-    def alter(self, x):
-        """A byte of one of the eight regions of a cache block: kind, length, zeros, bases, mates, the two maps, checksum; at most three from the
-        region's start half of the time. Another value, or the same where the block has been altered since the last accepted call and now and
-        then else."""
-        starts = (0, 1, 2, ENTRY.bases_at, ENTRY.mates_at, SEARCHED_AT, HITS_AT, CHECKSUM_AT, BLOCK)
-        r, y = below(x, 16, 8), after(x)
-        k = below(x, 256, len(self.entries))
-        width = 1 if r < 2 else 4 if below(y, 2, 2) == 0 else starts[r + 1] - starts[r]
-        i = starts[r] + below(y, 32, width)
-        old = self.block(k)[i]
-        v = old if k in self.altered or below(y, 8, 16) == 0 else (old + 1) % 256 if below(y, 128, 2) == 0 else below(y, 256, 256)
-        if v != old:
-            self.altered[k] = {i: v}
-        set_byte('S', CACHE + BLOCK * k + i, v)
-
-    def call(self, kind, d, how, n, seed):
-        """A call, with one of the ways in which it may be refused: what `spoil` does, lengths that differ, no bases (a molecule; of twenty motifs one has
-        none), too many bases, buffers that are too short or not whole blocks."""
-        letters, mates = nested(seed, n)
-        spoil(how, after(seed), letters, mates)
-        bases = ''.join(letters)
-        if how == 3:
-            mates.append(0)
-        if how == 4 or kind == 'Q' and how == 10:
-            bases, mates = '', []
-        long = how == 5
-        work, hits, cat, cache = work_size(len(bases)), self.b, self.cat, self.cache
-        work, hits = work // 2 if how == 6 else work, hits // 2 if how == 7 else hits
-        cat, cache = cat // 2 + 1 if how == 9 else cat, cache + 1 if how == 8 else cache
-        strand = ('A' * 161, list(range(161))) if long else (bases, mates)
-        if how in (8, 9):
-            answer = refused(10, 2)
-        else:
-            answer = self.ask(*strand, work, hits) if kind == 'Q' else self.update(kind, d, *strand)
-        line(kind, d, cat, cache, work, hits, answer, 'A' if long else bases, '-161' if long else ''.join('0123456789abc'[m] for m in mates))
-
-    def random(self, given, first, times):
-        """So many turns from a seed: molecules from 0 on (a), queries (q), or a history (H): of 16 turns five add, three remove, six ask and two alter
-        a byte of the cache. Motifs are drawn from twelve for each seed, molecules from all."""
-        x = first
-        for i in range(times):
-            kind = {'a': 'A', 'q': 'Q'}.get(given, 'AAAAARRRQQQQQQSS'[below(x, 1, 16)])
-            how = below(after(x), 16, 40) if given == 'H' else 99
-            if kind == 'S':
-                self.alter(x)
-            else:
-                seed = after(after(below(x, 32, 12) * 1000 + first % 1000)) if kind == 'Q' else after(x)
-                d = i if given == 'a' else below(x, 512, self.b + 1)
-                self.call(kind, d, how, below(seed, 4, 5 if kind == 'Q' else 12) + 1, seed)
-            x = after(x)
-
-
 def random_molecules():
     w = Random(512, 64)
     w.random('a', 4711, 512)
@@ -773,10 +400,11 @@ def histories():
 
 
 def files():
+    begin()
     for part in (rows_of_add, rows_of_remove, rows_of_query, unsound_blocks, folds, story, used_again, altered, unsound_entries, foreign,
                  other_slots, long_strands, largest_buffers, random_molecules, histories):
         part()
     for slots in (1, 2, 3, 64):
         no_bases(slots)
     foreign_no_bases()
-    return {'crates/catalog_test/stdin': ''.join(LINES), 'crates/catalog_test/stdout': ''.join(TOLD)}
+    return files_of('catalog_test')

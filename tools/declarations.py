@@ -12,7 +12,10 @@ NAMES = {'p': 'motif_bases', 'pm': 'motif_mates', 'q': 'bases', 'qm': 'mates', '
 
 # Types: in C, and in Rattle and Rust.
 TYPES = {'uint8_t': 'u8', 'uint16_t': 'u16', 'uint32_t': 'u32', 'uint64_t': 'u64', 'size_t': 'usize', 'bool': 'bool', 'void': '()',
-         'lakhido_answer': 'Answer', 'lakhido_window_answer': 'WindowAnswer'}
+         'lakhido_answer': 'Answer', 'lakhido_window_answer': 'WindowAnswer', 'lakhido_batch_answer': 'BatchAnswer'}
+
+# Where the constants are that may be the length of an array in a struct of the interface.
+ARRAY_LENGTHS = 'crates/calls/src/*.rt'
 
 # ---- parts of declarations
 
@@ -47,13 +50,19 @@ def passed(parameters):
     return found
 
 
+def sized(fields, lengths):
+    """Fields with the length of an array as a number, where `lengths` has its name."""
+    return [(name, re.sub(r'; (?:\w+::)*(\w+)\]', lambda one: '; %s]' % lengths.get(one[1], one[1]), kind)) for name, kind in fields]
+
+
 def c_typed(text, end):
     """Parameters or fields of C, in the form of `typed`."""
     found = []
     for part in [] if text.strip() == 'void' else text.split(end):
-        one = re.fullmatch(r'\s*(const )?\s*(\w+)\s+(\*?)(\w+)\s*', part)
-        if one and (one[3] or not one[1]):
+        one = re.fullmatch(r'\s*(const )?\s*(\w+)\s+(\*?)(\w+)(?:\[(\w+)\])?\s*', part)
+        if one and (one[3] or not one[1]) and not (one[3] and one[5]):
             kind = TYPES.get(one[2], one[2])
+            kind = '[%s; %s]' % (kind, one[5]) if one[5] else kind
             found.append((one[4], ('*const ' if one[1] else '*mut ') + kind if one[3] else kind))
         elif part.strip():
             found.append((part.strip(), 'not understood'))
@@ -87,11 +96,11 @@ def camel(name):
 REPR = r'#\[repr\(%s\)\]\s*(?:#\[[^\]]*\]\s*)*pub (struct|enum) (\w+) \{(.*?)\n\}'
 
 
-def rust_types(text, kind):
-    """Structs and enums with #[repr(kind)], in Rattle or in Rust."""
+def rust_types(text, kind, lengths=()):
+    """Structs and enums with #[repr(kind)], in Rattle or in Rust; `lengths` are names and numbers of constants."""
     found = {'struct': {}, 'enum': {}}
     for one in re.finditer(REPR % kind, text, re.S):
-        found[one[1]][one[2]] = typed(one[3]) if one[1] == 'struct' else valued(one[3])
+        found[one[1]][one[2]] = sized(typed(one[3]), dict(lengths)) if one[1] == 'struct' else valued(one[3])
     return found
 
 
@@ -101,7 +110,7 @@ def rattle_source(root):
     written, results = {}, {}
     for one in re.finditer(r'#\[no_mangle\]\s*pub extern "C" fn (\w+)\(([^()]*)\)(?:\s*->\s*(\w+))?\s*(?:ensures|requires|\{)', text):
         written[one[1]], results[one[1]] = typed(one[2]), one[3] or '()'
-    kinds = rust_types(text, 'C')
+    kinds = rust_types(text, 'C', constants(root, ARRAY_LENGTHS))
     functions = {name: passed(written[name]) + [('result', results[name])] for name in written}
     strange = ['%s: %d times `%s`, %d understood' % (CAPI, text.count(sign), sign, count) for sign, count in (
         ('no_mangle', len(written)), ('extern "C"', len(written)), ('repr(', len(kinds['struct']) + len(kinds['enum']))) if text.count(sign) != count]
@@ -118,8 +127,9 @@ def header_source(root):
     structs, text = take(r'typedef struct (\w+) \{(.*?)\} \1;', text)
     calls, text = take(r'(\w+) (\w+)\(([^()]*)\);', text)
     functions = {one[2]: c_typed(one[3], ',') + [('result', TYPES.get(one[1], one[1]))] for one in calls}
-    kinds = {'struct': {TYPES.get(one[1], one[1]): c_typed(one[2], ';') for one in structs}, 'enum': {one[1]: valued(one[2]) for one in enums}}
-    return functions, kinds, {one[1]: one[2].strip() for one in macros}, text.split()
+    macros = {one[1]: one[2].strip() for one in macros}
+    kinds = {'struct': {TYPES.get(one[1], one[1]): sized(c_typed(one[2], ';'), macros) for one in structs}, 'enum': {one[1]: valued(one[2]) for one in enums}}
+    return functions, kinds, macros, text.split()
 
 
 def wrapper_source(root):
@@ -127,4 +137,5 @@ def wrapper_source(root):
     text = read(os.path.join(root, WRAPPER, '*.rs'))
     blocks, _ = take(r'extern "C" \{(.*?)\n\s*\}', text)
     calls, rest = take(r'pub fn (\w+)\(([^()]*)\)(?: -> (\w+))?;', '\n'.join(one[1] for one in blocks))
-    return {one[1]: typed(one[2]) + [('result', one[3] or '()')] for one in calls}, rust_types(text, 'C'), rest.split()
+    kinds = rust_types(text, 'C', constants(root, WRAPPER + '/lib.rs'))
+    return {one[1]: typed(one[2]) + [('result', one[3] or '()')] for one in calls}, kinds, rest.split()

@@ -1,5 +1,5 @@
 #!/usr/bin/env python3
-"""Turns dot-bracket text, as RNA tools write it, into blocks of the catalog or of a motif, and back; lists molecules.
+"""Turns dot-bracket text, as RNA tools write it, into blocks of the catalog or of motifs, and back; lists molecules.
 
 This is a convenience for people. It is not part of what is proved: the screen program judges every block by itself.
 The tool checks each block that it writes or reads by the rules of a molecule block, a motif's by those of a motif block.
@@ -13,8 +13,9 @@ bond, `(` and `)` for the two ends of one. What follows a blank on the structure
 write there, is left out. Blank lines and lines that begin with `#` are skipped. The line `>(empty)` alone is an empty block.
 Blocks hold no names: decoded molecules are named by their number.
 
-The text of a motif has one strand, or a line `>name` alone: the motif with no bases, which embeds in every molecule. An empty
-block is no motif.
+In the text of motifs a line `>name` alone is the motif with no bases, which embeds in every molecule. An empty block is no motif.
+The screen program takes one motif, a batch 1 to 16, of which `encode --motif` makes the buffer: a block for each, in the order of the
+text.
 
 Errors in a text are given as FILE:LINE:COLUMN, both counted from 1.
 """
@@ -23,11 +24,12 @@ import itertools
 import random
 import sys
 
-from lakhido_model import (BLOCK, LETTERS, LONGEST_MOLECULE, LONGEST_MOTIF, MOLECULE, MOST_BLOCKS, MOST_SCREENED, MOTIF, NO_BASES, decode, encode, fault,
-                           fold, random_motif, random_strand)
+from lakhido_model import (BLOCK, LETTERS, LONGEST_MOLECULE, LONGEST_MOTIF, MOLECULE, MOST_BLOCKS, MOST_MOTIFS, MOST_SCREENED, MOTIF, NO_BASES, decode, encode,
+                           fault, fold, random_motif, random_strand)
 
 EMPTY_NAME = '(empty)'
 EMPTY = None, None  # in the place of bases and mates: an empty block
+IN_A_BATCH = 'a batch takes 1 to %d' % MOST_MOTIFS
 
 
 class Bad(Exception):
@@ -129,17 +131,29 @@ def blocks_of(text, name, form=MOLECULE):
     return blocks
 
 
-def from_blocks(data, name, screen=False):
-    """Name, bases and mates of each block, which is checked by the rules. With `screen` the first block is a motif."""
+def from_blocks(data, name, screen=False, form=MOLECULE):
+    """Name, bases and mates of each block, which is checked by the rules of the form. With `screen` the first block is a motif."""
     if not data or len(data) % BLOCK != 0:
         raise Bad('%s: %d bytes are not whole blocks of %d' % (name, len(data), BLOCK))
     found = []
     for d in range(len(data) // BLOCK):
-        block, motif = data[BLOCK * d:BLOCK * (d + 1)], screen and d == 0
-        wrong = fault(MOTIF if motif else MOLECULE, block)
+        block, first = data[BLOCK * d:BLOCK * (d + 1)], screen and d == 0
+        wrong = fault(MOTIF if first else form, block)
         if wrong:
             raise Bad('%s: block %d, byte %d: %s' % (name, d, wrong[0], wrong[1]))
-        found.append(('motif' if motif else 'molecule %d' % (d - 1 if screen else d), *strand_in(block)))
+        title = 'motif' if first else 'motif %d' % d if form is MOTIF else 'molecule %d' % (d - 1 if screen else d)
+        found.append((title, *strand_in(block)))
+    return found
+
+
+def motifs_in(data, name):
+    """Name, bases and mates of each motif of a buffer of 1 to 16."""
+    if len(data) > MOST_MOTIFS * BLOCK:
+        raise Bad('%s: %d bytes, and %s blocks of %d' % (name, len(data), IN_A_BATCH, BLOCK))
+    found = from_blocks(data, name, form=MOTIF)
+    for t, (_, *strand) in enumerate(found):
+        if tuple(strand) == EMPTY:
+            raise Bad('%s: block %d: an empty block is no motif' % (name, t))
     return found
 
 
@@ -153,6 +167,11 @@ def record_of(title, bases, mates):
 def text_of(data, name, screen=False):
     """The text of the blocks."""
     return ''.join(record_of(*row) for row in from_blocks(data, name, screen))
+
+
+def text_of_motifs(data, name):
+    """The text of the motifs of a buffer."""
+    return ''.join(record_of(*row) for row in motifs_in(data, name))
 
 
 # ---- the list of molecules
@@ -176,21 +195,28 @@ def listed(molecules, by='number', reverse=False):
 
 
 def some_blocks(text, name, most, what, form=MOLECULE):
-    """The blocks of a text that has 1 to `most` molecules; else the error names the first line too many."""
+    """The blocks of a text that has 1 to `most` molecules or motifs; else the error names the first line too many."""
     blocks, heads = blocks_of(text, name, form), [header for header, _, _ in records(text, name)]
     if not 1 <= len(blocks) <= most:
-        raise Bad('%s:%d:1: %d molecules, and %s' % (name, heads[most] if len(heads) > most else 1, len(blocks), what))
+        kind = 'motifs' if form is MOTIF else 'molecules'
+        raise Bad('%s:%d:1: %d %s, and %s' % (name, heads[most] if len(heads) > most else 1, len(blocks), kind, what))
+    return blocks
+
+
+def motif_blocks(text, name, most=MOST_MOTIFS, what=IN_A_BATCH):
+    """The blocks of the motifs of a text, 1 to `most`. They are told which a query or a batch refuses."""
+    blocks = some_blocks(text, name, most, what, MOTIF)
+    for (header, _, _), block in zip(records(text, name), blocks):
+        if not any(block):
+            raise Bad('%s:%d:1: an empty block is no motif; the motif with no bases is a line `>name` alone' % (name, header))
+        if block[1] > LONGEST_MOTIF:
+            print('note: %s:%d:1: a motif of %d bases is refused (0 to %d)' % (name, header, block[1], LONGEST_MOTIF), file=sys.stderr)
     return blocks
 
 
 def motif_block(text, name):
     """The block of the one motif of a text."""
-    block, = some_blocks(text, name, 1, 'one motif is taken', MOTIF)
-    if not any(block):
-        raise Bad('%s:%d:1: an empty block is no motif; the motif with no bases is a line `>name` alone' % (name, records(text, name)[0][0]))
-    if block[1] > LONGEST_MOTIF:
-        print('note: a motif of %d bases is refused by a query (0 to %d)' % (block[1], LONGEST_MOTIF), file=sys.stderr)
-    return block
+    return motif_blocks(text, name, 1, 'one is screened')[0]
 
 
 def motif_and_catalog(motif, motif_name, catalog, catalog_name):
@@ -243,10 +269,29 @@ def test_motifs():
         assert motif_block(text_of(block, 'B', screen=True), 'M') == block
     expect_error('\n>(empty)\n', 'T:2:1: an empty block is no motif; the motif with no bases is a line `>name` alone', motif_block)
     expect_error('>m\nA\n', 'T:1:1: a molecule has one line of bases and one of structure, and this one has 1', motif_block)
-    expect_error('>m\n>n\n', 'T:2:1: 2 molecules, and one motif', motif_block)
+    expect_error('>m\n>n\n', 'T:2:1: 2 motifs, and one is screened', motif_block)
     expect_error('>a\nA\n.\n>b\n', 'T:4:1: a molecule has one line of bases and one of structure, and this one has 0')
     expect_error(none, 'T: block 0, byte 1: the length is 0, and 1 to 160 are taken', text_of)
     expect_error(block_of('A', [0]) + none, 'T: block 1, byte 1: the length is 0', lambda data, name: text_of(data, name, screen=True))
+
+
+def test_motif_buffers():
+    rng = random.Random(4)
+    none, two = block_of(*NO_BASES), block_of('GC', [1, 0])
+    assert motif_blocks('>none\n>stem\nGC\n()\n\n>last\n', 'M') == [none, two, none]
+    assert text_of_motifs(none + two + none, 'B') == '>motif 0\n>motif 1\nGC\n()\n>motif 2\n'
+    for count in range(1, MOST_MOTIFS + 1):
+        blocks = [block_of(*random_motif(rng, LONGEST_MOTIF)) for _ in range(count)]
+        assert motif_blocks(text_of_motifs(b''.join(blocks), 'B'), 'M') == blocks
+    expect_error('# motifs\n' + '>m\n' * 18, 'T:18:1: 18 motifs, and a batch takes 1 to 16', motif_blocks)
+    expect_error('# none\n', 'T:1:1: 0 motifs, and a batch takes 1 to 16', motif_blocks)
+    expect_error('>m\n>a\nA\n.\n>(empty)\n>n\n', 'T:5:1: an empty block is no motif', motif_blocks)
+    expect_error('>m\n>a\nA\n', 'T:2:1: a molecule has one line of bases and one of structure, and this one has 1', motif_blocks)
+    expect_error(none * 17, 'T: 8704 bytes, and a batch takes 1 to 16 blocks of 512', text_of_motifs)
+    expect_error(none + none[:-1], 'T: 1023 bytes are not whole blocks of 512', text_of_motifs)
+    expect_error(b'', 'T: 0 bytes are not whole blocks of 512', text_of_motifs)
+    expect_error(none + bytes(BLOCK) + none, 'T: block 1: an empty block is no motif', text_of_motifs)
+    expect_error(none + two[:-1] + b'\1', 'T: block 1, byte 508: the checksum is not', text_of_motifs)
 
 
 def self_test():
@@ -275,7 +320,7 @@ def self_test():
     data = motif_and_catalog('>m\nA\n.\n', 'M', '>a\nA\n.\n>(empty)\n', 'C')
     assert len(data) == 3 * BLOCK and data[:BLOCK] == data[BLOCK:2 * BLOCK] == one and not any(data[2 * BLOCK:])
     one_text = '>a\nA\n.\n'
-    for motif, catalog, start in [(one_text + '\n>b\nA\n.\n', one_text, 'M:5:1: 2 molecules, and one motif'), ('', one_text, 'M:1:1: 0 molecules'),
+    for motif, catalog, start in [(one_text + '\n>b\nA\n.\n', one_text, 'M:5:1: 2 motifs, and one is screened'), ('', one_text, 'M:1:1: 0 motifs'),
                                   ('\n>(empty)\n', one_text, 'M:2:1: an empty block is no motif'), (one_text, '', 'C:1:1: 0 molecules'),
                                   ('>m\n', '>a\n', 'C:1:1: a molecule has one line'), (one_text, one_text * 65, 'C:193:1: 65 molecules, and 1 to 64')]:
         try:
@@ -285,6 +330,7 @@ def self_test():
         else:
             raise AssertionError((motif, catalog))
     test_motifs()
+    test_motif_buffers()
     test_list()
 
 
@@ -318,12 +364,14 @@ def parse(words):
     parser = argparse.ArgumentParser(description=__doc__, formatter_class=argparse.RawDescriptionHelpFormatter)
     parser.add_argument('--self-test', action='store_true', help='test this tool and stop')
     commands = parser.add_subparsers(dest='command', required=True)
-    one = commands.add_parser('encode', help='text to blocks: a catalog, or a motif as one block')
+    one = commands.add_parser('encode', help='text to blocks: a catalog, or motifs')
     one.add_argument('text')
-    one.add_argument('--motif', action='store_true', help='the text is that of a motif, which may have no bases')
+    one.add_argument('--motif', action='store_true', help='the text is that of 1 to %d motifs, which may have no bases' % MOST_MOTIFS)
     two = commands.add_parser('decode', help='blocks to text')
     two.add_argument('blocks')
-    two.add_argument('--screen', action='store_true', help='the first block is a motif')
+    kind = two.add_mutually_exclusive_group()
+    kind.add_argument('--screen', action='store_true', help='the first block is a motif')
+    kind.add_argument('--motif', action='store_true', help='all blocks are motifs, 1 to %d' % MOST_MOTIFS)
     three = commands.add_parser('screen-input', help='the input of the screen program: a motif, then a catalog')
     three.add_argument('motif')
     three.add_argument('catalog')
@@ -353,10 +401,12 @@ def run(words):
         return
     args = parse(words)
     if args.command == 'encode' and args.motif:
-        write(args.output, motif_block(read_text(args.text), args.text))
+        write(args.output, b''.join(motif_blocks(read_text(args.text), args.text)))
     elif args.command == 'encode':
         blocks = some_blocks(read_text(args.text), args.text, MOST_BLOCKS, 'a catalog has 1 to %d' % MOST_BLOCKS)
         write(args.output, b''.join(blocks))
+    elif args.command == 'decode' and args.motif:
+        write(args.output, text_of_motifs(read_blocks(args.blocks), args.blocks).encode('ascii'))
     elif args.command == 'decode':
         write(args.output, text_of(read_blocks(args.blocks), args.blocks, args.screen).encode('ascii'))
     elif args.command == 'list':

@@ -1,11 +1,12 @@
 #!/usr/bin/env python3
-"""Document 01, and requests (i) to (iii) of 02, in plain Python, for the scripts beside it: strands, their refusals and folds, embeddings, windows,
-blocks. It shares nothing with the library.
+"""Document 01, and requests (i) to (iii) and (v) of 02, in plain Python, for the scripts beside it: strands, their refusals and folds, embeddings,
+windows, blocks, the calls on catalog and cache. It shares nothing with the library.
 
 A strand is its bases, a text with a character for each byte, and its mates, a list of numbers. `--self-test` holds the search to the
-definition of an embedding, the depth and the tightest window to those of 02, and blocks to the rules.
+definition of an embedding, the depth and the tightest window to those of 02, blocks to the rules, and batches to single queries.
 """
 import collections
+import functools
 import itertools
 import random
 import sys
@@ -15,6 +16,7 @@ LEAST_MOTIF, LEAST_MOLECULE = 0, 1  # 02, (iii): refusal 2 remains for molecules
 LONGEST = 4096  # of the direct calls
 LONGEST_MOLECULE, LONGEST_MOTIF = 160, 120
 MOST_BLOCKS, MOST_SLOTS, MOST_SCREENED = 512, 64, 64
+MOST_MOTIFS = 16  # of a batch: 02, (v)
 
 # ---- strands
 
@@ -414,6 +416,173 @@ def forget(block, d):
         seal(block)
 
 
+# ---- the calls on catalog and cache, which are bytearrays; a refusal is its row, side and place, and None where there is none
+
+sound_block = functools.cache(sound)  # for bytes
+
+
+def blocks_in(buffer):
+    """The blocks of a buffer, one after the other."""
+    return [bytes(buffer[i:i + BLOCK]) for i in range(0, len(buffer), BLOCK)]
+
+
+def put_block(buffer, b, block):
+    buffer[BLOCK * b:BLOCK * (b + 1)] = block
+
+
+def is_whole(buffer, most):
+    """Whether a buffer is 1 to `most` whole blocks."""
+    return len(buffer) % BLOCK == 0 and 1 <= len(buffer) // BLOCK <= most
+
+
+def is_held(catalog, d):
+    return any(catalog[BLOCK * d:BLOCK * (d + 1)])
+
+
+def buffers_refusal(catalog, cache):
+    """Rows 10 and 11."""
+    if not is_whole(catalog, MOST_BLOCKS) or not is_whole(cache, MOST_SLOTS):
+        return 10, 2, 0
+    return next(((11, 2, d) for d, block in enumerate(blocks_in(catalog)) if not sound_block(MOLECULE, block)), None)
+
+
+def slices_refusal(hits, places, work, longest_motif):
+    """Rows 9 and 8: so many hits are lent and so many places needed, and so much work for a motif of that length."""
+    return (9, 2, 0) if hits < places else (8, 2, 0) if work < work_size(longest_motif) else None
+
+
+def add_refusal(catalog, cache, d, bases, mates):
+    refusal = buffers_refusal(catalog, cache)
+    if refusal:
+        return refusal
+    if len(catalog) // BLOCK <= d:
+        return 12, 2, 0
+    if is_held(catalog, d):
+        return 13, 2, 0
+    strand = molecule_refusal(bases, mates, LONGEST_MOLECULE)
+    return (strand[0], 1, strand[1]) if strand else None
+
+
+def remove_refusal(catalog, cache, d):
+    refusal = buffers_refusal(catalog, cache)
+    if refusal:
+        return refusal
+    if len(catalog) // BLOCK <= d:
+        return 12, 2, 0
+    return None if is_held(catalog, d) else (14, 2, 0)
+
+
+def query_refusal(catalog, cache, bases, mates, work, hits):
+    """`work` and `hits` are the lengths of the two slices."""
+    refusal = buffers_refusal(catalog, cache)
+    if refusal:
+        return refusal
+    strand = motif_refusal(bases, mates, LONGEST_MOTIF)
+    return (strand[0], 0, strand[1]) if strand else slices_refusal(hits, len(catalog) // BLOCK, work, len(bases))
+
+
+def clean(cache):
+    """Every accepted call first zeroes each unsound cache block."""
+    for k, block in enumerate(blocks_in(cache)):
+        if not sound_block(ENTRY, block):
+            put_block(cache, k, bytes(BLOCK))
+
+
+def add(catalog, cache, d, bases, mates):
+    """The refusal, or None."""
+    refusal = add_refusal(catalog, cache, d, bases, mates)
+    if not refusal:
+        clean(cache)
+        put_block(catalog, d, encode(MOLECULE, bases, mates))
+    return refusal
+
+
+def remove(catalog, cache, d):
+    """The refusal, or None."""
+    refusal = remove_refusal(catalog, cache, d)
+    if not refusal:
+        clean(cache)
+        put_block(catalog, d, bytes(BLOCK))
+        for k, block in enumerate(blocks_in(cache)):
+            block = bytearray(block)
+            forget(block, d)
+            put_block(cache, k, block)
+    return refusal
+
+
+@functools.cache
+def embeds_in(bases, mates, block):
+    """Whether a motif embeds in the molecule of a block."""
+    return embeds(bases, mates, *decode(MOLECULE, block))
+
+
+Queried = collections.namedtuple('Queried', 'refusal count searched')  # searched: the set of the numbers that had to be searched
+
+
+def query(catalog, cache, bases, mates, work, hits):
+    """A query with a work slice of so many entries. Writes the slot of the cache, and the list at the start of the hits."""
+    refusal = query_refusal(catalog, cache, bases, mates, work, len(hits))
+    if refusal:
+        return Queried(refusal, 0, set())
+    clean(cache)
+    k = key(bases, mates) % (len(cache) // BLOCK)
+    old, new, found, searched = blocks_in(cache)[k], encode(ENTRY, bases, mates), [], set()
+    for d, block in enumerate(blocks_in(catalog)):
+        if not any(block):
+            continue
+        if keeps(old, bases, mates) and has_bit(old, SEARCHED_AT, d):
+            hit = has_bit(old, HITS_AT, d)
+        else:
+            hit = embeds_in(bases, tuple(mates), block)
+            searched.add(d)
+        set_bit(new, SEARCHED_AT, d)
+        if hit:
+            set_bit(new, HITS_AT, d)
+            found.append(d)
+    seal(new)
+    put_block(cache, k, new)
+    hits[:len(found)] = found
+    return Queried(None, len(found), searched)
+
+
+def batch_refusal(catalog, cache, motifs, work, hits):
+    """02, (v): after 11 refusal 15, place 0 for the size of the motif buffer, else the lowest block that is unsound or empty; then 3, place the index of
+    the lowest motif that is too long; then 9, where the hits have fewer than B entries for each motif, and 8, by the work of the longest motif."""
+    refusal = buffers_refusal(catalog, cache)
+    if refusal:
+        return refusal
+    if not is_whole(motifs, MOST_MOTIFS):
+        return 15, 0, 0
+    blocks = blocks_in(motifs)
+    for t, block in enumerate(blocks):
+        if not holds(MOTIF, block):
+            return 15, 0, t
+    lengths = [len(decode(MOTIF, block)[0]) for block in blocks]
+    for t, m in enumerate(lengths):
+        if m > LONGEST_MOTIF:
+            return 3, 0, t
+    return slices_refusal(hits, len(blocks) * (len(catalog) // BLOCK), work, max(lengths))
+
+
+Batched = collections.namedtuple('Batched', 'refusal read counts searched')  # counts and searched: a number for each motif, none after a refusal
+
+
+def batch(catalog, cache, motifs, work, hits):
+    """02, (v): single queries in the order of the motifs. Motif t has its hits from entry t * B on. The number read is that of the held numbers that at
+    least one of these queries searches."""
+    refusal = batch_refusal(catalog, cache, motifs, work, len(hits))
+    if refusal:
+        return Batched(refusal, 0, [], [])
+    b, answers = len(catalog) // BLOCK, []
+    for t, block in enumerate(blocks_in(motifs)):
+        part = hits[t * b:(t + 1) * b]
+        answers.append(query(catalog, cache, *decode(MOTIF, block), work, part))
+        assert answers[t].refusal is None
+        hits[t * b:(t + 1) * b] = part
+    read = set().union(*(answer.searched for answer in answers))
+    return Batched(None, len(read), [answer.count for answer in answers], [len(answer.searched) for answer in answers])
+
+
 # ---- self-test
 
 def few_letters(strand):
@@ -479,6 +648,75 @@ def self_test_of_short_blocks(rng):
         [True, False], [True, False], [False, True], [False, False]]
 
 
+def self_test_of_story():
+    """01's example of queries, with B = 2 and S = 1, and 02, (v): the same queries as one batch, after which the cache is the same."""
+    catalog, cache, hits = bytearray(2 * BLOCK), bytearray(BLOCK), [7, 7]
+    for d, bases in enumerate(('GAC', 'GGC')):
+        assert add(catalog, cache, d, bases, [2, 1, 0]) is None
+    paired, alone = ('GC', [1, 0]), ('GC', [0, 1])
+    story = ((paired, [0, 1], 2), (paired, [0, 1], 0), (alone, [1, 1], 2), (paired, [0, 1], 2))
+    copy, motifs = bytearray(cache), b''.join(encode(MOTIF, *motif) for motif, _, _ in story)
+    for motif, list_left, searched in story:
+        assert query(catalog, cache, *motif, work_size(2), hits) == (None, len(set(list_left)), set(range(searched))) and hits == list_left
+    hits = [7] * 9
+    assert batch(catalog, copy, motifs, work_size(2), hits) == (None, 2, [2, 2, 1, 2], [2, 0, 2, 2])
+    assert copy == cache and hits == [0, 1, 0, 1, 1, 7, 0, 1, 7]
+    assert remove(catalog, cache, 0) is None and query(catalog, cache, *paired, work_size(2), hits) == (None, 1, set())
+    assert batch(catalog, cache, encode(MOTIF, *paired), work_size(2), hits) == (None, 0, [1], [0])
+
+
+# 02, (v): what is wrong with a batch on one molecule of two blocks, in the order of its refusals.
+BATCH_FAULTS = (
+    ((10, 2, 0), lambda case: case.update(cache=bytearray(BLOCK + 1))),
+    ((11, 2, 1), lambda case: case.update(catalog=case['catalog'][:BLOCK] + bytes([9]) + bytes(BLOCK - 1))),
+    ((15, 0, 0), lambda case: case.update(motifs=case['motifs'] + bytes(1))),
+    ((15, 0, 2), lambda case: case.update(motifs=case['motifs'][:2 * BLOCK] + bytes(BLOCK) + case['motifs'][3 * BLOCK:])),
+    ((3, 0, 1), lambda case: case.update(motifs=case['motifs'][:BLOCK] + encode(MOTIF, 'A' * 121, list(range(121))) + case['motifs'][2 * BLOCK:])),
+    ((9, 2, 0), lambda case: case.update(hits=7)),
+    ((8, 2, 0), lambda case: case.update(work=work_size(4) - 1)),
+)
+
+
+def self_test_of_batch_refusals():
+    """Each refusal alone, and before each that comes later; nothing is refused without a fault."""
+    motifs = b''.join(encode(MOTIF, *motif) for motif in (('A', [0]), ('GGCC', [3, 2, 1, 0]), NO_BASES, ('GC', [1, 0])))
+    catalog = encode(MOLECULE, 'A', [0]) + bytearray(BLOCK)
+    for faults in ((), *((fault,) for fault in BATCH_FAULTS), *itertools.combinations(BATCH_FAULTS, 2)):
+        case = dict(catalog=catalog, cache=bytearray(BLOCK), motifs=motifs, work=work_size(4), hits=8)
+        for _, make in reversed(faults):
+            make(case)
+        assert batch_refusal(**case) == (faults[0][0] if faults else None), [told for told, _ in faults]
+    for count in range(18):
+        wanted = None if 1 <= count <= MOST_MOTIFS else (15, 0, 0)
+        assert batch_refusal(catalog, bytearray(BLOCK), encode(MOTIF, *NO_BASES) * count, work_size(0), 2 * count) == wanted
+
+
+def self_test_of_batches(rng):
+    """On entries that have searched any numbers: each motif's list stands in its own part and nothing else is written; the number read is that of a union,
+    now and then more than any one query searches and less than all together."""
+    united = collections.Counter()
+    for _ in range(600):
+        b, s = rng.randint(1, 9), rng.randint(1, 3)
+        catalog, cache = bytearray(BLOCK * b), bytearray(BLOCK * s)
+        motifs = [few_letters(random_motif(rng, 3)) for _ in range(3)]
+        for motif in motifs:
+            put_block(cache, key(*motif) % s, encode(ENTRY, *motif, rng.randbytes(MAP)))
+        for d in filter(lambda _: rng.randrange(4), range(b)):
+            put_block(catalog, d, encode(MOLECULE, *few_letters(random_strand(rng, 9))))
+        chosen = [rng.choice(motifs) for _ in range(rng.randint(1, 5))]
+        single, hits, searched = bytearray(cache), [b] * (len(chosen) * b + 3), []
+        told = batch(catalog, cache, b''.join(encode(MOTIF, *motif) for motif in chosen), work_size(3), hits)
+        for t, motif in enumerate(chosen):
+            part = [b] * b
+            answer = query(catalog, single, *motif, work_size(3), part)
+            assert (answer.count, len(answer.searched)) == (told.counts[t], told.searched[t]) and hits[t * b:(t + 1) * b] == part
+            searched.append(answer.searched)
+        assert told.read == sum(any(d in numbers for numbers in searched) for d in range(b)) and single == cache and hits[-3:] == [b] * 3
+        united['more than one'] += max(told.searched) < told.read
+        united['less than all'] += told.read < sum(told.searched)
+    assert min(united.values()) > 20, united
+
+
 def self_test():
     for p, pm, q, qm, told in SETTLED:
         assert longest(p, pm, q, qm) == told == longest_by_definition(p, pm, q, qm), (p, pm, q, qm)
@@ -504,6 +742,9 @@ def self_test():
     assert len(folds) > 20, folds
     self_test_of_blocks(rng)
     self_test_of_short_blocks(rng)
+    self_test_of_story()
+    self_test_of_batch_refusals()
+    self_test_of_batches(rng)
 
 
 if __name__ == '__main__':

@@ -21,9 +21,9 @@ def bond(mates, i, j):
     mates[i], mates[j] = j, i
 
 
-def total(numbers):
-    """The sum of a list of numbers. Every number counts: one other changes the sum."""
-    sum = 0
+def total(numbers, before=0):
+    """The sum of a list of numbers, behind those that another sum is of. Every number counts: one other changes the sum."""
+    sum = before
     for x in numbers:
         sum = (sum * 31 + x + 1) % 2 ** 32
     return sum

@@ -1,4 +1,4 @@
-/* Prints each field of the two answers, with its offset and its bytes, and the size of each struct: the layout that the test of
+/* Prints each field of the three answers, with its offset and its bytes, and the size of each struct: the layout that the test of
  * bindings/rust/src/ffi/layout.rs compares with the wrapper's. */
 #include "lakhido.h"
 
@@ -25,5 +25,12 @@ int main(void) {
     FIELD(lakhido_window_answer, arcs);
     FIELD(lakhido_window_answer, depth);
     SIZE(lakhido_window_answer);
+    FIELD(lakhido_batch_answer, refusal);
+    FIELD(lakhido_batch_answer, side);
+    FIELD(lakhido_batch_answer, place);
+    FIELD(lakhido_batch_answer, read);
+    FIELD(lakhido_batch_answer, counts);
+    FIELD(lakhido_batch_answer, searched);
+    SIZE(lakhido_batch_answer);
     return 0;
 }

@@ -1,5 +1,5 @@
-/* Calls each function of the library on document 01's small examples, some of the arcs and depth of a molecule, some of the tightest window and some of the
- * empty motif, and prints ok. */
+/* Calls each function of the library on document 01's small examples, some of the arcs and depth of a molecule, some of the tightest window, some of the
+ * empty motif and some of batches, and prints ok. */
 #include "lakhido.h"
 
 #include <stdio.h>
@@ -10,7 +10,8 @@
 #define NONE NULL, 0
 
 static uint8_t catalog[2 * LAKHIDO_BLOCK], cache[LAKHIDO_BLOCK + 1];
-static uint16_t places[4], hits[3], work[LAKHIDO_QUERY_WORK(LAKHIDO_MOTIF_MOST)];
+static uint8_t motifs[(LAKHIDO_MOTIFS_MOST + 1) * LAKHIDO_BLOCK];
+static uint16_t places[4], hits[3], lists[2 * LAKHIDO_MOTIFS_MOST + 1], work[LAKHIDO_QUERY_WORK(LAKHIDO_MOTIF_MOST)];
 static int failed;
 
 static int equal(lakhido_answer a, lakhido_answer b) {
@@ -37,6 +38,19 @@ static void is_window(int line, lakhido_window_answer a, lakhido_window_answer e
            a.length, a.arcs, a.depth);
 }
 
+static int equal_batches(const lakhido_batch_answer *a, const lakhido_batch_answer *b) {
+    return a->refusal == b->refusal && a->side == b->side && a->place == b->place && a->read == b->read &&
+           !memcmp(a->counts, b->counts, sizeof a->counts) && !memcmp(a->searched, b->searched, sizeof a->searched);
+}
+
+static void is_batch(int line, lakhido_batch_answer a, lakhido_batch_answer expected) {
+    if (equal_batches(&a, &expected)) return;
+    failed = 1;
+    printf("line %d: refusal %zu side %zu place %zu read %zu, counts and searched", line, a.refusal, a.side, a.place, a.read);
+    for (int t = 0; t < LAKHIDO_MOTIFS_MOST; t++) printf(" %zu %zu", a.counts[t], a.searched[t]);
+    puts("");
+}
+
 static void holds(int line, int fact) {
     if (fact) return;
     failed = 1;
@@ -54,12 +68,18 @@ static void holds(int line, int fact) {
 #define NOWHERE(call, a, d) is_window(__LINE__, call, (lakhido_window_answer){.found = 0, .arcs = a, .depth = d})
 #define NO_WINDOW(call, number, s, p) is_window(__LINE__, call, (lakhido_window_answer){.refusal = number, .side = s, .place = p})
 
+/* An accepted batch with the number read, the counts and the searched numbers, each list in brackets; a refused one. Every other field is 0. */
+#define LIST(...) {__VA_ARGS__}
+#define BATCHED(call, r, c, s) is_batch(__LINE__, call, (lakhido_batch_answer){.read = r, .counts = LIST c, .searched = LIST s})
+#define NO_BATCH(call, number, s, p) is_batch(__LINE__, call, (lakhido_batch_answer){.refusal = number, .side = s, .place = p})
+
 #define WORK(m, n) work, LAKHIDO_WORK(m, n)
 #define CATALOG catalog, sizeof catalog
 #define CACHE cache, LAKHIDO_BLOCK
 #define QUERY_WORK work, LAKHIDO_QUERY_WORK(2)
 #define NOTHING_QUERIED lakhido_query(CATALOG, CACHE, NONE, NONE, work, LAKHIDO_QUERY_WORK(0), hits, 3)
 #define THREE_ARCS BASES("GGCGCC"), MATES(5, 2, 1, 4, 3, 0)
+#define MOTIFS(k) motifs, (k) * LAKHIDO_BLOCK
 
 static void strands(void) {
     FOLDED(lakhido_check(BASES("GAC"), MATES(2, 1, 0)), 0, 1, 1);
@@ -195,6 +215,101 @@ static void refused_buffers(void) {
     REFUSED(NOTHING_QUERIED, LAKHIDO_UNSOUND_BLOCK, LAKHIDO_NEITHER, 0);
 }
 
+/* Writes motif t to its block, as docs/FORMAT.md says. */
+static void put_motif(int t, const uint8_t *bases, size_t bases_length, const uint16_t *mates, size_t mates_length) {
+    uint8_t *block = motifs + t * LAKHIDO_BLOCK;
+    uint32_t sum = 0;
+    memset(block, 0, LAKHIDO_BLOCK);
+    block[0] = 1;
+    block[1] = bases_length;
+    for (size_t i = 0; i < bases_length; i++) block[28 + i] = bases[i];
+    for (size_t i = 0; i < mates_length; i++) {
+        block[188 + 2 * i] = mates[i] % 256;
+        block[189 + 2 * i] = mates[i] / 256;
+    }
+    for (uint32_t i = 0; i < 508; i++) sum += (i + 1) * block[i];
+    for (int i = 0; i < 4; i++) block[508 + i] = sum >> 8 * i;
+}
+
+/* Puts a motif of n unbonded bases to block t. */
+static void put_long_motif(int t, size_t n) {
+    uint8_t bases[LAKHIDO_MOLECULE_MOST];
+    uint16_t mates[LAKHIDO_MOLECULE_MOST];
+    for (size_t i = 0; i < n; i++) {
+        bases[i] = 'A';
+        mates[i] = i;
+    }
+    put_motif(t, bases, n, mates, n);
+}
+
+static void two_molecules(void) {
+    memset(catalog, 0, sizeof catalog);
+    memset(cache, 0, sizeof cache);
+    FOLDED(lakhido_add(CATALOG, CACHE, 0, BASES("GAC"), MATES(2, 1, 0)), 0, 1, 1);
+    FOLDED(lakhido_add(CATALOG, CACHE, 1, BASES("GGC"), MATES(2, 1, 0)), 0, 1, 1);
+    memset(lists, 255, sizeof lists);
+}
+
+/* Document 01's story as a batch: the same motif again, another one in the only slot, the first again. Then the last motif alone, which the cache knows; with
+ * it the empty motif, which takes the slot; after a removal the empty motif alone; and both once more, of which each finds the other in the slot. */
+static void batches(void) {
+    static const uint16_t written[] = {0, 1, 0, 1, 1, 65535, 0, 1, 65535};
+    two_molecules();
+    put_motif(0, BASES("GC"), MATES(1, 0));
+    put_motif(1, BASES("GC"), MATES(1, 0));
+    put_motif(2, BASES("GC"), MATES(0, 1));
+    put_motif(3, BASES("GC"), MATES(1, 0));
+    BATCHED(lakhido_batch(CATALOG, CACHE, MOTIFS(4), QUERY_WORK, lists, 9), 2, (2, 2, 1, 2), (2, 0, 2, 2));
+    HOLDS(!memcmp(lists, written, sizeof written));
+    BATCHED(lakhido_batch(CATALOG, CACHE, MOTIFS(1), QUERY_WORK, lists, 2), 0, (2), (0));
+    ACCEPTED(lakhido_query(CATALOG, CACHE, BASES("GC"), MATES(1, 0), QUERY_WORK, hits, 3), 2, 0);
+    put_motif(1, NONE, NONE);
+    HOLDS(motifs[LAKHIDO_BLOCK] == 1 && motifs[LAKHIDO_BLOCK + 508] == 1);
+    BATCHED(lakhido_batch(CATALOG, CACHE, MOTIFS(2), QUERY_WORK, lists, 4), 2, (2, 2), (0, 2));
+    ACCEPTED(lakhido_remove(CATALOG, CACHE, 1), 0, 0);
+    BATCHED(lakhido_batch(CATALOG, CACHE, motifs + LAKHIDO_BLOCK, LAKHIDO_BLOCK, work, LAKHIDO_QUERY_WORK(0), lists, 2), 0, (1), (0));
+    BATCHED(lakhido_batch(CATALOG, CACHE, MOTIFS(2), QUERY_WORK, lists, 4), 1, (1, 1), (1, 1));
+}
+
+/* Sixteen motifs that the one slot holds one after the other. */
+static void most_motifs(void) {
+    two_molecules();
+    for (int t = 0; t < LAKHIDO_MOTIFS_MOST; t++) put_motif(t, BASES("GC"), MATES(1, 0));
+    put_motif(8, BASES("A"), MATES(0));
+    BATCHED(lakhido_batch(CATALOG, CACHE, MOTIFS(LAKHIDO_MOTIFS_MOST), QUERY_WORK, lists, 2 * LAKHIDO_MOTIFS_MOST), 2,
+            (2, 2, 2, 2, 2, 2, 2, 2, 1, 2, 2, 2, 2, 2, 2, 2), (2, 0, 0, 0, 0, 0, 0, 0, 2, 2, 0, 0, 0, 0, 0, 0));
+    HOLDS(lists[15] == 1 && lists[16] == 0 && lists[17] == 65535 && lists[18] == 0 && lists[31] == 1 && lists[32] == 65535);
+}
+
+/* The order 10, 11, 15, 3, 9, 8, from the last row to the first; nothing is written, and an unsound block of the cache stays. */
+static void refused_batches(void) {
+    static uint8_t before[sizeof cache];
+    two_molecules();
+    put_motif(0, BASES("GC"), MATES(1, 0));
+    put_long_motif(1, 120);
+    put_long_motif(2, 121);
+    put_long_motif(3, 160);
+    cache[7] = 7;
+    memcpy(before, cache, sizeof cache);
+    NO_BATCH(lakhido_batch(CATALOG, CACHE, MOTIFS(2), work, LAKHIDO_QUERY_WORK(120) - 1, lists, 4), LAKHIDO_WORK_TOO_SHORT, LAKHIDO_NEITHER, 0);
+    NO_BATCH(lakhido_batch(CATALOG, CACHE, MOTIFS(2), NONE, lists, 4), LAKHIDO_WORK_TOO_SHORT, LAKHIDO_NEITHER, 0);
+    NO_BATCH(lakhido_batch(CATALOG, CACHE, MOTIFS(2), NONE, lists, 3), LAKHIDO_WRONG_SLICE, LAKHIDO_NEITHER, 0);
+    NO_BATCH(lakhido_batch(CATALOG, CACHE, MOTIFS(4), NONE, NONE), LAKHIDO_TOO_LONG, LAKHIDO_MOTIF, 2);
+    NO_BATCH(lakhido_batch(CATALOG, CACHE, motifs + 3 * LAKHIDO_BLOCK, LAKHIDO_BLOCK, NONE, NONE), LAKHIDO_TOO_LONG, LAKHIDO_MOTIF, 0);
+    memset(motifs + 4 * LAKHIDO_BLOCK, 0, LAKHIDO_BLOCK);
+    NO_BATCH(lakhido_batch(CATALOG, CACHE, MOTIFS(5), NONE, NONE), LAKHIDO_BAD_MOTIFS, LAKHIDO_MOTIF, 4);
+    motifs[LAKHIDO_BLOCK + 28] = 'X';
+    NO_BATCH(lakhido_batch(CATALOG, CACHE, MOTIFS(5), NONE, NONE), LAKHIDO_BAD_MOTIFS, LAKHIDO_MOTIF, 1);
+    NO_BATCH(lakhido_batch(CATALOG, CACHE, motifs, 2 * LAKHIDO_BLOCK - 1, NONE, NONE), LAKHIDO_BAD_MOTIFS, LAKHIDO_MOTIF, 0);
+    NO_BATCH(lakhido_batch(CATALOG, CACHE, MOTIFS(LAKHIDO_MOTIFS_MOST + 1), NONE, NONE), LAKHIDO_BAD_MOTIFS, LAKHIDO_MOTIF, 0);
+    NO_BATCH(lakhido_batch(CATALOG, CACHE, NONE, NONE, NONE), LAKHIDO_BAD_MOTIFS, LAKHIDO_MOTIF, 0);
+    catalog[LAKHIDO_BLOCK + 2] = 1;
+    NO_BATCH(lakhido_batch(CATALOG, CACHE, NONE, NONE, NONE), LAKHIDO_UNSOUND_BLOCK, LAKHIDO_NEITHER, 1);
+    NO_BATCH(lakhido_batch(CATALOG, cache, LAKHIDO_BLOCK + 1, NONE, NONE, NONE), LAKHIDO_NOT_WHOLE_BLOCKS, LAKHIDO_NEITHER, 0);
+    NO_BATCH(lakhido_batch(NONE, NONE, NONE, NONE, NONE), LAKHIDO_NOT_WHOLE_BLOCKS, LAKHIDO_NEITHER, 0);
+    HOLDS(!memcmp(cache, before, sizeof cache) && lists[0] == 65535 && lists[3] == 65535);
+}
+
 int main(void) {
     strands();
     direct_calls();
@@ -204,6 +319,9 @@ int main(void) {
     story();
     story_of_the_empty_motif();
     refused_buffers();
+    batches();
+    most_motifs();
+    refused_batches();
     if (!failed) puts("ok");
     return failed;
 }

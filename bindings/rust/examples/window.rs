@@ -1,22 +1,8 @@
 //! The shortest piece of yeast tRNA-Phe that still carries a hairpin, as README shows it: `cargo run --release --example window`.
-use lakhido::{Strand, window, work_size};
+mod dotbracket;
 
-/// The mates of a structure in dot-bracket text: `.` for a base without a bond, `(` and `)` for the two ends of one.
-fn mates(structure: &str) -> Vec<u16> {
-    let mut mates: Vec<u16> = (0..structure.len() as u16).collect();
-    let mut open = Vec::new();
-    for (i, sign) in structure.bytes().enumerate() {
-        match sign {
-            b'(' => open.push(i),
-            b')' => {
-                let left = open.pop().expect("a bracket that opens");
-                (mates[left], mates[i]) = (i as u16, left as u16);
-            }
-            _ => {}
-        }
-    }
-    mates
-}
+use dotbracket::mates;
+use lakhido::{Strand, window, work_size};
 
 fn main() -> Result<(), lakhido::Refusal> {
     let bases = "GCGGAUUUAGCUCAGUUGGGAGAGCGCCAGACUGAAGAUCUGGAGGUCCUGUGUUCGAUCCACAGAAUUCGCACCA";

@@ -8,7 +8,8 @@
 //!
 //! That the library does what the header says is proved in the repository. `tools/verify-interface` holds the declarations here to the Rattle source,
 //! and the functions below, whose parameters have its names, to the order of its parameters; it is no proof. The tests make all calls, and hold the layout
-//! of [`Answer`] and [`WindowAnswer`] to that of C.
+//! of [`Answer`], [`WindowAnswer`] and [`BatchAnswer`] to that of C.
+use crate::MOTIFS_MOST;
 
 /// `lakhido_answer`: refusal 0 means accepted.
 #[repr(C)]
@@ -37,8 +38,20 @@ pub struct WindowAnswer {
     pub depth: usize,
 }
 
+/// `lakhido_batch_answer`: refusal 0 means accepted.
+#[repr(C)]
+#[derive(Clone, Copy)]
+pub struct BatchAnswer {
+    pub refusal: usize,
+    pub side: usize,
+    pub place: usize,
+    pub read: usize,
+    pub counts: [usize; MOTIFS_MOST],
+    pub searched: [usize; MOTIFS_MOST],
+}
+
 mod c {
-    use super::{Answer, WindowAnswer};
+    use super::{Answer, BatchAnswer, WindowAnswer};
 
     unsafe extern "C" {
         pub fn lakhido_check(bases: *const u8, bases_length: usize, mates: *const u16, mates_length: usize) -> Answer;
@@ -118,6 +131,18 @@ mod c {
             hits: *mut u16,
             hits_length: usize,
         ) -> Answer;
+        pub fn lakhido_batch(
+            catalog: *const u8,
+            catalog_length: usize,
+            cache: *mut u8,
+            cache_length: usize,
+            motifs: *const u8,
+            motifs_length: usize,
+            work: *mut u16,
+            work_length: usize,
+            hits: *mut u16,
+            hits_length: usize,
+        ) -> BatchAnswer;
     }
 }
 
@@ -201,6 +226,24 @@ pub fn query(catalog: &[u8], cache: &mut [u8], p: &[u8], pm: &[u16], work: &mut 
             p.len(),
             pm.as_ptr(),
             pm.len(),
+            work.as_mut_ptr(),
+            work.len(),
+            hits.as_mut_ptr(),
+            hits.len(),
+        )
+    }
+}
+
+pub fn batch(catalog: &[u8], cache: &mut [u8], motifs: &[u8], work: &mut [u16], hits: &mut [u16]) -> BatchAnswer {
+    // SAFETY: `cache`, `work` and `hits` alone are written, within their lengths; they are `&mut` slices, apart from each other and from the others.
+    unsafe {
+        c::lakhido_batch(
+            catalog.as_ptr(),
+            catalog.len(),
+            cache.as_mut_ptr(),
+            cache.len(),
+            motifs.as_ptr(),
+            motifs.len(),
             work.as_mut_ptr(),
             work.len(),
             hits.as_mut_ptr(),

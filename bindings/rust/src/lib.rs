@@ -52,6 +52,13 @@
 //! assert_eq!(lakhido::query(&catalog, &mut cache, Strand::new(b"", &[]), &mut work, &mut hits)?.count, 2);
 //! assert_eq!(hits, [0, 1]);
 //!
+//! // Several motifs in one call, each in a block: the hits of motif t are from entry t * 2 on. Neither is in the cache, and each molecule is read once.
+//! let motifs: Vec<u8> = [motif, Strand::new(b"A", &[0])].into_iter().flat_map(|p| lakhido::motif_block(p).expect("a short motif")).collect();
+//! let mut hits = [0; 2 * 2];
+//! let batch = lakhido::batch(&catalog, &mut cache, &motifs, &mut work, &mut hits)?;
+//! assert_eq!(batch.read, 2);
+//! assert_eq!((hits[0], hits[2], hits[3]), (1, 0, 1));
+//!
 //! // A refusal says which rule, on which side, at which place.
 //! let refusal = lakhido::check(Strand::new(b"AXC", &[0, 1, 2])).unwrap_err();
 //! assert_eq!((refusal.reason, refusal.side, refusal.place), (Reason::BadLetter, Side::Molecule, 1));
@@ -65,9 +72,11 @@
 //!
 //! A call needs no more than [`STACK`] bytes of stack.
 
+mod block;
 mod ffi;
 mod refusal;
 
+pub use block::motif_block;
 use ffi::Answer;
 pub use refusal::{Reason, Refusal, Side};
 
@@ -75,7 +84,7 @@ pub use refusal::{Reason, Refusal, Side};
 pub const MOST: usize = 4096;
 /// The most bases of a molecule in the catalog.
 pub const MOLECULE_MOST: usize = 160;
-/// The most bases of a query's motif.
+/// The most bases of a motif in a query or a batch.
 pub const MOTIF_MOST: usize = 120;
 /// The bytes of a block. A block of zeros is empty.
 pub const BLOCK: usize = 512;
@@ -83,6 +92,8 @@ pub const BLOCK: usize = 512;
 pub const BLOCKS_MOST: usize = 512;
 /// The most blocks of a cache; it has at least one.
 pub const SLOTS_MOST: usize = 64;
+/// The most motifs of a batch; it has at least one.
+pub const MOTIFS_MOST: usize = 16;
 /// Bytes of stack that are enough for any call (measured by a test, not proved).
 pub const STACK: usize = 1048576;
 
@@ -91,7 +102,7 @@ pub const fn work_size(m: usize, n: usize) -> usize {
     64 * (m + 1) + 8 * n
 }
 
-/// The least work slice for [`query`]: a motif of m bases.
+/// The least work slice for [`query`], a motif of m bases, and for [`batch`], a longest motif of m bases.
 pub const fn query_work_size(m: usize) -> usize {
     work_size(m, MOLECULE_MOST)
 }
@@ -160,13 +171,29 @@ pub struct Verified {
     pub fold: Fold,
 }
 
-/// What [`query`] found. The hits stand at the start of the lent slice.
+/// What [`query`] found, or [`batch`] for one of its motifs. The hits of a query stand at the start of the lent slice.
 #[derive(Clone, Copy, PartialEq, Eq, Debug)]
 pub struct Found {
     /// How many molecules the motif embeds in.
     pub count: usize,
     /// How many molecules were searched; the cache knew the others.
     pub searched: usize,
+}
+
+/// What [`batch`] found. The hits of motif t stand in the lent slice from entry t times the number of catalog blocks on.
+#[derive(Clone, Copy, PartialEq, Eq, Debug)]
+pub struct Batch {
+    /// How many molecules were read: those that the query of at least one motif searches, each counted once.
+    pub read: usize,
+    found: [Found; MOTIFS_MOST],
+    motifs: usize,
+}
+
+impl Batch {
+    /// What each motif's query found, in the order of the motifs.
+    pub fn queries(&self) -> &[Found] {
+        &self.found[..self.motifs]
+    }
 }
 
 /// The fold that an accepted call answers.
@@ -271,4 +298,59 @@ pub fn remove(catalog: &mut [u8], cache: &mut [u8], number: usize) -> Result<(),
 pub fn query(catalog: &[u8], cache: &mut [u8], motif: Strand, work: &mut [u16], hits: &mut [u16]) -> Result<Found, Refusal> {
     let answer = refusal::accepted(ffi::query(catalog, cache, motif.bases, motif.mates, work, hits))?;
     Ok(Found { count: answer.value, searched: answer.searched })
+}
+
+/// Queries for a family of 1 to [`MOTIFS_MOST`] motifs in one call, which reads each molecule once for all of them. Counts, hits, searched numbers and the
+/// cache afterwards are those of [`query`] for each motif in the order of the buffer, each with the cache that the one before left; so what is said there of
+/// a believed cache entry holds here too.
+///
+/// `motifs` is one block of [`BLOCK`] bytes for each motif, as [`motif_block`] makes it. A block of zeros is no motif; the block of the motif with no bases is
+/// not all zeros. The same motif may stand there twice.
+///
+/// With B blocks in the catalog the numbers of motif t's hits go, rising, to the entries from t * B on of `hits`, which has at least B entries for each motif;
+/// every other entry is kept, those between two lists too. A motif that stands in the batch before, with no other motif of its slot between, searches
+/// nothing; one whose slot another motif of the batch took last searches all.
+///
+/// `work` has at least [`query_work_size`] entries, m being the bases of the longest motif; what it holds before is of no matter, and what it holds after an
+/// accepted call is free.
+///
+/// Refused by the reasons 10, 11, 15, 3 of the motifs (the place is the motif's index), 9, 8. A block may have up to [`MOLECULE_MOST`] bases: one of more than
+/// [`MOTIF_MOST`] is sound, and 3 refuses it, after 15.
+///
+/// ```
+/// use lakhido::{BLOCK, Found, Reason, Side, Strand, motif_block};
+///
+/// # fn main() -> Result<(), lakhido::Refusal> {
+/// let (mut catalog, mut cache) = (vec![0; 3 * BLOCK], vec![0; BLOCK]);
+/// lakhido::add(&mut catalog, &mut cache, 0, Strand::new(b"GAC", &[2, 1, 0]))?;
+/// lakhido::add(&mut catalog, &mut cache, 2, Strand::new(b"GGC", &[2, 1, 0]))?;
+///
+/// // G and C with a bond, the same once more, and without one. The cache has one block: the last takes the place of the first two.
+/// let family = [Strand::new(b"GC", &[1, 0]), Strand::new(b"GC", &[1, 0]), Strand::new(b"GC", &[0, 1])];
+/// let mut motifs: Vec<u8> = family.into_iter().flat_map(|motif| motif_block(motif).expect("two bases")).collect();
+/// let mut work = vec![0; lakhido::query_work_size(2)];
+/// let mut hits = vec![9; 3 * 3];
+/// let batch = lakhido::batch(&catalog, &mut cache, &motifs, &mut work, &mut hits)?;
+/// assert_eq!(batch.queries(), [Found { count: 2, searched: 2 }, Found { count: 2, searched: 0 }, Found { count: 1, searched: 2 }]);
+/// assert_eq!(hits, [0, 2, 9, 0, 2, 9, 2, 9, 9]);
+///
+/// // Two molecules are held, and both were searched twice; each was read once.
+/// assert_eq!(batch.read, 2);
+///
+/// // The list of each motif.
+/// for (list, found) in hits.chunks(3).zip(batch.queries()) {
+///     assert!(list[..found.count].contains(&2));
+/// }
+///
+/// // A block of zeros is no motif.
+/// motifs[BLOCK..2 * BLOCK].fill(0);
+/// let refusal = lakhido::batch(&catalog, &mut cache, &motifs, &mut work, &mut hits).unwrap_err();
+/// assert_eq!((refusal.reason, refusal.side, refusal.place), (Reason::BadMotifs, Side::Motif, 1));
+/// # Ok(())
+/// # }
+/// ```
+pub fn batch(catalog: &[u8], cache: &mut [u8], motifs: &[u8], work: &mut [u16], hits: &mut [u16]) -> Result<Batch, Refusal> {
+    let answer = refusal::accepted_batch(ffi::batch(catalog, cache, motifs, work, hits))?;
+    let found = std::array::from_fn(|t| Found { count: answer.counts[t], searched: answer.searched[t] });
+    Ok(Batch { read: answer.read, found, motifs: motifs.len() / BLOCK })
 }

@@ -1,5 +1,5 @@
 //! Refusals: the table's rows as an enum, with side and place.
-use crate::ffi::{Answer, WindowAnswer};
+use crate::ffi::{Answer, BatchAnswer, WindowAnswer};
 use std::fmt;
 
 /// Why a call was refused: a row of the table of refusals. Its number is [`Reason::number`].
@@ -10,7 +10,7 @@ pub enum Reason {
     UnequalLengths = 1,
     /// 2: no bases, of the molecule: a motif may have none.
     NoBases = 2,
-    /// 3: more bases than the call takes.
+    /// 3: more bases than the call takes. In a batch the place is the index of the lowest such motif.
     TooLong = 3,
     /// 4: a base that is not A, C, G or U. The place is the lowest.
     BadLetter = 4,
@@ -22,7 +22,8 @@ pub enum Reason {
     ArcsCross = 7,
     /// 8: the work slice is shorter than [`work_size`](crate::work_size) or [`query_work_size`](crate::query_work_size) says.
     WorkTooShort = 8,
-    /// 9: `show` has fewer places than the motif bases, `verify` not as many, or `query` fewer hits than the catalog blocks.
+    /// 9: `show` has fewer places than the motif bases, `verify` not as many, `query` fewer hits than the catalog blocks, or `batch` fewer than that for
+    /// each motif.
     WrongSlice = 9,
     /// 10: catalog or cache is not whole blocks, or none, or too many.
     NotWholeBlocks = 10,
@@ -34,11 +35,14 @@ pub enum Reason {
     AlreadyHeld = 13,
     /// 14: `remove` of a number that has none.
     NotHeld = 14,
+    /// 15: the motif buffer of a batch is not 1 to [`MOTIFS_MOST`](crate::MOTIFS_MOST) whole blocks, and then the place is 0, or a block of it is unsound or
+    /// empty, and then the place is the lowest.
+    BadMotifs = 15,
 }
 
 impl Reason {
     /// All reasons, by number.
-    pub const ALL: [Reason; 14] = [
+    pub const ALL: [Reason; 15] = [
         Reason::UnequalLengths,
         Reason::NoBases,
         Reason::TooLong,
@@ -53,9 +57,10 @@ impl Reason {
         Reason::NumberTooLarge,
         Reason::AlreadyHeld,
         Reason::NotHeld,
+        Reason::BadMotifs,
     ];
 
-    /// The row's number in the table of refusals, 1 to 14.
+    /// The row's number in the table of refusals, 1 to 15.
     pub const fn number(self) -> u8 {
         self as u8
     }
@@ -76,6 +81,7 @@ impl Reason {
             Reason::NumberTooLarge => "a number that is no block of the catalog",
             Reason::AlreadyHeld => "the number has a molecule",
             Reason::NotHeld => "the number has no molecule",
+            Reason::BadMotifs => "buffer not whole blocks, none, or too many, or an unsound or empty block",
         }
     }
 }
@@ -88,7 +94,7 @@ pub enum Side {
     Motif = 0,
     /// 1: the molecule.
     Molecule = 1,
-    /// 2: neither; every reason from [`Reason::WorkTooShort`] on.
+    /// 2: neither; every reason from [`Reason::WorkTooShort`] to [`Reason::NotHeld`].
     Neither = 2,
 }
 
@@ -106,7 +112,7 @@ pub struct Refusal {
     pub reason: Reason,
     /// The strand that it is about, if any.
     pub side: Side,
-    /// The lowest position or block that the reason names, 0 where it names none.
+    /// The lowest position, block or motif that the reason names, 0 where it names none.
     pub place: usize,
 }
 
@@ -120,7 +126,8 @@ impl fmt::Display for Refusal {
         write!(f, "refused ({}): {side}{}", self.reason.number(), self.reason.text())?;
         match self.reason {
             Reason::BadLetter | Reason::BadMate | Reason::MatesNotMutual | Reason::ArcsCross => write!(f, " at {}", self.place),
-            Reason::UnsoundBlock => write!(f, " {}", self.place),
+            Reason::UnsoundBlock | Reason::BadMotifs => write!(f, " {}", self.place),
+            Reason::TooLong if self.place != 0 => write!(f, ", number {} of the batch", self.place),
             _ => Ok(()),
         }
     }
@@ -148,5 +155,10 @@ pub(crate) fn accepted(answer: Answer) -> Result<Answer, Refusal> {
 
 /// The same of window.
 pub(crate) fn accepted_window(answer: WindowAnswer) -> Result<WindowAnswer, Refusal> {
+    judged(answer.refusal, answer.side, answer.place).map(|()| answer)
+}
+
+/// The same of batch.
+pub(crate) fn accepted_batch(answer: BatchAnswer) -> Result<BatchAnswer, Refusal> {
     judged(answer.refusal, answer.side, answer.place).map(|()| answer)
 }

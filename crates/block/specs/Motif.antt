@@ -1,4 +1,5 @@
--- A block handed in as a motif: the screen program reads one. It is laid out as a molecule block; its letters and its least length are a motif's.
+-- A block handed in as a motif: the screen program reads one, a batch reads 1 to 16. It is laid out as a molecule block; its letters and its least length are
+-- a motif's.
 use Prim.Native.Nat.{ℕ}
 use mathlib.Core.List.{List, []}
 use mathlib.Core.Bool.{Bool, not, _&&_}

@@ -1,10 +1,11 @@
 -- Laws of the loops over the blocks of a buffer.
 use mathlib.Core.Path.{_≡_, refl, sym, ap, ap₂, _∙_}
-use mathlib.Core.List.{List, _++_, append-assoc}
+use mathlib.Core.List.{List, _++_}
 use Prim.Native.Nat.{ℕ, zero, suc, _+_, _-_, _*_, _≤_}
 use native.Mathlib.Omega.{arith}
 use native.Mathlib.Numerals.{add-one}
 use borrow.Rule.Slice.PartMut.{putMid}
+use Rattle.lists.proofs.Stretches.{stretch-back}
 use lib.ListN.{length, take, drop, length-append, length-drop}
 use lib.Seq.{drop-at, drop-drop, length-take-le}
 use Rattle.block.specs.Block.{blockOf, blockCount, blocksTo, eachBlock, putBlock}
@@ -74,9 +75,4 @@ module _ (f : List ℕ → List ℕ) where
 
 pub put-is : (d : ℕ) (s r b : List ℕ) → r ≡ b → putMid (512 * d) (512 * d + 512 - 512 * d) s r ≡ putBlock d b s
 unfolding putBlock
-put-is d s r b e =
-    ap₂ (λ (x y : List ℕ). take (512 * d) s ++ (x ++ y)) e (drop-drop (512 * d + 512 - 512 * d) (512 * d) s ∙ ap (λ (n : ℕ). drop n s) sum)
-    ∙ sym (append-assoc (take (512 * d) s) b (drop (512 * d + 512) s))
-  where
-    sum : 512 * d + (512 * d + 512 - 512 * d) ≡ 512 * d + 512
-    sum = omega arith
+put-is d s r b e = stretch-back (512 * d) 512 s r ∙ ap (λ (x : List ℕ). take (512 * d) s ++ x ++ drop (512 * d + 512) s) e

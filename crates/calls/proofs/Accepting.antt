@@ -34,7 +34,7 @@ module _ (catalog cache : List ℕ) where
     unfolding unsoundAt
     none-unsound = lowest-all (λ d. not (soundMolecule (blockOf d catalog))) (blockCount catalog) (λ d l. ap not (u .blocks d l))
 
-    usable-pass : buffersVerdict catalog cache ≡ Accepted
+    pub usable-pass : buffersVerdict catalog cache ≡ Accepted
     usable-pass =
         sym (buffers-pass catalog cache catalog-whole cache-whole (lowest (blockCount catalog) (unsoundAt catalog)) refl (omega (arith, none-unsound)))
 

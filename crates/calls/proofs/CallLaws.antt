@@ -1,16 +1,16 @@
 -- From the judge's acceptance and what the writers left to the outcome of a call; what the entry of a slot knows.
-use Prim.Native.Nat.{ℕ, _/_, _<_}
+use Prim.Native.Nat.{ℕ, _+_, _-_, _/_, _<_, _≤_}
 use native.Mathlib.Omega.{arith}
 use mathlib.Core.Path.{_≡_, refl, sym, ap, ap₂, _∙_}
 use mathlib.Core.Bool.{Bool, true, false, not, _&&_, _||_, or-false}
 use mathlib.Core.List.{List, _++_}
-use lib.ListN.{length, drop}
+use lib.ListN.{length, drop, length-append, length-drop}
 use Rattle.lists.specs.Vocabulary.{choose, select}
 use Rattle.strand.specs.declared.Fold.{Fold}
 use Rattle.strand.specs.Folds.{foldOf, IsFold}
 use Rattle.strand.specs.Strands.{Strand, sameStrand}
 use Rattle.strand.proofs.FoldLaws.{fold-is, fold-only}
-use Rattle.lists.proofs.ListLaws.{choose-yes, choose-no}
+use Rattle.lists.proofs.ListLaws.{choose-yes, choose-no, select-short}
 use Rattle.refusals.proofs.RuleLaws.{by-accepted, by-refused}
 use Rattle.refusals.specs.declared.Verdict.{Verdict}
 use Rattle.refusals.specs.declared.Verdict.the-variants.{Accepted, Refused}
@@ -25,10 +25,11 @@ use Rattle.calls.specs.declared.Queried.{Queried}
 use Rattle.calls.specs.declared.Queried.the-variants.{Hits}
 use Rattle.calls.specs.Buffers.{mostCatalogBlocks, motifVerdict, held, moleculeAt, slotOf, cleanCache}
 use Rattle.calls.specs.Calls.{Effect, effect, addVerdict, addOutcome, removeVerdict, removeOutcome, queried, queryVerdict, isKnown, queryAccepted}
-use Rattle.calls.specs.Calls.{AddSays, toSearch, isHit, queryOutcome}
+use Rattle.calls.specs.Calls.{AddSays, QueryEffect, entryFor, toSearch, isHit, queryOutcome}
 use Rattle.calls.specs.Statements.{AllSound}
 use Rattle.calls.proofs.BlockUse as leaf
 use Rattle.calls.proofs.ReadingLaws.{cleaned-sound}
+use Rattle.calls.proofs.FactLaws.{query-facts}
 
 -- Two effects with the same parts are the same.
 updated-eq : {A : Type 0} {r r′ : A} {a a′ b b′ : List ℕ} → r ≡ r′ → a ≡ a′ → b ≡ b′ → effect r a b ≡ effect r′ a′ b′
@@ -85,11 +86,24 @@ module _ (catalog cache : List ℕ) (d : ℕ) where
 -- Query
 
 module _ (embeds : Strand → Strand → Bool) (catalog cache : List ℕ) (p : Strand) (work : ℕ) (hits : List ℕ) where
-  query-does : queryVerdict catalog cache p work (length hits) ≡ Accepted
+  pub query-does : queryVerdict catalog cache p work (length hits) ≡ Accepted
       → queryOutcome embeds catalog cache p work hits
       ≡ queryAccepted embeds catalog (cleanCache cache) (blockOf (slotOf (blockCount cache) p) (cleanCache cache)) (slotOf (blockCount cache) p) p hits
   unfolding queryOutcome
   query-does e = by-accepted (queryVerdict catalog cache p work (length hits)) _ _ e
+
+  -- the slice of the hits has as many entries as before
+  pub query-hits-size : queryVerdict catalog cache p work (length hits) ≡ Accepted → length (queryOutcome embeds catalog cache p work hits .hits) ≡ length hits
+  unfolding queryAccepted
+  query-hits-size e =
+      let list : List ℕ = select (blockCount catalog) (isHit embeds catalog (entryFor cache p) p) in
+      ap (λ (x : QueryEffect). length (x .hits)) (query-does e)
+      ∙ length-append list (drop (length list) hits)
+      ∙ ap (λ (n : ℕ). length list + n) (length-drop (length list) hits)
+      ∙ filled (length list) (blockCount catalog) (length hits) (select-short _ (blockCount catalog)) (query-facts catalog cache p work (length hits) e .3)
+    where
+      filled : (c b n : ℕ) → c ≤ b → b ≤ n → c + (n - c) ≡ n
+      filled c b n h k = omega arith
 
   -- y is the cache cleaned
   pub query-done : (r : Queried) (x h y : List ℕ) → queryVerdict catalog cache p work (length hits) ≡ Accepted → y ≡ eachBlock cleaned cache

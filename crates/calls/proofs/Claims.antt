@@ -33,8 +33,8 @@ use Rattle.calls.specs.declared.Queried.the-variants.{Refused as NotQuer
 use Rattle.calls.specs.Buffers.{mostCatalogBlocks, mostMoleculeBases, mostMotifBases, motifVerdict, workVerdict, buffersVerdict, held, moleculeAt}
 use Rattle.calls.specs.Buffers.{slotOf, cleanCache, Usable}
 use Rattle.calls.specs.Calls.{effect, addVerdict, addOutcome, removeVerdict, removeOutcome, queried, queryVerdict, isKnown, toSearch, isHit}
-use Rattle.calls.specs.Calls.{queryAccepted, queryOutcome, found, queryResult}
-use Rattle.calls.specs.Statements.{AllSound, OnlyAt, AddLeaves, RemoveLeaves, QueryLeaves, slotIn, entryFor, Claims}
+use Rattle.calls.specs.Calls.{slotIn, entryFor, queryAccepted, queryOutcome, found, queryResult}
+use Rattle.calls.specs.Statements.{AllSound, OnlyAt, AddLeaves, RemoveLeaves, QueryLeaves, Claims}
 use Rattle.calls.proofs.Accepting.{add-accepts, remove-accepts, query-accepts}
 use Rattle.calls.proofs.CallLaws.{add-says}
 use Rattle.calls.proofs.Refusing.{add-refuses, add-keeps, remove-refuses, remove-keeps, query-refuses, query-keeps}

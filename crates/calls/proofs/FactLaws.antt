@@ -20,7 +20,7 @@ use Rattle.calls.specs.Buffers.{mostCatalogBlocks, mostCacheBlocks, most
 use Rattle.calls.specs.Buffers.{isWhole, areWhole, unsoundAt, held, moleculeAt, buffersVerdict, Usable}
 use Rattle.calls.specs.Calls.{addVerdict, removeVerdict, queryVerdict}
 
-whole-facts : (most : ℕ) (s : List ℕ) → isWhole most s ≡ true → (length s ≡ blockSize * blockCount s) × (1 ≤ blockCount s) × (blockCount s ≤ most)
+pub whole-facts : (most : ℕ) (s : List ℕ) → isWhole most s ≡ true → (length s ≡ blockSize * blockCount s) × (1 ≤ blockCount s) × (blockCount s ≤ most)
 unfolding isWhole
 whole-facts most s e =
     let x = and-true _ (leb (blockCount s) most) e in

@@ -8,3 +8,8 @@ pub mod Claims
 pub mod CallLaws
 pub mod HoldingLaws
 pub mod Stores
+pub mod MotifLaws
+pub mod BatchLaws
+pub mod BatchRefusing
+mod BatchSlots
+pub mod BatchClaims

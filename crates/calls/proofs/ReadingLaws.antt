@@ -1,5 +1,5 @@
 -- What the calls read of catalog and cache after a block of the catalog is written, and after each block of the cache is cleaned.
-use Prim.Native.Nat.{ℕ, _+_, _*_, _-_, _%_, _<_, _≤_}
+use Prim.Native.Nat.{ℕ, _+_, _*_, _-_, _/_, _%_, _<_, _≤_}
 use native.Mathlib.Omega.{arith}
 use native.Mathlib.Decide.{ℕ-discrete, decLt}
 use mathlib.Core.Path.{_≡_, refl, sym, _∙_, ap}
@@ -10,7 +10,8 @@ use lib.Dec.{leb, eqb}
 use lib.ListN.{length, take, drop, set, replicate, length-take, length-drop, length-replicate, getD-replicate}
 use lib.Seq.{drop-set-add, take-set-lt, drop-set-lt, take-set-le, ext-getD, getD-take, getD-drop}
 use borrow.Author.Tests.{eq-eqb, ne-eqb}
-use Rattle.lists.specs.Vocabulary.{choose}
+use Rattle.lists.specs.Vocabulary.{nth, choose}
+use Rattle.lists.proofs.Stretches.{nth-stretch}
 use Rattle.refusals.specs.Rules.{refuseAtLowest}
 use Rattle.lists.proofs.ListLaws.{by-bool, lowest-all, choose-yes, choose-no}
 use Rattle.refusals.proofs.RuleLaws.{rule-at-no}
@@ -20,6 +21,7 @@ use Rattle.block.proofs.ContentLaws.{length-cleaned, length-forgot}
 use Rattle.buffer.proofs.BlockLaws.{block-each, length-each, length-put, block-put, block-other}
 use Rattle.refusals.specs.declared.Verdict.the-variants.{Accepted}
 use Rattle.calls.specs.Buffers.{isWhole, cleanCache}
+use Rattle.calls.specs.Statements.{AllSound}
 use Rattle.calls.proofs.BlockUse as leaf
 
 -- Buffers of n blocks
@@ -84,6 +86,24 @@ module _ (cache : List ℕ) (n : ℕ) (len : length cache ≡ blockSize * n) whe
   pub forgot-block : (d s : ℕ) → s < n → blockOf s (eachBlock (forgot d) (cleanCache cache)) ≡ forgot d (cleaned (blockOf s cache))
   forgot-block d s l =
       block-each (forgot d) (length-forgot d) s (cleanCache cache) (omega (arith, count-is (cleanCache cache) n clean-length)) ∙ ap (forgot d) (clean-block s l)
+
+-- buffers with the same blocks are the same
+same-blocks : (a b : List ℕ) (n : ℕ) → length a ≡ blockSize * n → length b ≡ blockSize * n → ((s : ℕ) → s < n → blockOf s a ≡ blockOf s b) → a ≡ b
+same-blocks a b n la lb same = ext-getD 0 a b (la ∙ sym lb) (λ i l. here i (i / blockSize) (i % blockSize) (omega arith) (omega arith) (omega (arith, la)))
+  where
+    here : (i s j : ℕ) → blockSize * s + j ≡ i → j < blockSize → s < n → nth a i ≡ nth b i
+    here i s j e h l =
+        ap (nth a) (sym e)
+        ∙ sym (nth-stretch (blockSize * s) blockSize a j h)
+        ∙ ap (λ (w : List ℕ). nth w j) (same s l)
+        ∙ nth-stretch (blockSize * s) blockSize b j h
+        ∙ ap (nth b) e
+
+-- a cache whose blocks are all sound is clean
+pub clean-same : (cache : List ℕ) → length cache ≡ blockSize * blockCount cache → AllSound cache → cleanCache cache ≡ cache
+clean-same cache len ok =
+    same-blocks (cleanCache cache) cache (blockCount cache) (clean-length cache (blockCount cache) len) len
+    (λ s l. clean-block cache (blockCount cache) len s l ∙ leaf.sound-clean (blockOf s cache) (ok s l))
 
 -- One byte of a buffer altered
 

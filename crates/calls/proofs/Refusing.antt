@@ -23,7 +23,7 @@ use Rattle.calls.specs.Calls.{queryOutcome}
 
 -- ---- the refusals of the rules
 
-buffers-numbered : (catalog cache : List ℕ) → Numbering (buffersVerdict catalog cache)
+pub buffers-numbered : (catalog cache : List ℕ) → Numbering (buffersVerdict catalog cache)
 unfolding buffersVerdict
 buffers-numbered catalog cache =
     first-numbered _ _ (if-numbered 10 noSide (call-number 10 0 (omega arith) (omega arith) (λ n. refl)) _)

@@ -20,6 +20,7 @@ use Rattle.calls.specs.Buffers.{mostCatalogBlocks, mostCacheBlocks, inRa
 use Rattle.calls.specs.Buffers.{isHeld, areWhole, unsoundAt, held, moleculeAt, buffersVerdict}
 use Rattle.lists.specs.Vocabulary.{putAt}
 use Rattle.calls.specs.Calls.{addVerdict, addOutcome, removeVerdict, removeOutcome, queryVerdict}
+use Rattle.calls.specs.Batch.{batchRules, batchVerdict}
 use Rattle.calls.specs.Statements.{OnlyAt}
 use Rattle.calls.proofs.BlockUse as leaf
 use Rattle.calls.proofs.ReadingLaws.{count-is, whole-is, no-place, block-zero}
@@ -171,3 +172,8 @@ module _ {B : ℕ} {catalog : List ℕ} {molecules : ℕ → Holding} (s : Store
         ∷ [])
     unfolding queryVerdict
     query-judged p work room = rw (buffers-judged, count)
+
+    pub batch-judged : (motifs : List ℕ) (work room : ℕ) → batchVerdict catalog cache motifs work room
+        ≡ batchRules (refuseIf notWholeBlocks noSide (not (inRange B S))) B motifs work room
+    unfolding batchVerdict
+    batch-judged motifs work room = rw (buffers-judged, count)

@@ -1,5 +1,5 @@
--- Add, remove and query: what each answers and leaves in every buffer, for all inputs and all contents of the buffers, and what histories compare of it.
--- These are the definitions that the contracts of the calls cite.
+-- Add, remove and query: what each answers and leaves in every buffer, for all inputs and all contents of the buffers, and what histories compare of a call.
+-- These are the definitions that the contracts of the calls cite; Batch has those of batch.
 use Prim.Native.Nat.{ℕ, _≤_, _<_}
 use mathlib.Core.Path.{_≡_}
 use mathlib.Core.Logic.{_↔_}
@@ -36,8 +36,8 @@ abbrev pub effect : {A : Type 0} → A → List ℕ → List ℕ → Effect A
 effect answer catalog cache = record { answer = answer; catalog = catalog; cache = cache }
 
 -- 01, Refused inputs: "Add: 10, 11, 12, 13, then 1 to 7. Remove: 10, 11, 12, 14. Query: 10, 11, motif, 9, 8." The order is the same for the calls and for the
--- reference model: `buffers` is what 10 and 11 say, B the number of catalog blocks, `taken` the numbers held; `work` and `room` are the lengths of the work and
--- the hit slice.
+-- reference model: `buffers` is what 10 and 11 say, B the number of catalog blocks, `taken` the numbers held; `work` and `room` are the lengths of the work
+-- and the hit slice.
 abbrev pub addRules : Verdict → ℕ → (ℕ → Bool) → ℕ → Strand → Verdict
 addRules buffers B taken d q =
     first (buffers ∷ refuseIf numberTooLarge noSide (leb B d) ∷ refuseIf alreadyHeld noSide (taken d) ∷ moleculeVerdict q ∷ [])
@@ -104,6 +104,13 @@ QueryAccepts catalog cache p work room =
     ↔ (Usable catalog cache × Proper motifSide leastMotif mostMotifBases (p .bases) (p .mates) × (blockCount catalog ≤ room)
     × (workSize (length (p .bases)) mostMoleculeBases ≤ work))
 
+-- The slot of a motif, and the entry that a query reads there.
+abbrev pub slotIn : List ℕ → Strand → ℕ
+slotIn cache p = slotOf (blockCount cache) p
+
+abbrev pub entryFor : List ℕ → Strand → List ℕ
+entryFor cache p = blockOf (slotIn cache p) (cleanCache cache)
+
 -- The slot's entry keeps this very motif (same bases, same mates) with searched bit d.
 unfoldable pub isKnown : List ℕ → Strand → ℕ → Bool
 isKnown entry p d = keepsMotif entry p && searchedIn entry d
@@ -130,12 +137,17 @@ module _ (embeds : Strand → Strand → Bool) where
   -- The query reads the entry of the motif's slot in the clean cache. A refusal leaves the cache and the hits as they are.
   unfoldable pub queryOutcome : List ℕ → List ℕ → Strand → ℕ → List ℕ → QueryEffect
   queryOutcome catalog cache p work hits =
-      let slot : ℕ = slotOf (blockCount cache) p in
       byVerdict (queryVerdict catalog cache p work (length hits))
       (λ r. queried (NotQueried r) cache hits)
-      (queryAccepted catalog (cleanCache cache) (blockOf slot (cleanCache cache)) slot p hits)
+      (queryAccepted catalog (cleanCache cache) (entryFor cache p) (slotIn cache p) p hits)
 
 -- ---- what histories compare
+
+-- What histories compare of each query of an accepted batch: the count, the hit list at the start of its entries, the searched number.
+pub record Found : Type 0 where
+  pub count : ℕ
+  pub hits : List ℕ
+  pub searched : ℕ
 
 -- What histories compare of an answer.
 pub data Result : Type 0 where
@@ -143,8 +155,10 @@ pub data Result : Type 0 where
   refused : ℕ → ℕ → ℕ → Result
   -- an accepted add, whose fold is not compared, or remove
   done : Result
-  -- an accepted query: the count, the hit list at the start of its slice, the searched number
+  -- an accepted query: the count, the hit list, the searched number
   found : ℕ → List ℕ → ℕ → Result
+  -- an accepted batch: that of each motif, in their order, and the number of molecules read
+  foundAll : List Found → ℕ → Result
 
 -- The result of a refusal, of an add, of a remove, and of a query.
 unfoldable pub refusedBy : Refusal → Result

@@ -20,7 +20,7 @@ use Rattle.calls.specs.declared.Removed.the-variants.{Cleared, Refused a
 use Rattle.calls.specs.declared.Queried.the-variants.{Hits, Refused as NotQueried}
 use Rattle.calls.specs.Buffers.{mostMoleculeBases, buffersVerdict, held, moleculeAt, slotOf, cleanCache}
 use Rattle.calls.specs.Calls.{Effect, addVerdict, addOutcome, removeVerdict, removeOutcome, QueryEffect, queryVerdict, toSearch}
-use Rattle.calls.specs.Calls.{isHit, queryOutcome, QueryAccepts, AddAccepts, AddSays, RemoveAccepts}
+use Rattle.calls.specs.Calls.{isHit, slotIn, entryFor, queryOutcome, QueryAccepts, AddAccepts, AddSays, RemoveAccepts}
 
 -- Every block of the cache is sound.
 abbrev pub AllSound : List ℕ → Type 0
@@ -82,13 +82,6 @@ pub record QueryLeaves (catalog cache : List ℕ) (s : ℕ) (p : Strand) (hits :
   pub hit-bits : (d : ℕ) → d < mapBits → hitIn (blockOf s (after .cache)) d ≡ hit d
   -- no block is unsound
   pub cache-sound : AllSound (after .cache)
-
--- The slot of a motif, and the entry that a query reads there.
-abbrev pub slotIn : List ℕ → Strand → ℕ
-slotIn cache p = slotOf (blockCount cache) p
-
-abbrev pub entryFor : List ℕ → Strand → List ℕ
-entryFor cache p = blockOf (slotIn cache p) (cleanCache cache)
 
 -- All the claims.
 pub record Claims (embeds : Strand → Strand → Bool) : Type 0 where

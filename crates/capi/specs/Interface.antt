@@ -17,9 +17,14 @@ use Rattle.calls.specs.declared.Removed.{Removed}
 use Rattle.calls.specs.declared.Removed.the-variants as removed
 use Rattle.calls.specs.declared.Queried.{Queried}
 use Rattle.calls.specs.declared.Queried.the-variants as queried
+use Rattle.calls.specs.declared.BatchRead.{BatchRead}
+use Rattle.calls.specs.declared.BatchRead.the-variants as batchRead
+use Rattle.calls.specs.declared.Batched.{Batched}
 use Rattle.calls.specs.Calls.{Effect, effect, QueryEffect}
+use Rattle.calls.specs.Batch.{BatchEffect}
 use Rattle.capi.specs.declared.Answer.{Answer}
 use Rattle.capi.specs.declared.WindowAnswer.{WindowAnswer}
+use Rattle.capi.specs.declared.BatchAnswer.{BatchAnswer}
 
 -- An accepted call: refusal number 0, and what the call says.
 abbrev pub accepted : ℕ → ℕ → Fold → Answer
@@ -80,6 +85,23 @@ unfoldable pub queryInC : Queried → Answer
 queryInC (queried.Hits count searched) = accepted count searched noFold
 queryInC (queried.Refused x) = refused x
 
+-- An accepted batch: refusal number 0, how many molecules were read, and for each motif its count of hits and its searched number.
+abbrev pub acceptedBatch : ℕ → List ℕ → List ℕ → BatchAnswer
+acceptedBatch read counts searched = record { refusal = 0; side = 0; place = 0; read = read; counts = counts; searched = searched }
+
+-- A refused batch: number, side and place as 01 and 02 have them, nothing read, and the numbers of the motifs as the call has them, zeros.
+abbrev pub refusedBatch : Refusal → List ℕ → List ℕ → BatchAnswer
+refusedBatch x counts searched =
+    record { refusal = x .number; side = x .side; place = x .place; read = 0; counts = counts; searched = searched }
+
+-- Batch: by how it ended, with the numbers of the motifs.
+unfoldable pub batchReadInC : BatchRead → List ℕ → List ℕ → BatchAnswer
+batchReadInC (batchRead.Molecules read) counts searched = acceptedBatch read counts searched
+batchReadInC (batchRead.Refused x) counts searched = refusedBatch x counts searched
+
+unfoldable pub batchInC : Batched → BatchAnswer
+batchInC a = batchReadInC (a .read) (a .counts) (a .searched)
+
 -- The effect of add or remove as C sees it: the struct in place of the answer, and both buffers afterwards.
 unfoldable pub effectInC : {A : Type 0} → (A → Answer) → Effect A → Effect Answer
 effectInC inC e = effect (inC (e .answer)) (e .catalog) (e .cache)
@@ -95,3 +117,15 @@ queriedInC answer cache hits = record { answer = answer; cache = cache; hits = h
 
 unfoldable pub queryEffectInC : QueryEffect → QueryEffectInC
 queryEffectInC e = queriedInC (queryInC (e .answer)) (e .cache) (e .hits)
+
+-- The effect of batch as C sees it: the struct, the cache and the slice of the hits afterwards.
+pub record BatchEffectInC : Type 0 where
+  pub answer : BatchAnswer
+  pub cache : List ℕ
+  pub hits : List ℕ
+
+abbrev pub batchedInC : BatchAnswer → List ℕ → List ℕ → BatchEffectInC
+batchedInC answer cache hits = record { answer = answer; cache = cache; hits = hits }
+
+unfoldable pub batchEffectInC : BatchEffect → BatchEffectInC
+batchEffectInC e = batchedInC (batchInC (e .answer)) (e .cache) (e .hits)

@@ -1,4 +1,7 @@
-// The answers of the calls as structs of numbers: one for window, one for all others.
+// The answers of the calls as structs of numbers: one for window, one for batch, one for all others.
+use batch::BatchRead;
+use batch::Batched;
+use calls::MOST_MOTIFS;
 use catalog::Added;
 use catalog::Queried;
 use catalog::Removed;
@@ -9,8 +12,8 @@ use strand::Checked;
 use strand::Fold;
 use window::Windowed;
 ghost use mathlib.Core.Path.{_≡_};
-ghost use Rattle.capi.specs.Interface.{accepted, refused, noFold, acceptedWindow, refusedWindow};
-ghost use Rattle.capi.specs.Interface.{checkInC, matchInC, windowInC, verifyInC, addInC, removeInC, queryInC};
+ghost use Rattle.capi.specs.Interface.{accepted, refused, noFold, acceptedWindow, refusedWindow, acceptedBatch, refusedBatch};
+ghost use Rattle.capi.specs.Interface.{checkInC, matchInC, windowInC, verifyInC, addInC, removeInC, queryInC, batchInC};
 
 // An accepted call, and a refused one.
 fn accept(value: usize, searched: usize, fold: Fold) -> crate::Answer
@@ -80,7 +83,43 @@ fn refuse_window(x: Refusal) -> crate::WindowAnswer
     }
 }
 
-// The struct for the answer of each call: check; length and show; window; verify; add; remove; query.
+// An accepted batch, and a refused one, with the numbers of the motifs.
+fn accept_batch(
+    read: usize,
+    counts: [usize; MOST_MOTIFS],
+    searched: [usize; MOST_MOTIFS],
+) -> crate::BatchAnswer
+    ensures { λ r. ⌜ r ≡ acceptedBatch read counts searched ⌝ }
+{
+    crate::BatchAnswer {
+        refusal: 0,
+        side: 0,
+        place: 0,
+        read,
+        counts,
+        searched,
+    }
+}
+
+fn refuse_batch(
+    x: Refusal,
+    counts: [usize; MOST_MOTIFS],
+    searched: [usize; MOST_MOTIFS],
+) -> crate::BatchAnswer
+    ensures { λ r. ⌜ r ≡ refusedBatch x counts searched ⌝ }
+{
+    let told = refuse(x);
+    crate::BatchAnswer {
+        refusal: told.refusal,
+        side: told.side,
+        place: told.place,
+        read: 0,
+        counts,
+        searched,
+    }
+}
+
+// The struct for the answer of each call: check; length and show; window; verify; add; remove; query; batch.
 pub fn tell_check(a: Checked) -> crate::Answer
     ensures { λ r. ⌜ r ≡ checkInC a ⌝ }
 {
@@ -147,5 +186,17 @@ pub fn tell_query(a: Queried) -> crate::Answer
     match a {
         Queried::Hits { count, searched } => accept(count, searched, no_fold()),
         Queried::Refused(x) => refuse(x),
+    }
+}
+
+pub fn tell_batch(a: Batched) -> crate::BatchAnswer
+    ensures { λ r. ⌜ r ≡ batchInC a ⌝ }
+{
+    let read = a.read;
+    let counts = a.counts;
+    let searched = a.searched;
+    match read {
+        BatchRead::Molecules(n) => accept_batch(n, counts, searched),
+        BatchRead::Refused(x) => refuse_batch(x, counts, searched),
     }
 }

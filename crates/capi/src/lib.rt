@@ -9,10 +9,12 @@ ghost use Rattle.refusals.specs.Rules.{WorkKept};
 ghost use Rattle.matcher.specs.Answers.{lengthVerdict, lengthAnswer, showVerdict, showAnswer, PlacesShown};
 ghost use Rattle.window.specs.Answers.{windowAnswer};
 ghost use Rattle.calls.specs.Calls.{effect, addOutcome, removeOutcome, queryVerdict, queryOutcome};
+ghost use Rattle.calls.specs.Batch.{batchVerdict, batchOutcome};
 ghost use Rattle.capi.specs.Interface.{checkInC, matchInC, windowInC, verifyInC, addInC, removeInC, effectInC, queriedInC, queryEffectInC};
+ghost use Rattle.capi.specs.Interface.{batchedInC, batchEffectInC};
 
-// The answer of every call but window. Refused: number, side and place, else zeros. Accepted: refusal 0, and in `value` and `searched` what the call says;
-// `arcs` and `depth` are the molecule's in check, length, show, verify and add; else 0.
+// The answer of every call but window and batch. Refused: number, side and place, else zeros. Accepted: refusal 0, and in `value` and `searched` what the call
+// says; `arcs` and `depth` are the molecule's in check, length, show, verify and add; else 0.
 #[repr(C)]
 pub struct Answer {
     pub refusal: usize,
@@ -36,6 +38,18 @@ pub struct WindowAnswer {
     pub length: usize,
     pub arcs: usize,
     pub depth: usize,
+}
+
+// The answer of batch. Refused: number, side and place, else zeros. Accepted: refusal 0, in `read` how many molecules were read, and for each motif its count
+// of hits in `counts` and how many molecules its query searched in `searched`, with 0 where there is no motif.
+#[repr(C)]
+pub struct BatchAnswer {
+    pub refusal: usize,
+    pub side: usize,
+    pub place: usize,
+    pub read: usize,
+    pub counts: [usize; calls::MOST_MOTIFS],
+    pub searched: [usize; calls::MOST_MOTIFS],
 }
 
 #[no_mangle]
@@ -150,4 +164,22 @@ pub extern "C" fn lakhido_query(
 {
     let a = catalog::query(catalog, cache, p, pm, work, hits);
     answers::tell_query(a)
+}
+
+#[no_mangle]
+pub extern "C" fn lakhido_batch(
+    catalog: &[u8],
+    cache: &mut [u8],
+    motifs: &[u8],
+    work: &mut [u16],
+    hits: &mut [u16],
+) -> BatchAnswer
+    ensures { λ r. ⌜ (batchedInC r (now (cache .exit)) (now (hits .exit))
+        ≡ batchEffectInC
+        (batchOutcome embeds (now (catalog .entry)) (now (motifs .entry)) (length (now (work .entry))) (now (cache .entry)) (now (hits .entry))))
+        × WorkKept (batchVerdict (now (catalog .entry)) (now (cache .entry)) (now (motifs .entry)) (length (now (work .entry))) (length (now (hits .entry))))
+        (now (work .entry)) (now (work .exit)) ⌝ }
+{
+    let a = batch::batch(catalog, cache, motifs, work, hits);
+    answers::tell_batch(a)
 }

@@ -1,54 +1,8 @@
-// Tests of the calls add, remove and query: each call's answer, every byte of catalog and cache that it leaves, and every entry of the hits are
-// held to a plain model, and where it is refused every entry of the work slice too. The model is in `tools/catalog_cases.py`, which makes
-// the lines: of the bytes and of the hits the lines have sums, which one other byte changes.
-//
-// A line has 104 bytes: a letter and, by column, numbers: 2 number d (seven digits), 10 bytes of the catalog (six), 17 bytes of the cache and 23
-// entries of the work slice (five), 29 entries of the hits (three), 33 the answer (nine); then 43 bases and 57 mates, a digit each (10 and more are
-// letters, `z` means 65535), or in the place of the mates `-` or `=`: none is bonded, or each with the one as far from the other end; 71 how many
-// of the bases are written, the others repeat them (two digits), 74 how many bases there are and 78 how many mates (three), 82 the sum of catalog
-// and cache, 93 that of the hits (ten). Letters: `A` add, `R` remove, `Q` query. `N` empties the buffer. `S` sets byte d of the buffer to the value of
-// column 23, `B` too, uncounted. `G` ends a group: its counts are written behind its name, which stands in column 5, its length in column 2.
-// Remarks begin with `#`. The answer is a number of `testing::answer`: a refusal; for an accepted add two numbers, the arcs of its molecule and the
-// depth; 0 for an accepted remove; for an accepted query two numbers, the count and how many molecules were searched.
-mod lines;
-mod requests;
-mod tell;
-
-use testing::answer::NOTHING;
-use testing::answer::WRONG;
+// Tests of the calls add, remove and query, by the lines of `catalog_testing`, which `tools/catalog_cases.py` makes.
+use catalog_testing::act;
+use catalog_testing::tell;
 use testing::input;
 use testing::input::MOST_LINES;
-use testing::input::number;
-use testing::output::say;
-use testing::slices::clear;
-use testing::slices::set_byte;
-
-// The answer's number, held to the line, which is written where it is wrong.
-fn answer(line: &[u8], kind: u8, s: &mut [u8]) -> usize {
-    let c = lines::call(line, kind);
-    let r = requests::made(c, line, s);
-    if requests::right(c, line, s, r) {
-        return r;
-    }
-    say(line);
-    WRONG
-}
-
-// Acts on a line; the number that is counted.
-fn act(line: &[u8], kind: u8, s: &mut [u8]) -> usize {
-    match kind {
-        b'A' | b'R' | b'Q' => answer(line, kind, s),
-        b'S' | b'B' => {
-            set_byte(s, number(line, 2, 7), number(line, 23, 5));
-            tell::byte_set(kind)
-        }
-        b'N' => {
-            clear(s);
-            NOTHING
-        }
-        _ => NOTHING,
-    }
-}
 
 fn step(line: &[u8], s: &mut [u8], counts: &mut [u16]) {
     let kind = input::kind(line);
@@ -70,15 +24,14 @@ fn all(line: &mut [u8], s: &mut [u8], counts: &mut [u16]) {
     }
 }
 
-// The buffer has 513 blocks of the catalog and 65 of the cache, one more than a call may have. A reference to an array is borrowed as a slice at no
-// cost, where the array itself would be spelled out by the prover.
-fn run(line: &mut [u8; 104], s: &mut [u8; 295936], counts: &mut [u16; 107]) {
+// A reference to an array is borrowed as a slice at no cost, where the array itself would be spelled out by the prover.
+fn run(line: &mut [u8; 104], s: &mut [u8; 295936], counts: &mut [u16; 111]) {
     all(line, s, counts);
 }
 
 fn main() {
     let mut line = [0u8; 104];
     let mut s = [0u8; 295936];
-    let mut counts = [0u16; 107];
+    let mut counts = [0u16; 111];
     run(&mut line, &mut s, &mut counts);
 }

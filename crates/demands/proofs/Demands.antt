@@ -6,6 +6,7 @@ use Rattle.embedding.specs.Longest.{embeds}
 use Rattle.matcher.proofs.Claims as matcher
 use Rattle.window.proofs.Claims as window
 use Rattle.calls.proofs.Claims as calls
+use Rattle.calls.proofs.BatchClaims as batches
 use Rattle.history.specs.History.{RunTheorem}
 use Rattle.history.proofs.Claims as history
 use Rattle.demands.specs.Demands.{AnyInput, RightAnswer, EveryHistory, Demands}
@@ -21,6 +22,9 @@ any-input =
       add = calls.claims embeds .add-refuses;
       remove = calls.claims embeds .remove-refuses;
       query = calls.claims embeds .query-refuses;
+      batch = batches.claims embeds .batch-refuses;
+      motifs-refuse = batches.claims embeds .motifs-refuse;
+      batch-order = batches.claims embeds .batch-order;
       check-accepts = strand.claims .check-accepts;
       length-accepts = matcher.claims .length-accepts;
       show-accepts = matcher.claims .show-accepts;
@@ -28,9 +32,11 @@ any-input =
       add-accepts = calls.claims embeds .add-accepts;
       remove-accepts = calls.claims embeds .remove-accepts;
       query-accepts = calls.claims embeds .query-accepts;
+      batch-accepts = batches.claims embeds .batch-accepts;
       add-keeps = calls.claims embeds .add-keeps;
       remove-keeps = calls.claims embeds .remove-keeps;
       query-keeps = calls.claims embeds .query-keeps;
+      batch-keeps = batches.claims embeds .batch-keeps;
     }
 
 right-answer : RightAnswer
@@ -47,6 +53,9 @@ right-answer =
       empty-motif-verified = embedding.claims .empty-motif-verified;
       empty-motif-windowed = window.claims .empty-motif-windowed;
       add = calls.claims embeds .add-says;
+      batch = batches.claims embeds .batch-accepted;
+      batch-of-one = batches.claims embeds .batch-of-one;
+      batch-shares = batches.claims embeds .batch-shares;
     }
 
 every-history : EveryHistory

@@ -15,9 +15,11 @@ use Rattle.window.specs.declared.Windowed.{Windowed}
 use Rattle.calls.specs.declared.Added.{Added}
 use Rattle.calls.specs.declared.Removed.{Removed}
 use Rattle.calls.specs.declared.Queried.{Queried}
+use Rattle.calls.specs.declared.Batched.{Batched}
 use Rattle.calls.specs.Calls.{Effect, effect, addOutcome, removeOutcome, QueryEffect, queried, queryVerdict, queryOutcome}
-use Rattle.history.specs.History.{runAdd, runRemove, runQuery}
-use Rattle.demands.specs.Meets.{CheckMeets, LengthMeets, ShowMeets, VerifyMeets, WindowMeets, AddMeets, RemoveMeets, QueryMeets}
+use Rattle.calls.specs.Batch.{BatchEffect, batched, batchVerdict, batchOutcome}
+use Rattle.history.specs.History.{runAdd, runRemove, runQuery, runBatch}
+use Rattle.demands.specs.Meets.{CheckMeets, LengthMeets, ShowMeets, VerifyMeets, WindowMeets, AddMeets, RemoveMeets, QueryMeets, BatchMeets}
 use Rattle.demands.proofs.Demands.{demands}
 
 pub check-tied : (bases mates : List ℕ) (r : Checked) → r ≡ checkAnswer bases mates → CheckMeets bases mates r
@@ -97,5 +99,22 @@ query-tied catalog cache p work hits r cache′ work′ hits′ e kept =
           let same = demands .any-input .query-keeps catalog cache p (len work) hits x (sym answer ∙ h) in
           (ap (λ (x : QueryEffect). x .cache) e ∙ same .0, ap (λ (x : QueryEffect). x .hits) e ∙ same .1);
       step = λ es log ran. runQuery p (len work) hits r cache′ hits′ e ran;
+      work-kept = kept;
+    }
+
+pub batch-tied : (catalog cache motifs work hits : List ℕ) (r : Batched) (cache′ work′ hits′ : List ℕ)
+    → batched r cache′ hits′ ≡ batchOutcome embeds catalog motifs (len work) cache hits
+    → WorkKept (batchVerdict catalog cache motifs (len work) (len hits)) work work′ → BatchMeets catalog cache motifs work hits r cache′ work′ hits′
+batch-tied catalog cache motifs work hits r cache′ work′ hits′ e kept =
+    let read = ap (λ (x : BatchEffect). x .answer .read) e in
+    record {
+      outcome = e;
+      refuses = rw read (demands .any-input .batch catalog cache motifs (len work) hits);
+      keeps = λ x h.
+          let same = demands .any-input .batch-keeps catalog cache motifs (len work) hits x (sym read ∙ h) in
+          (ap (λ (x : BatchEffect). x .cache) e ∙ same .0, ap (λ (x : BatchEffect). x .hits) e ∙ same .1);
+      leaves = λ ok. rw e (demands .right-answer .batch catalog cache motifs (len work) hits ok);
+      of-one = λ ok one. rw e (demands .right-answer .batch-of-one catalog cache motifs (len work) hits ok one);
+      step = λ es log ran. runBatch motifs (len work) hits r cache′ hits′ e ran;
       work-kept = kept;
     }

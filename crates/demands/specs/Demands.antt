@@ -1,15 +1,16 @@
 -- The three demands on the library; `demands`, in proofs/Demands, proves them of the definitions that the contracts cite: xVerdict is the table's word on call
 -- x (window has that of length), xAnswer and xOutcome what x answers and leaves. Meets.antt says the same of the calls themselves, and alone has what no
 -- definition gives: the places that show writes, and the work slices (1.10, 2.5). p, pm are the bases and mates of the motif P, q, qm those of the molecule Q;
--- in add and query q and p are whole strands. Blocks have their own statements (crate block), so have the screen program (screening) and the examples
--- (examples).
+-- in add and query q and p are whole strands, and a batch has its motifs as blocks of `motifs`. Blocks have their own statements (crate block), so have the
+-- screen program (screening) and the examples (examples).
 use Prim.Native.Nat.{ℕ}
 use mathlib.Core.Path.{_≡_}
 use mathlib.Core.Bool.{true}
 use mathlib.Core.List.{List}
 use lib.ListN.{length as len}
 use Rattle.lists.specs.Vocabulary.{nth}
-use Rattle.refusals.specs.Rules.{Refuses, Keeps}
+use Rattle.refusals.specs.Rules.{Refuses, RefusesBy, BatchNumbered, Keeps}
+use Rattle.refusals.specs.declared.Verdict.the-variants.{Accepted}
 use Rattle.strand.specs.Strands.{Strand, Inside, lettersMatch, checkVerdict, checkAnswer, CheckAccepts, CheckSays}
 use Rattle.strand.specs.declared.Checked.the-variants as checks
 use Rattle.embedding.specs.Embedding.{EmbedsIn}
@@ -21,11 +22,15 @@ use Rattle.matcher.specs.Answers.{EmptyMotifMatched}
 use Rattle.matcher.specs.declared.Matched.the-variants as matches
 use Rattle.window.specs.Answers.{windowAnswer, WindowSays, EmptyMotifWindowed}
 use Rattle.window.specs.declared.Windowed.the-variants as windows
+use Rattle.block.specs.Block.{blockCount}
 use Rattle.calls.specs.declared.Added.the-variants as adds
 use Rattle.calls.specs.declared.Removed.the-variants as removes
 use Rattle.calls.specs.declared.Queried.the-variants as queries
+use Rattle.calls.specs.declared.BatchRead.the-variants as batches
 use Rattle.calls.specs.Calls.{addVerdict, addOutcome, removeVerdict, removeOutcome, queryVerdict, queryOutcome, AddAccepts, RemoveAccepts}
 use Rattle.calls.specs.Calls.{AddSays, QueryAccepts}
+use Rattle.calls.specs.Batch.{batchVerdict, batchOutcome}
+use Rattle.calls.specs.BatchStatements.{BatchAccepts, BatchLeaves, IsQuery, SlotsShared, MotifsRefuse, BatchOrder}
 use Rattle.history.specs.Model.{Event, Line}
 use Rattle.history.specs.History.{zeroed, Ran, admitted, SomeRun, SameRefusals, Decides, RunTheorem}
 use Rattle.history.specs.Statements.{EmptyMotifListsHeld}
@@ -50,7 +55,8 @@ pub record AnyInput : Type 0 where
   pub add-accepts : (catalog cache : List ℕ) (d : ℕ) (q : Strand) → AddAccepts catalog cache d q
   pub remove-accepts : (catalog cache : List ℕ) (d : ℕ) → RemoveAccepts catalog cache d
   pub query-accepts : (catalog cache : List ℕ) (p : Strand) (work room : ℕ) → QueryAccepts catalog cache p work room
-  -- 1.9: a refusing add or remove leaves catalog and cache as they were, a refusing query cache and hits (it only reads the catalog)
+  pub batch-accepts : (catalog cache motifs : List ℕ) (work room : ℕ) → BatchAccepts catalog cache motifs work room
+  -- 1.9: a refusing add or remove leaves catalog and cache as they were, a refusing query or batch cache and hits (it only reads the catalog, and the motifs)
   pub add-keeps : (catalog cache : List ℕ) (d : ℕ) (q : Strand)
       → Keeps adds.Refused (addOutcome catalog cache d q .answer) catalog cache (addOutcome catalog cache d q .catalog) (addOutcome catalog cache d q .cache)
   pub remove-keeps : (catalog cache : List ℕ) (d : ℕ)
@@ -59,8 +65,18 @@ pub record AnyInput : Type 0 where
   pub query-keeps : (catalog cache : List ℕ) (p : Strand) (work : ℕ) (hits : List ℕ)
       → Keeps queries.Refused (queryOutcome embeds catalog cache p work hits .answer) cache hits
       (queryOutcome embeds catalog cache p work hits .cache) (queryOutcome embeds catalog cache p work hits .hits)
+  pub batch-keeps : (catalog cache motifs : List ℕ) (work : ℕ) (hits : List ℕ)
+      → Keeps batches.Refused (batchOutcome embeds catalog motifs work cache hits .answer .read) cache hits
+      (batchOutcome embeds catalog motifs work cache hits .cache) (batchOutcome embeds catalog motifs work cache hits .hits)
   -- 1.11: window refuses just what length refuses, with the same refusal; so `length-accepts` says when it is accepted
   pub window : (p pm q qm : List ℕ) (work : ℕ) → Refuses (lengthVerdict p pm q qm work) windows.Refused (windowAnswer p pm q qm work)
+  -- 1.12: the same of batch; beside the refusals of the other calls it has two of its motif buffer: 15, and 3 with the place of a motif
+  pub batch : (catalog cache motifs : List ℕ) (work : ℕ) (hits : List ℕ)
+      → RefusesBy BatchNumbered (batchVerdict catalog cache motifs work (len hits)) batches.Refused
+      (batchOutcome embeds catalog motifs work cache hits .answer .read)
+  -- which of them it is: the order of its rules, and the place in the motif buffer
+  pub motifs-refuse : (motifs : List ℕ) → MotifsRefuse motifs
+  pub batch-order : (catalog cache motifs : List ℕ) (work room : ℕ) → BatchOrder catalog cache motifs work room
 
 -- Demand 2, the right answer. (2.5, in Meets: the first L places that show leaves are an embedding of that prefix, and later ones keep their values.)
 pub record RightAnswer : Type 0 where
@@ -85,20 +101,30 @@ pub record RightAnswer : Type 0 where
   pub empty-motif-matched : (q qm : List ℕ) (work : ℕ) → EmptyMotifMatched q qm work
   pub empty-motif-verified : (q qm v : List ℕ) → EmptyMotifVerified q qm v
   pub empty-motif-windowed : (q qm : List ℕ) (work : ℕ) → EmptyMotifWindowed q qm work
+  -- 2.10: an accepted batch answers and leaves what single queries of its motifs do, in that order: each of them is accepted, the batch has its count, its
+  -- searched number and its list, and the cache is as the last leaves it. The number read is that of the molecules that at least one of these queries
+  -- would search. A batch of one motif is a query. The first motif of a slot finds there what the cache has; of two motifs in one slot, with no other of that
+  -- slot between, the later searches nothing where it is the same motif, else all that is held
+  pub batch : (catalog cache motifs : List ℕ) (work : ℕ) (hits : List ℕ) → batchVerdict catalog cache motifs work (len hits) ≡ Accepted
+      → BatchLeaves embeds catalog motifs work cache hits (batchOutcome embeds catalog motifs work cache hits)
+  pub batch-of-one : (catalog cache motifs : List ℕ) (work : ℕ) (hits : List ℕ) → batchVerdict catalog cache motifs work (len hits) ≡ Accepted
+      → blockCount motifs ≡ 1 → IsQuery embeds catalog motifs work cache hits (batchOutcome embeds catalog motifs work cache hits)
+  pub batch-shares : (catalog cache motifs : List ℕ) (work : ℕ) (hits : List ℕ) → batchVerdict catalog cache motifs work (len hits) ≡ Accepted
+      → SlotsShared embeds catalog motifs work cache hits
 
--- Demand 3, every history of add, remove and query.
+-- Demand 3, every history of add, remove, query and batch.
 pub record EveryHistory : Type 0 where
   -- 3.1: `embeds`, the test of contracts and model, is true exactly where an embedding exists, for motifs and molecules that rules 1 to 7 let pass
   pub decides : Decides EmbedsIn embeds
   -- 3.2: from zeroed buffers, with at most one alteration in each cache block before the first accepted call and between one accepted call and the next,
-  -- all that is compared is what the reference model says; and each accepted query lists just the numbers then held into whose molecules the motif
-  -- embeds, rising
+  -- all that is compared is what the reference model says; and each accepted query, and each query of an accepted batch, lists just the numbers then held
+  -- into whose molecules its motif embeds, rising
   pub runs : RunTheorem EmbedsIn embeds
   -- 3.3: from zeroed buffers, with any alterations, a run refuses just what the model refuses: "accepted" in 3.2 is one notion
   pub refusals : SameRefusals embeds
   -- 3.4: 3.2 and 3.3 are not empty: every list has a run (that the calls make its steps is `step`, in Meets)
   pub some-run : SomeRun embeds
-  -- 3.5: in the runs of 3.2 each accepted query of the motif with no bases lists just the numbers then held
+  -- 3.5: in the runs of 3.2 each accepted query of the motif with no bases, by itself or in a batch, lists just the numbers then held
   pub empty-motif : (B S : ℕ) (es : List Event) (log : List Line) → Ran embeds (zeroed B S) es log → admitted embeds B S es ≡ true → EmptyMotifListsHeld log
 
 pub record Demands : Type 0 where

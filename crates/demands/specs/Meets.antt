@@ -1,12 +1,13 @@
 -- What the functions of src/lib.rt, each of which makes one public call, state of it: by numbers of Demands. r is the answer, a prime marks a buffer after
 -- the call. 1.10: a refusal leaves the work slice (`work-kept`) and show's places (`places-shown`) as they were, an accepted call keeps the length of the work
--- slice. Of add, remove and query `outcome` is the contract, and the rest follows from it. A list of calls, each on the buffers that the one before left, with
--- alterations between, is a run: begin at its end with `runEnd`, put each call in front by `step` and each alteration by `runAlter`.
+-- slice. Of add, remove, query and batch `outcome` is the contract, and the rest follows from it. A list of calls, each on the buffers that the one before
+-- left, with alterations between, is a run: begin at its end with `runEnd`, put each call in front by `step` and each alteration by `runAlter`.
 use Prim.Native.Nat.{ℕ}
 use mathlib.Core.Path.{_≡_}
 use mathlib.Core.List.{List}
 use lib.ListN.{length as len}
-use Rattle.refusals.specs.Rules.{Refuses, Keeps, WorkKept}
+use Rattle.refusals.specs.Rules.{Refuses, RefusesBy, BatchNumbered, Keeps, WorkKept}
+use Rattle.refusals.specs.declared.Verdict.the-variants.{Accepted}
 use Rattle.strand.specs.Strands.{Strand, checkVerdict, CheckSays}
 use Rattle.strand.specs.declared.Checked.{Checked}
 use Rattle.strand.specs.declared.Checked.the-variants as checks
@@ -19,15 +20,20 @@ use Rattle.matcher.specs.declared.Matched.the-variants as matches
 use Rattle.window.specs.Answers.{WindowSays}
 use Rattle.window.specs.declared.Windowed.{Windowed}
 use Rattle.window.specs.declared.Windowed.the-variants as windows
+use Rattle.block.specs.Block.{blockCount}
 use Rattle.calls.specs.declared.Added.{Added}
 use Rattle.calls.specs.declared.Added.the-variants as adds
 use Rattle.calls.specs.declared.Removed.{Removed}
 use Rattle.calls.specs.declared.Removed.the-variants as removes
 use Rattle.calls.specs.declared.Queried.{Queried}
 use Rattle.calls.specs.declared.Queried.the-variants as queries
+use Rattle.calls.specs.declared.Batched.{Batched}
+use Rattle.calls.specs.declared.BatchRead.the-variants as batches
 use Rattle.calls.specs.Calls.{effect, addVerdict, addOutcome, removeVerdict, removeOutcome, queried, queryVerdict, queryOutcome, addResult, removeResult}
 use Rattle.calls.specs.Calls.{queryResult, AddSays}
-use Rattle.history.specs.Model.{add, remove, query}
+use Rattle.calls.specs.Batch.{batched, batchVerdict, batchOutcome, batchResult}
+use Rattle.calls.specs.BatchStatements.{BatchLeaves, IsQuery}
+use Rattle.history.specs.Model.{add, remove, query, batch}
 use Rattle.history.specs.History.{buffersOf, IsStep}
 
 -- 1.1, 2.1
@@ -82,3 +88,16 @@ pub record QueryMeets (catalog cache : List ℕ) (p : Strand) (work hits : List 
   pub keeps : Keeps queries.Refused r cache hits cache′ hits′
   pub step : IsStep embeds (buffersOf catalog cache) (query p (len work) hits) (queryResult r hits′) (buffersOf catalog cache′)
   pub work-kept : WorkKept (queryVerdict catalog cache p (len work) (len hits)) work work′
+
+-- 1.9, 1.10, 1.12, 2.10; the step `runBatch`
+pub record BatchMeets (catalog cache motifs work hits : List ℕ) (r : Batched) (cache′ work′ hits′ : List ℕ) : Type 0 where
+  pub outcome : batched r cache′ hits′ ≡ batchOutcome embeds catalog motifs (len work) cache hits
+  pub refuses : RefusesBy BatchNumbered (batchVerdict catalog cache motifs (len work) (len hits)) batches.Refused (r .read)
+  pub keeps : Keeps batches.Refused (r .read) cache hits cache′ hits′
+  pub leaves : batchVerdict catalog cache motifs (len work) (len hits) ≡ Accepted
+      → BatchLeaves embeds catalog motifs (len work) cache hits (batched r cache′ hits′)
+  pub of-one : batchVerdict catalog cache motifs (len work) (len hits) ≡ Accepted → blockCount motifs ≡ 1
+      → IsQuery embeds catalog motifs (len work) cache hits (batched r cache′ hits′)
+  pub step : IsStep embeds (buffersOf catalog cache) (batch motifs (len work) hits) (batchResult (blockCount catalog) (blockCount motifs) r hits′)
+      (buffersOf catalog cache′)
+  pub work-kept : WorkKept (batchVerdict catalog cache motifs (len work) (len hits)) work work′

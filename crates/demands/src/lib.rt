@@ -1,7 +1,7 @@
 // The public calls, each with what the three demands say of it (specs/Meets): proved from the contracts of the calls alone, so that a weaker contract is
 // refused here.
 ghost use Rattle.strand.specs.Strands.{strandOf};
-ghost use Rattle.demands.specs.Meets.{CheckMeets, LengthMeets, ShowMeets, VerifyMeets, WindowMeets, AddMeets, RemoveMeets, QueryMeets};
+ghost use Rattle.demands.specs.Meets.{CheckMeets, LengthMeets, ShowMeets, VerifyMeets, WindowMeets, AddMeets, RemoveMeets, QueryMeets, BatchMeets};
 
 pub fn check(bases: &[u8], mates: &[u16]) -> strand::Checked
     ensures { λ r. ⌜ CheckMeets (now (bases .entry)) (now (mates .entry)) r ⌝ }
@@ -72,4 +72,17 @@ pub fn query(
         (now (hits .entry)) r (now (cache .exit)) (now (work .exit)) (now (hits .exit)) ⌝ }
 {
     catalog::query(catalog, cache, p, pm, work, hits)
+}
+
+pub fn batch(
+    catalog: &[u8],
+    cache: &mut [u8],
+    motifs: &[u8],
+    work: &mut [u16],
+    hits: &mut [u16],
+) -> batch::Batched
+    ensures { λ r. ⌜ BatchMeets (now (catalog .entry)) (now (cache .entry)) (now (motifs .entry)) (now (work .entry)) (now (hits .entry)) r
+        (now (cache .exit)) (now (work .exit)) (now (hits .exit)) ⌝ }
+{
+    batch::batch(catalog, cache, motifs, work, hits)
 }

@@ -22,7 +22,8 @@ use Rattle.calls.specs.Calls.{Result, refused, refusedBy}
 use Rattle.calls.proofs.BlockUse.{empty-molecule, molecule-length}
 use Rattle.calls.proofs.ReadingLaws.{count-is, whole-is, put-length, put-block, block-zero}
 use Rattle.calls.proofs.JudgeLaws.{block-unsound, add-buffers-refused, remove-buffers-refused, query-buffers-refused}
-use Rattle.history.specs.Model.{Call, add, remove, query, call, Line, gave}
+use Rattle.calls.proofs.BatchLaws.{batch-buffers-refused}
+use Rattle.history.specs.Model.{Call, add, remove, query, batch, call, Line, gave}
 use Rattle.history.specs.History.{Buffers, zeroed, Ran}
 use Rattle.history.specs.Statements.{AllRefused}
 use Rattle.history.proofs.Bytes.{bytesVerdict, bytesResult, bytesLog, bytes-refused}
@@ -126,3 +127,5 @@ unsound-refused c = by-run unsound c _ (bytes-refused embeds unsound c _ (verdic
     verdict (remove d) = unfold bytesVerdict zeroed two one zeros in (sym (remove-buffers-refused two (replicate blockSize 0) d _ buffers))
     verdict (query p work hits) = unfold bytesVerdict zeroed two one zeros in
         (sym (query-buffers-refused two (replicate blockSize 0) p work (length hits) _ buffers))
+    verdict (batch motifs work hits) = unfold bytesVerdict zeroed two one zeros in
+        (sym (batch-buffers-refused two (replicate blockSize 0) motifs work (length hits) _ buffers))

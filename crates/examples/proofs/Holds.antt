@@ -1,4 +1,4 @@
--- The theorem of the examples of 01 and of 02, (i) to (iii): every row of the table holds.
+-- The theorem of the examples of 01 and of 02, (i) to (iii) and (v): every row of the table holds.
 use mathlib.Core.Path.{refl}
 use mathlib.Core.List.{List, [], _∷_, _++_}
 use Rattle.lists.specs.Vocabulary.{choose, every, some, lowestFrom, lowest, largest, select, tab, someList, total, putAt}
@@ -15,17 +15,19 @@ use Rattle.window.specs.Answers.{windowOf, windowAnswer}
 use Rattle.block.proofs.Examples.{checksum-of-A}
 use Rattle.calls.specs.Buffers.{inRange, moleculeVerdict, motifVerdict, workVerdict, isHeld}
 use Rattle.calls.specs.Calls.{refusedBy}
-use Rattle.history.specs.Model.{add, remove, endsPeriod, start, heldIn, modelVerdict, modelAnswer, modelNext, modelResult, modelAfter, modelLog}
+use Rattle.history.specs.Model.{add, remove, batch, endsPeriod, start, heldIn, modelVerdict, modelAnswer, modelNext, modelResult, modelAfter, modelLog}
 use Rattle.history.specs.History.{atMostOnce, admittedFrom, admitted}
 use Rattle.history.specs.Examples.{Story, resultsOf, ByModel, AllByModel, stories, bonded, ask, settledStory, reusedStory}
-use Rattle.history.specs.Examples.{sharedSlotStory, emptyMotifStory}
+use Rattle.history.specs.Examples.{sharedSlotStory, emptyMotifStory, batchStory, longMotif as long}
 use Rattle.history.proofs.Computed as computed
 use Rattle.history.proofs.Stories.{by-runs}
 use Rattle.examples.specs.Table.{Row, story, screenText, VerifiedAt, Holds, AllHold, a, screenInput, screenPrints, longMotif, fewHits, numberTwo}
-use Rattle.examples.specs.Table.{addedTwice, removedEmpty, emptyAdded, refusals, settledRows, also, folds, windows, emptyMotifs, table, TableHolds}
+use Rattle.examples.specs.Table.{addedTwice, removedEmpty, emptyAdded, refusals, settledRows, also, folds, windows, emptyMotifs, togetherStory}
+use Rattle.examples.specs.Table.{batches, table, TableHolds}
 use Rattle.examples.proofs.BlockRows.{a-bytes, gc-bytes, entry-bytes, empty-motif-bytes, empty-motif-entry-bytes}
 use Rattle.examples.proofs.BufferRows.{uneven-refused, unsound-refused}
 use Rattle.examples.proofs.ScreenRow.{screen-prints, empty-motif-prints, empty-block-prints}
+use Rattle.examples.proofs.BatchRows.{no-block, seventeen-blocks, byte-more, empty-second, unsound-third, long-second, few-hits, little-work, together}
 
 -- A row and the rows after it.
 infixr 20 _&_
@@ -38,7 +40,7 @@ unfolding Holds
 by-model t m = (m, by-runs t m)
 
 stories-ok : ByModel longMotif × ByModel fewHits × ByModel numberTwo × ByModel addedTwice × ByModel removedEmpty × ByModel emptyAdded
-unfolding longMotif fewHits numberTwo addedTwice removedEmpty emptyAdded admitted admittedFrom atMostOnce modelLog resultsOf choose every
+unfolding longMotif long fewHits numberTwo addedTwice removedEmpty emptyAdded admitted admittedFrom atMostOnce modelLog resultsOf choose every
     some lowestFrom lowest tab first refuseIf refuseAtLowest strandVerdict isLetter notLetter mateOutside notMutual crosses crossedAt moleculeVerdict
     motifVerdict workVerdict refusedBy byVerdict endsPeriod modelResult modelAfter start putAt isHeld heldIn inRange modelVerdict modelAnswer
     modelNext
@@ -91,9 +93,11 @@ settled-hold =
     & tt
 
 -- The table's stories among those of crate history.
-own-stories : ByModel settledStory × ByModel reusedStory × ByModel sharedSlotStory × ByModel emptyMotifStory
+own-stories : ByModel settledStory × ByModel reusedStory × ByModel sharedSlotStory × ByModel emptyMotifStory × ByModel batchStory
 unfolding AllByModel stories
-own-stories = (computed.settled .0, computed.settled .1 .0, computed.settled .1 .1 .0, computed.settled .1 .1 .1 .1 .0)
+own-stories =
+    let altered-and-on = computed.settled .1 .1 .1 in
+    (computed.settled .0, computed.settled .1 .0, computed.settled .1 .1 .0, altered-and-on .1 .0, altered-and-on .1 .1 .0)
 
 also-hold : AllHold also
 unfolding also AllHold Holds
@@ -146,6 +150,23 @@ empty-motifs-hold =
     & by-model emptyMotifStory (own-stories .3)
     & tt
 
+batches-hold : AllHold batches
+unfolding batches AllHold Holds
+batches-hold =
+    by-model _ no-block
+    & by-model _ seventeen-blocks
+    & by-model _ byte-more
+    & by-model _ empty-second
+    & by-model _ unsound-third
+    & uneven-refused (batch [] 0 [])
+    & unsound-refused (batch [] 0 [])
+    & by-model _ long-second
+    & by-model _ few-hits
+    & by-model _ little-work
+    & by-model togetherStory together
+    & by-model batchStory (own-stories .4)
+    & tt
+
 both : (rs ss : List Row) → AllHold rs → AllHold ss → AllHold (rs ++ ss)
 unfolding AllHold
 both [] ss h k = k
@@ -159,4 +180,5 @@ pub holds : TableHolds
 unfolding table
 holds =
     let front = both refusals _ refusals-hold screen-hold in
-    both _ emptyMotifs (both _ windows (both _ folds (both _ also front also-hold) folds-hold) windows-hold) empty-motifs-hold
+    let requests = both _ windows (both _ folds (both _ also front also-hold) folds-hold) windows-hold in
+    both _ batches (both _ emptyMotifs requests empty-motifs-hold) batches-hold

@@ -32,8 +32,8 @@ use Rattle.strand.proofs.VerdictLaws.{accepted-proper}
 use Rattle.calls.proofs.ReadingLaws.{clean-length, clean-block, block-zero}
 use Rattle.calls.proofs.CallLaws.{add-does}
 use Rattle.calls.proofs.Stores.{stores-zeroed, add-judged}
-use Rattle.history.specs.Model.{Event, add, query, call, endsPeriod, start, heldIn, knownIn, modelVerdict, embedsAt, hitList, searchList}
-use Rattle.history.specs.Model.{asked as afterQuery, modelAnswer, modelNext, modelResult, modelAfter, modelLog}
+use Rattle.history.specs.Model.{Event, add, query, call, endsPeriod, start, heldIn, knownIn, modelVerdict, embedsAt, hitList}
+use Rattle.history.specs.Model.{searches, searchList, asked as afterQuery, modelAnswer, modelNext, modelResult, modelAfter, modelLog}
 use Rattle.history.specs.History.{zeroed, atMostOnce, admittedFrom, admitted}
 use Rattle.history.proofs.Bytes.{bytesResult, bytesNext, bytesLog}
 use Rattle.history.proofs.Runs.{bytes-run}
@@ -187,10 +187,10 @@ stories-ok : ByModel (screenStory a) × ByModel (screenStory emptyMotif)
 unfolding screenStory adding asking hits admitted admittedFrom atMostOnce modelLog resultsOf embeds longest largest prefixOk
     closedTo placesOk lettersMatch choose every some lowestFrom lowest select someList total sameList sameStrand key first refuseIf refuseAtLowest strandVerdict
     isLetter notLetter mateOutside notMutual crosses crossedAt moleculeVerdict motifVerdict workVerdict slotOf refusedBy byVerdict endsPeriod
-    modelResult modelAfter afterQuery start putAt isHeld heldIn knownIn inRange modelVerdict embedsAt hitList searchList modelAnswer modelNext
+    modelResult modelAfter afterQuery start putAt isHeld heldIn knownIn inRange modelVerdict embedsAt hitList searches searchList modelAnswer modelNext
 stories-ok = ((refl, refl), (refl, refl))
 
-a-motif : Proper motifSide leastMotif blockBases (a .bases) (a .mates)
+pub a-motif : Proper motifSide leastMotif blockBases (a .bases) (a .mates)
 a-motif = accepted-proper motifSide leastMotif blockBases (a .bases) (a .mates) passes
   where
     passes : strandVerdict motifSide leastMotif blockBases (a .bases) (a .mates) ≡ Accepted

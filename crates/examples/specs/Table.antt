@@ -1,8 +1,8 @@
 -- All of 01's examples, in its order: the small examples of the table of refusals, row 8's with 136 entries, the printed example of the
 -- screen program, the nine rows of the table of settled examples, the check 1888, three blocks byte by byte, the keys 139, the story with
 -- B = 2 and S = 1, the last of the plausible and false ways, a number used again (the others are in rows 6, 3, 7 and in the story), and a
--- story with S = 2. Behind them rows for 02, (i) to (iii). Each is a row of `table`; that they all hold is `TableHolds`, and `holds`, in proofs/Holds,
--- proves it by the definitions that the contracts of the calls cite.
+-- story with S = 2. Behind them rows for 02, (i) to (iii) and (v). Each is a row of `table`; that they all hold is `TableHolds`, and `holds`, in
+-- proofs/Holds, proves it by the definitions that the contracts of the calls cite.
 use Prim.Native.Nat.{ℕ}
 use mathlib.Core.Path.{_≡_}
 use mathlib.Core.Bool.{Bool, true, _||_}
@@ -11,7 +11,6 @@ use lib.Dec.{eqb}
 use lib.ListN.{length, replicate, set}
 use Rattle.refusals.specs.declared.Refusal.{Refusal}
 use Rattle.refusals.specs.declared.Verdict.the-variants.{Accepted}
-use Rattle.lists.specs.Vocabulary.{tab}
 use Rattle.strand.specs.declared.Fold.{Fold}
 use Rattle.strand.specs.Folds.{foldOf}
 use Rattle.strand.specs.Strands.{Strand, strandOf, emptyMotif, key, checkAnswer}
@@ -32,10 +31,11 @@ use Rattle.block.specs.Content.{blockSize, checksumAt, rechecked, emptyBlock, e
 use Rattle.block.specs.Motif.{encodeMotif}
 use Rattle.block.specs.Block.{putBlock}
 use Rattle.calls.specs.Buffers.{motifVerdict}
-use Rattle.calls.specs.Calls.{Result, refused, done}
-use Rattle.history.specs.Model.{Call, add, remove, query, Event, call, Line, gave}
+use Rattle.calls.specs.Calls.{Result, refused, done, found, foundAll}
+use Rattle.history.specs.Model.{Call, add, remove, query, batch, Event, call, Line, gave}
 use Rattle.history.specs.History.{Buffers, zeroed, Ran}
 use Rattle.history.specs.Examples.{Story, ByModel, ByRuns, gac, ggc, bonded, unbonded, ask, settledStory, reusedStory, sharedSlotStory, emptyMotifStory}
+use Rattle.history.specs.Examples.{longMotif as long, handedIn, oneHandedIn, foundOf, batchStory}
 use Rattle.screening.specs.Screen.{screenOutput}
 
 -- The kinds of example, each with what it should come to.
@@ -50,7 +50,7 @@ pub data Row : Type 0 where
   verifyCall : (p q : Strand) (places : List ℕ) → Verified → Row
   -- the call window on P and Q, with a work slice of so many entries
   windowCall : (p q : Strand) (work : ℕ) → Windowed → Row
-  -- add, remove or query on given bytes
+  -- add, remove, query or batch on given bytes
   bufferCall : Buffers → Call → Result → Row
   -- calls from zeroed buffers
   story : Story → Row
@@ -120,10 +120,6 @@ notMatched number = matched.Refused (directRefusal number)
 -- A 65, C 67, G 71, U 85, X 88
 abbrev pub a : Strand
 a = strandOf (65 ∷ []) (0 ∷ [])
-
--- 121 bases A, each without a bond.
-abbrev long : Strand
-long = strandOf (replicate 121 65) (tab 121 (λ i. i))
 
 -- Calls from zeroed buffers with B = 2, S = 1, and what they come to.
 abbrev tale : List Event → List Result → Story
@@ -386,9 +382,63 @@ emptyMotifs =
     ∷ story emptyMotifStory
     ∷ []
 
+-- A batch that is refused; `room` is the length of the hit slice.
+unfoldable pub refusedBatch : (motifs : List ℕ) (work room number side place : ℕ) → Story
+refusedBatch motifs work room number side place = tale (call (batch motifs work (replicate room 0)) ∷ []) (refused number side place ∷ [])
+
+-- Sixteen motifs A.
+unfoldable pub twice : List ℕ → List ℕ
+twice motifs = motifs ++ motifs
+
+abbrev pub sixteen : List ℕ
+sixteen = twice (twice (twice (handedIn a a)))
+
+-- The block of A with one byte altered, and an empty block behind it.
+abbrev pub notMotifs : List ℕ
+notMotifs = set (encodeMotif a) 0 9 ++ emptyBlock
+
+-- The story of 01 with its first four queries as one batch: GC with an arc twice, without, and with.
+abbrev pub fourMotifs : List ℕ
+fourMotifs = handedIn bonded bonded ++ handedIn unbonded bonded
+
+unfoldable pub togetherStory : Story
+togetherStory =
+    tale
+    (call (add 0 gac) ∷ call (add 1 ggc) ∷ call (batch fourMotifs 1472 (replicate 8 9)) ∷ call (remove 0) ∷ call (ask bonded) ∷ [])
+    (done
+    ∷ done
+    ∷ foundAll (foundOf 2 (0 ∷ 1 ∷ []) 2 ∷ foundOf 2 (0 ∷ 1 ∷ []) 0 ∷ foundOf 1 (1 ∷ []) 2 ∷ foundOf 2 (0 ∷ 1 ∷ []) 2 ∷ []) 2
+    ∷ done
+    ∷ found 1 (1 ∷ []) 0
+    ∷ [])
+
+-- 02, (v), which has no examples of its own.
+unfoldable pub batches : List Row
+batches =
+    -- "It refuses with 15 a motif buffer that isn't 1 to 16 whole blocks .., place 0 for its size": none, 17, and a byte more than one
+    story (refusedBatch [] 0 0 15 motifSide 0)
+    ∷ story (refusedBatch (sixteen ++ encodeMotif a) 0 0 15 motifSide 0)
+    ∷ story (refusedBatch (encodeMotif a ++ (0 ∷ [])) 0 0 15 motifSide 0)
+    -- "or has an unsound or empty block, .. the lowest such block"
+    ∷ story (refusedBatch (oneHandedIn bonded) 0 0 15 motifSide 1)
+    ∷ story (refusedBatch (handedIn a a ++ notMotifs) 0 0 15 motifSide 2)
+    -- "after 11", and 11 after 10
+    ∷ bufferCall uneven (batch [] 0 []) (refused 10 noSide 0)
+    ∷ bufferCall unsound (batch [] 0 []) (refused 11 noSide 1)
+    -- "then 3, place the lowest such motif's index"
+    ∷ story (refusedBatch (handedIn bonded long) 0 0 3 motifSide 1)
+    -- "then 9 and 8": the hit slice "needs B entries for each motif", "the work slice is that of the longest motif"
+    ∷ story (refusedBatch sixteen 0 31 9 noSide 0)
+    ∷ story (refusedBatch (handedIn bonded a) 1471 4 8 noSide 0)
+    -- "Counts, hits, searched numbers and the shelf afterwards equal those of single queries in that order", and the number read is no sum
+    ∷ story togetherStory
+    -- "The history statement's lists may contain batches"
+    ∷ story batchStory
+    ∷ []
+
 -- All rows.
 unfoldable pub table : List Row
-table = refusals ++ (screenText screenInput screenPrints ∷ settledRows examples) ++ also ++ folds ++ windows ++ emptyMotifs
+table = refusals ++ (screenText screenInput screenPrints ∷ settledRows examples) ++ also ++ folds ++ windows ++ emptyMotifs ++ batches
 
 -- The claim: every row of the table holds.
 abbrev pub TableHolds : Type 0

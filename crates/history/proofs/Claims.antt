@@ -9,7 +9,7 @@ use Rattle.history.specs.Model.{Event, Line}
 use Rattle.history.specs.History.{RightLog}
 use Rattle.history.specs.Statements.{EmptyMotifListsHeld, Claims}
 use Rattle.history.proofs.Theorem as theorem
-use Rattle.history.proofs.Right.{query-right}
+use Rattle.history.proofs.Right.{query-right, batch-right}
 use Rattle.history.proofs.Computed as computed
 use Rattle.history.proofs.Stories as stories
 
@@ -29,6 +29,7 @@ claims =
       some-run = theorem.some-run;
       refusals = theorem.refusals;
       queries = λ B S es log r. query-right r;
+      batches = λ B S es log r. batch-right r;
       empty-motif = lists-held;
       not-whole = theorem.not-whole;
       by-model = computed.settled;

@@ -10,11 +10,12 @@ use Rattle.octets.specs.Octets.{bytesOf, without, mapBytes, bitSum}
 use Rattle.block.specs.Content.{withChecksum, emptyBlock, contentOf, entryWith, encodeEntry}
 use Rattle.calls.specs.Buffers.{inRange, moleculeVerdict, motifVerdict, workVerdict, slotOf, isHeld}
 use Rattle.calls.specs.Calls.{done, found, refusedBy}
-use Rattle.history.specs.Model.{endsPeriod, start, heldIn, knownIn, dropped, modelVerdict, embedsAt, hitList, searchList, asked, modelAnswer}
-use Rattle.history.specs.Model.{modelNext, modelResult, modelAfter, slotBlock, modelAlter, modelLog}
+use Rattle.history.specs.Model.{endsPeriod, start, heldIn, knownIn, dropped, modelVerdict, embedsAt, hitList, searches, searchList, asked}
+use Rattle.history.specs.Model.{modelAnswer, modelNext, modelResult, modelAfter, slotBlock, modelAlter, modelLog}
 use Rattle.history.specs.History.{atMostOnce, admittedFrom, admitted}
 use Rattle.history.specs.Examples.{resultsOf, ByModel, AllByModel, bonded, unbonded, settledStory, reusedStory, sharedSlotStory, alteredStory}
 use Rattle.history.specs.Examples.{emptyMotifStory, stories, alteredOnce, alteredTwice, refusedBetween}
+use Rattle.history.proofs.BatchStory.{batches}
 
 -- The keys are equal.
 pub keys : (key bonded ≡ 139) × (key unbonded ≡ 139)
@@ -27,9 +28,9 @@ unfolding stories AllByModel settledStory reusedStory sharedSlotStory alteredSto
     embeds longest largest prefixOk closedTo placesOk lettersMatch choose every some lowestFrom lowest select someList tab total sameList
     sameStrand key first refuseIf refuseAtLowest strandVerdict isLetter notLetter mateOutside notMutual crosses crossedAt moleculeVerdict
     motifVerdict workVerdict slotOf refusedBy byVerdict endsPeriod start putAt isHeld heldIn knownIn dropped inRange modelVerdict
-    embedsAt hitList searchList asked modelAnswer modelNext modelResult modelAfter slotBlock modelAlter emptyBlock encodeEntry entryWith
+    embedsAt hitList searches searchList asked modelAnswer modelNext modelResult modelAfter slotBlock modelAlter emptyBlock encodeEntry entryWith
     withChecksum contentOf bytesOf mapBytes bitSum without
-settled = ((refl, refl), ((refl, refl), ((refl, refl), ((refl, refl), ((refl, refl), tt)))))
+settled = ((refl, refl), ((refl, refl), ((refl, refl), ((refl, refl), ((refl, refl), (batches, tt))))))
 
 -- With one alteration, with two, and with a refused call between.
 pub computed : ByModel alteredOnce × (admitted embeds 1 1 alteredTwice ≡ false) × (admitted embeds 1 1 refusedBetween ≡ false)
@@ -37,7 +38,7 @@ pub computed : ByModel alteredOnce × (admitted embeds 1 1 alteredTwice ≡ fals
 unfolding alteredOnce alteredTwice refusedBetween admitted admittedFrom atMostOnce modelLog resultsOf embeds longest
     largest prefixOk closedTo placesOk lettersMatch choose every some lowestFrom lowest select someList tab total sameList sameStrand key first
     refuseIf refuseAtLowest strandVerdict isLetter notLetter mateOutside notMutual crosses crossedAt moleculeVerdict motifVerdict workVerdict
-    slotOf refusedBy byVerdict endsPeriod start putAt isHeld heldIn knownIn dropped inRange modelVerdict embedsAt hitList searchList
+    slotOf refusedBy byVerdict endsPeriod start putAt isHeld heldIn knownIn dropped inRange modelVerdict embedsAt hitList searches searchList
     asked modelAnswer modelNext modelResult modelAfter slotBlock modelAlter emptyBlock encodeEntry entryWith withChecksum contentOf bytesOf mapBytes
     bitSum without
 computed = ((refl, refl), refl, refl, refl)

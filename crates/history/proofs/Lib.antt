@@ -1,4 +1,3 @@
-pub mod Computed
 mod StateLaws
 mod Slots
 pub mod Bytes
@@ -7,11 +6,15 @@ pub mod Follows
 mod AddAgrees
 mod RemoveAgrees
 mod QueryAgrees
+mod BatchAgrees
 mod AlterFollows
 mod SameLog
 mod NotWhole
 mod Right
 pub mod Runs
 pub mod Theorem
+pub mod HandedIn
+mod BatchStory
+pub mod Computed
 pub mod Stories
 pub mod Claims

@@ -12,7 +12,8 @@ use Rattle.calls.specs.Buffers.{mostCatalogBlocks, mostCacheBlocks, areWhole, b
 use Rattle.calls.specs.Calls.{refusedBy}
 use Rattle.calls.proofs.ReadingLaws.{not-whole}
 use Rattle.calls.proofs.JudgeLaws.{buffers-not-whole, add-buffers-refused, remove-buffers-refused, query-buffers-refused}
-use Rattle.history.specs.Model.{Call, add, remove, query, Event, call, alter}
+use Rattle.calls.proofs.BatchLaws.{batch-buffers-refused}
+use Rattle.history.specs.Model.{Call, add, remove, query, batch, Event, call, alter}
 use Rattle.history.specs.History.{Buffers, altered}
 use Rattle.history.specs.Statements.{NotWhole, AllRefused}
 use Rattle.history.proofs.Bytes.{bytesVerdict, bytesLog, bytes-refused}
@@ -36,6 +37,7 @@ unfolding bytesVerdict
 call-refused β n (add d q) = sym (add-buffers-refused (β .catalog) (β .cache) d q _ (buffers-refused β n))
 call-refused β n (remove d) = sym (remove-buffers-refused (β .catalog) (β .cache) d _ (buffers-refused β n))
 call-refused β n (query p work hits) = sym (query-buffers-refused (β .catalog) (β .cache) p work (length hits) _ (buffers-refused β n))
+call-refused β n (batch motifs work hits) = sym (batch-buffers-refused (β .catalog) (β .cache) motifs work (length hits) _ (buffers-refused β n))
 
 pub all-refused : (embeds : Strand → Strand → Bool) (es : List Event) (β : Buffers) → NotWhole β → AllRefused (bytesLog embeds β es)
 unfolding bytesLog AllRefused refusedBy

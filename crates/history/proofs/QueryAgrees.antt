@@ -5,7 +5,7 @@ use native.Mathlib.Nat.{mod-lt}
 use native.Mathlib.Decide.{decLt}
 use mathlib.Core.Path.{_≡_, refl, sym, ap, ap₂, fun-ext, _∙_}
 use mathlib.Core.Logic.{⊎-elim}
-use mathlib.Core.Bool.{Bool, true, false, not, _&&_}
+use mathlib.Core.Bool.{Bool, true, false, _&&_}
 use mathlib.Core.List.{List}
 use mathlib.Core.Option.{none as vacant, some as holds}
 use lib.ListN.{length}
@@ -17,14 +17,14 @@ use Rattle.refusals.specs.declared.Verdict.the-variants.{Accepted}
 use Rattle.block.specs.Block.{blockOf, blockCount}
 use Rattle.block.specs.Content.{encodeEntry}
 use Rattle.calls.specs.Buffers.{mostCatalogBlocks, inRange, motifVerdict, Holding, isHeld, held, moleculeAt, slotOf, cleanCache}
-use Rattle.calls.specs.Calls.{isKnown, toSearch, isHit, queryVerdict, queryOutcome, found, queryResult}
+use Rattle.calls.specs.Calls.{entryFor, isKnown, toSearch, isHit, queryVerdict, queryOutcome, found, queryResult}
 use Rattle.calls.specs.Statements.{QueryLeaves}
 use Rattle.calls.proofs.HoldingLaws.{put-all}
 use Rattle.calls.proofs.ReadingLaws.{count-is, clean-length, clean-block}
 use Rattle.calls.proofs.Claims.{hit-known, hit-unknown, query-accepted, query-found}
 use Rattle.calls.proofs.Stores.{count}
-use Rattle.history.specs.Model.{query, endsPeriod, keeps, State, heldIn, knownIn, modelVerdict, embedsAt, hitList, searchList, asked, modelAnswer}
-use Rattle.history.specs.Model.{modelNext, slotBlock}
+use Rattle.history.specs.Model.{query, endsPeriod, keeps, State, heldIn, knownIn, modelVerdict, embedsAt, hitList, searches, searchList, asked}
+use Rattle.history.specs.Model.{modelAnswer, modelNext, slotBlock}
 use Rattle.history.specs.History.{Buffers, buffersOf}
 use Rattle.history.proofs.Bytes.{bytesVerdict, bytesResult, bytesNext}
 use Rattle.history.proofs.StateLaws.{query-passed, range-passed, most-blocks, some-slot, asked-ok}
@@ -95,8 +95,8 @@ module _ (embeds : Strand → Strand → Bool) (B S : ℕ) (β : Buffers) (σ : 
       (λ (e : isHeld (σ .molecules d) ≡ false). unfold isHit in (rw (f .stored .held-is d, e)))
       (by-bool (isHeld (σ .molecules d)))
 
-  search-is : (d : ℕ) → d < B → toSearch (β .catalog) entry p d ≡ (heldIn σ d && not (knownIn (σ .slots (slotOf S p)) p d))
-  unfolding toSearch
+  search-is : (d : ℕ) → d < B → toSearch (β .catalog) entry p d ≡ searches embeds B S σ p d
+  unfolding toSearch searches
   search-is d l = let b : B ≤ mostCatalogBlocks = most-blocks B S range in rw (held-is d, known-is d (omega arith))
 
   read : blockOf (slotOf S p) (cleanCache (β .cache)) ≡ entry
@@ -105,16 +105,18 @@ module _ (embeds : Strand → Strand → Bool) (B S : ℕ) (β : Buffers) (σ : 
   cache-count : blockCount (β .cache) ≡ S
   cache-count = count-is (β .cache) S (f .sized)
 
-  hits-agree : select (blockCount (β .catalog)) (isHit embeds (β .catalog) (blockOf (slotOf (blockCount (β .cache)) p) (cleanCache (β .cache))) p)
-      ≡ hitList embeds B S σ p
+  -- a query has to search what the model searches
+  pub search-at : (d : ℕ) → d < B → toSearch (β .catalog) (entryFor (β .cache) p) p d ≡ searches embeds B S σ p d
+  search-at d l = rw (cache-count, read) (search-is d l)
+
+  hits-agree : select (blockCount (β .catalog)) (isHit embeds (β .catalog) (entryFor (β .cache) p) p) ≡ hitList embeds B S σ p
   unfolding hitList
   hits-agree =
       rw (count (f .stored), cache-count, read) (select-ext B _ _ (λ d l. hit-is d ∙ (unfold heldIn in (only-held (σ .molecules d)))))
 
-  search-agrees : select (blockCount (β .catalog)) (toSearch (β .catalog) (blockOf (slotOf (blockCount (β .cache)) p) (cleanCache (β .cache))) p)
-      ≡ searchList embeds B S σ p
+  search-agrees : select (blockCount (β .catalog)) (toSearch (β .catalog) (entryFor (β .cache) p) p) ≡ searchList embeds B S σ p
   unfolding searchList
-  search-agrees = rw (count (f .stored), cache-count, read) (select-ext B _ _ search-is)
+  search-agrees = rw (count (f .stored)) (select-ext B _ _ search-at)
 
   -- the slot as it is written anew
   new-entry : encodeEntry p (held (β .catalog)) (isHit embeds (β .catalog) entry p) ≡ slotBlock embeds B S (σ .molecules) (keeps p (heldIn σ))

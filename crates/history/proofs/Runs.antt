@@ -5,9 +5,11 @@ use mathlib.Core.Bool.{Bool}
 use Rattle.strand.specs.Strands.{Strand}
 use Rattle.calls.specs.declared.Added.{Added}
 use Rattle.calls.specs.declared.Removed.{Removed}
+use Rattle.block.specs.Block.{blockCount}
 use Rattle.calls.specs.Calls.{Effect, addOutcome, removeOutcome, QueryEffect, queryOutcome, addResult, removeResult, queryResult}
-use Rattle.history.specs.Model.{add, remove, query, Event, call, alter, Line, gave}
-use Rattle.history.specs.History.{Buffers, altered, buffersOf, Ran, runEnd, runAdd, runRemove, runQuery, runAlter}
+use Rattle.calls.specs.Batch.{BatchEffect, batchOutcome, batchResult}
+use Rattle.history.specs.Model.{add, remove, query, batch, Event, call, alter, Line, gave}
+use Rattle.history.specs.History.{Buffers, altered, buffersOf, Ran, runEnd, runAdd, runRemove, runQuery, runBatch, runAlter}
 use Rattle.history.proofs.Bytes.{bytesResult, bytesNext, bytesLog}
 
 module _ (test : Strand → Strand → Bool) where
@@ -24,6 +26,12 @@ module _ (test : Strand → Strand → Bool) where
   ran-log (runQuery {β} {es} {log} p work hits r cache slice e ran) =
       ap (λ (x : List Line). gave (query p work hits) (queryResult r slice) ∷ x) (ran-log ran)
       ∙ ap (λ (x : QueryEffect). gave (query p work hits) (queryResult (x .answer) (x .hits)) ∷ bytesLog test (buffersOf (β .catalog) (x .cache)) es) e
+  ran-log (runBatch {β} {es} {log} motifs work hits r cache slice e ran) =
+      ap (λ (x : List Line). gave (batch motifs work hits) (batchResult (blockCount (β .catalog)) (blockCount motifs) r slice) ∷ x) (ran-log ran)
+      ∙ ap
+      (λ (x : BatchEffect).
+      gave (batch motifs work hits) (batchResult (blockCount (β .catalog)) (blockCount motifs) (x .answer) (x .hits))
+      ∷ bytesLog test (buffersOf (β .catalog) (x .cache)) es) e
   ran-log (runAlter s i v ran) = ran-log ran
 
   -- it is the log of a run
@@ -39,4 +47,7 @@ module _ (test : Strand → Strand → Bool) where
   bytes-run β (call (query p work hits) ∷ es) =
       let x : QueryEffect = queryOutcome test (β .catalog) (β .cache) p work hits in
       runQuery p work hits (x .answer) (x .cache) (x .hits) refl (bytes-run (buffersOf (β .catalog) (x .cache)) es)
+  bytes-run β (call (batch motifs work hits) ∷ es) =
+      let x : BatchEffect = batchOutcome test (β .catalog) motifs work (β .cache) hits in
+      runBatch motifs work hits (x .answer) (x .cache) (x .hits) refl (bytes-run (buffersOf (β .catalog) (x .cache)) es)
   bytes-run β (alter s i v ∷ es) = runAlter s i v (bytes-run (altered β s i v) es)

@@ -14,7 +14,7 @@ use Rattle.block.specs.Content.{blockSize}
 use Rattle.calls.specs.Calls.{Result}
 use Rattle.calls.proofs.ReadingLaws.{block-zero}
 use Rattle.calls.proofs.Stores.{stores-zeroed}
-use Rattle.history.specs.Model.{Call, add, remove, query, Event, call, alter, endsPeriod, Line, gave, State, start, slotBlock, modelAlter}
+use Rattle.history.specs.Model.{Call, add, remove, query, batch, Event, call, alter, endsPeriod, Line, gave, State, start, slotBlock, modelAlter}
 use Rattle.history.specs.Model.{modelResult, modelAfter, modelLog}
 use Rattle.history.specs.History.{Buffers, zeroed, altered, atMostOnce, admittedFrom}
 use Rattle.history.proofs.Bytes.{bytesNext, bytesLog}
@@ -23,6 +23,7 @@ use Rattle.history.proofs.Follows.{Few, timesAfter, Follows, fresh, Cal
 use Rattle.history.proofs.AddAgrees.{add-agrees}
 use Rattle.history.proofs.RemoveAgrees.{remove-agrees}
 use Rattle.history.proofs.QueryAgrees.{query-agrees}
+use Rattle.history.proofs.BatchAgrees.{batch-agrees}
 use Rattle.history.proofs.AlterFollows.{alter-follows}
 
 module _ (embeds : Strand → Strand → Bool) (B S : ℕ) where
@@ -30,6 +31,7 @@ module _ (embeds : Strand → Strand → Bool) (B S : ℕ) where
   agrees (add d q) = add-agrees embeds B S d q
   agrees (remove d) = remove-agrees embeds B S d
   agrees (query p work hits) = query-agrees embeds B S p work hits
+  agrees (batch motifs work hits) = batch-agrees embeds B S motifs work hits
 
   few-of : (times : ℕ → ℕ) → atMostOnce embeds B S times ≡ true → Few S times
   unfolding atMostOnce

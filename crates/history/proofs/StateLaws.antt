@@ -1,5 +1,5 @@
 -- What the model keeps on every history: molecules and motifs that rules 1 to 7 let pass, sets of held numbers, nothing at or above B.
-use Prim.Native.Nat.{ℕ, _<_, _≤_}
+use Prim.Native.Nat.{ℕ, zero, suc, _<_, _≤_}
 use native.Mathlib.Omega.{arith}
 use mathlib.Core.Path.{_≡_, refl, ap, _∙_}
 use mathlib.Core.Logic.{⊎-elim}
@@ -16,10 +16,13 @@ use Rattle.refusals.specs.declared.Verdict.the-variants.{Accepted, Refused}
 use Rattle.lists.proofs.ListLaws.{by-bool, and-true, not-not, never, choose-yes, choose-no}
 use Rattle.refusals.proofs.RuleLaws.{first-pass, rule-pass, by-accepted, by-refused}
 use Rattle.octets.specs.Octets.{without}
+use Rattle.block.specs.Block.{blockCount}
 use Rattle.calls.specs.Buffers.{mostCatalogBlocks, mostCacheBlocks, inRange, moleculeVerdict, motifVerdict, Holding, isHeld, slotOf}
+use Rattle.calls.specs.Motifs.{motifOf, motifsVerdict, UsableMotifs}
 use Rattle.calls.proofs.HoldingLaws.{put-other, put-all}
-use Rattle.history.specs.Model.{Call, add, remove, query, Slot, nothing, keeps, State, start, heldIn, dropped, modelVerdict, asked, modelNext}
-use Rattle.history.specs.Model.{modelAfter, modelAlter, slotBlock}
+use Rattle.calls.proofs.MotifLaws.{motifs-usable, motif-verdict}
+use Rattle.history.specs.Model.{Call, add, remove, query, batch, Slot, nothing, keeps, State, start, heldIn, dropped, modelVerdict, asked, askedTo}
+use Rattle.history.specs.Model.{modelNext, modelAfter, modelAlter, slotBlock}
 
 abbrev pub HoldingOk : Holding → Type 0
 HoldingOk vacant = Unit
@@ -61,6 +64,11 @@ module _ (embeds : Strand → Strand → Bool) (B S : ℕ) (σ : State) where
   unfolding modelVerdict
   query-passed p work hits e = first-pass (motifVerdict p) _ (first-pass (refuseIf notWholeBlocks noSide (not (inRange B S))) _ e .1) .0
 
+  pub batch-passed : (motifs : List ℕ) (work : ℕ) (hits : List ℕ) → modelVerdict embeds B S σ (batch motifs work hits) ≡ Accepted → UsableMotifs motifs
+  unfolding modelVerdict
+  batch-passed motifs work hits e =
+      motifs-usable motifs (first-pass (motifsVerdict motifs) _ (first-pass (refuseIf notWholeBlocks noSide (not (inRange B S))) _ e .1) .0)
+
   range-rule : refuseIf notWholeBlocks noSide (not (inRange B S)) ≡ Accepted → inRange B S ≡ true
   range-rule e = not-not _ (rule-pass notWholeBlocks noSide (not (inRange B S)) e)
 
@@ -69,6 +77,7 @@ module _ (embeds : Strand → Strand → Bool) (B S : ℕ) (σ : State) where
   range-passed (add d q) e = range-rule (first-pass (refuseIf notWholeBlocks noSide (not (inRange B S))) _ e .0)
   range-passed (remove d) e = range-rule (first-pass (refuseIf notWholeBlocks noSide (not (inRange B S))) _ e .0)
   range-passed (query p work hits) e = range-rule (first-pass (refuseIf notWholeBlocks noSide (not (inRange B S))) _ e .0)
+  range-passed (batch motifs work hits) e = range-rule (first-pass (refuseIf notWholeBlocks noSide (not (inRange B S))) _ e .0)
 
 module _ (B S : ℕ) (range : inRange B S ≡ true) where
   four : ((leb 1 B && leb B mostCatalogBlocks) ≡ true) × ((leb 1 S && leb S mostCacheBlocks) ≡ true)
@@ -136,29 +145,44 @@ module _ (embeds : Strand → Strand → Bool) (B S : ℕ) (σ : State) (ok : St
         above = ok .above;
       }
 
+-- The queries of a batch, one after the other, change no molecule
+
+module _ (embeds : Strand → Strand → Bool) (B S : ℕ) (σ : State) (motifs : List ℕ) where
+  pub asked-molecules : (t : ℕ) → askedTo embeds B S σ motifs t .molecules ≡ σ .molecules
+  unfolding askedTo asked
+  asked-molecules zero = refl
+  asked-molecules (suc t) = asked-molecules t
+
+  pub asked-to-ok : UsableMotifs motifs → StateOk B σ → (t : ℕ) → t ≤ blockCount motifs → StateOk B (askedTo embeds B S σ motifs t)
+  unfolding askedTo
+  asked-to-ok u ok zero l = ok
+  asked-to-ok u ok (suc t) l = asked-ok embeds B S _ (asked-to-ok u ok t (omega arith)) (motifOf motifs t) (motif-verdict motifs u t (omega arith))
+
+module _ (embeds : Strand → Strand → Bool) (B S : ℕ) (σ : State) (ok : StateOk B σ) where
   pub next-ok : (c : Call) → modelVerdict embeds B S σ c ≡ Accepted → StateOk B (modelNext embeds B S σ c)
   unfolding modelNext
   next-ok (add d q) e =
       let y = add-passed embeds B S σ d q e in
       record {
-        holding-ok = put-ok d (holds q) (y .2);
-        slot-ok = λ s. slot-add d q (σ .slots s) (ok .slot-ok s);
-        above = put-above d (holds q) (y .0);
+        holding-ok = put-ok embeds B S σ ok d (holds q) (y .2);
+        slot-ok = λ s. slot-add embeds B S σ ok d q (σ .slots s) (ok .slot-ok s);
+        above = put-above embeds B S σ ok d (holds q) (y .0);
       }
   next-ok (remove d) e =
       record {
-        holding-ok = put-ok d vacant tt;
-        slot-ok = λ s. slot-remove d (σ .slots s) (ok .slot-ok s);
-        above = put-above d vacant (remove-passed embeds B S σ d e);
+        holding-ok = put-ok embeds B S σ ok d vacant tt;
+        slot-ok = λ s. slot-remove embeds B S σ ok d (σ .slots s) (ok .slot-ok s);
+        above = put-above embeds B S σ ok d vacant (remove-passed embeds B S σ d e);
       }
-  next-ok (query p work hits) e = asked-ok p (query-passed embeds B S σ p work hits e)
+  next-ok (query p work hits) e = asked-ok embeds B S σ ok p (query-passed embeds B S σ p work hits e)
+  next-ok (batch motifs work hits) e = asked-to-ok embeds B S σ motifs (batch-passed embeds B S σ motifs work hits e) ok (blockCount motifs) (omega arith)
 
   pub alter-ok : (s i v : ℕ) → StateOk B (modelAlter embeds B S σ s i v)
   alter-ok s i v =
       ⊎-elim
       (λ (e : eqb (nth (slotBlock embeds B S (σ .molecules) (σ .slots s)) i) v ≡ true). rw (alter-keeps embeds B S σ s i v e) ok)
       (λ (e : eqb (nth (slotBlock embeds B S (σ .molecules) (σ .slots s)) i) v ≡ false).
-      rw (alter-takes embeds B S σ s i v e) (record { holding-ok = ok .holding-ok; slot-ok = slot-put s nothing tt; above = ok .above }))
+      rw (alter-takes embeds B S σ s i v e) (record { holding-ok = ok .holding-ok; slot-ok = slot-put embeds B S σ ok s nothing tt; above = ok .above }))
       (by-bool (eqb (nth (slotBlock embeds B S (σ .molecules) (σ .slots s)) i) v))
 
   pub after-ok : (c : Call) → StateOk B (modelAfter embeds B S σ c)

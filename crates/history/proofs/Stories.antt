@@ -13,6 +13,7 @@ use Rattle.history.specs.Examples.{Story, resultsOf, stories, ByModel, B
 use Rattle.history.specs.Examples.{alteredTwice, AlterationsLimited}
 use Rattle.history.proofs.Theorem.{demand-3}
 use Rattle.history.proofs.Computed.{settled, computed}
+use Rattle.history.proofs.BatchStory.{refused-between, altered-twice}
 
 -- What the model comes to in a story, every run comes to: by the history theorem.
 pub by-runs : (t : Story) → ByModel t → ByRuns t
@@ -44,6 +45,8 @@ limited =
       one = computed .0;
       two = computed .1;
       refusal-between = computed .2;
+      refused-batch = refused-between;
+      before-batch = altered-twice;
       run-knows = λ log ran.
           ap resultsOf (ran-log embeds ran ∙ after-call _ _ _ (after-call _ _ _ (two-alterations 0 444 0 1 _)) (zeroed 1 1))
           ∙ by-runs alteredOnce (computed .0) _ (bytes-run embeds (zeroed 1 1) _);

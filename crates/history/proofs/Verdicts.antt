@@ -1,6 +1,7 @@
 -- Refusals: the rules read a call's inputs, B, S and which numbers are held, and nothing of what the cache has. So on every list of events, with any
 -- alterations, the bytes refuse just what the model refuses.
 use Prim.Native.Nat.{ℕ, _+_, _*_}
+use native.Mathlib.Omega.{arith}
 use mathlib.Core.Path.{_≡_, refl, sym, ap, ap₂, _∙_}
 use mathlib.Core.Bool.{Bool}
 use mathlib.Core.List.{List, [], _∷_}
@@ -11,15 +12,18 @@ use Rattle.refusals.specs.declared.Verdict.{Verdict}
 use Rattle.refusals.specs.declared.Verdict.the-variants.{Accepted, Refused}
 use Rattle.refusals.proofs.RuleLaws.{by-accepted, by-refused}
 use Rattle.block.specs.Content.{blockSize}
+use Rattle.block.specs.Block.{blockCount}
 use Rattle.calls.specs.Calls.{refusedBy, addResult, removeResult, queryResult}
+use Rattle.calls.specs.Batch.{BatchEffect}
 use Rattle.calls.proofs.ReadingLaws.{clean-length}
 use Rattle.calls.proofs.Claims.{add-accepted, remove-accepted, query-accepted}
-use Rattle.calls.proofs.Stores.{Stores, stores-zeroed, stores-add, stores-remove, add-judged, remove-judged, query-judged}
-use Rattle.history.specs.Model.{Call, add, remove, query, Event, call, alter, State, start, heldIn, modelVerdict, asked, modelAnswer, modelNext}
+use Rattle.calls.proofs.BatchLaws.{clean-size, batch-done, batch-found}
+use Rattle.calls.proofs.Stores.{Stores, stores-zeroed, stores-add, stores-remove, add-judged, remove-judged, query-judged, batch-judged}
+use Rattle.history.specs.Model.{Call, add, remove, query, batch, Event, call, alter, State, start, heldIn, modelVerdict, asked, modelAnswer, modelNext}
 use Rattle.history.specs.Model.{modelResult, modelAfter, modelAlter, modelLog}
 use Rattle.history.specs.History.{Buffers, zeroed, altered, verdictOf, verdictsOf}
 use Rattle.history.proofs.Bytes.{bytesVerdict, bytesResult, bytesNext, bytesLog, bytes-refused}
-use Rattle.history.proofs.StateLaws.{molecules-same}
+use Rattle.history.proofs.StateLaws.{molecules-same, asked-molecules}
 
 module _ (embeds : Strand → Strand → Bool) (B S : ℕ) where
   -- The catalog stores the model's molecules, and the cache has S blocks, whatever they are.
@@ -33,6 +37,7 @@ module _ (embeds : Strand → Strand → Bool) (B S : ℕ) where
   same-verdict β σ t (add d q) = add-judged (t .stored) S (β .cache) (t .sized) d q
   same-verdict β σ t (remove d) = remove-judged (t .stored) S (β .cache) (t .sized) d
   same-verdict β σ t (query p work hits) = query-judged (t .stored) S (β .cache) (t .sized) p work (length hits)
+  same-verdict β σ t (batch motifs work hits) = batch-judged (t .stored) S (β .cache) (t .sized) motifs work (length hits)
 
   -- ---- the model by its verdict
 
@@ -61,12 +66,14 @@ module _ (embeds : Strand → Strand → Bool) (B S : ℕ) where
   answer-accepted β (add d q) e = rw (add-accepted (β .catalog) (β .cache) d q e .answer)
   answer-accepted β (remove d) e = rw (remove-accepted (β .catalog) (β .cache) d e .answer)
   answer-accepted β (query p work hits) e = rw (query-accepted embeds (β .catalog) (β .cache) p work hits e .answer)
+  answer-accepted β (batch motifs work hits) e = rw (batch-found embeds (β .catalog) motifs work (β .cache) hits e)
 
   model-accepted : (σ : State) (c : Call) → verdictOf (modelAnswer embeds B S σ c) ≡ Accepted
   unfolding modelAnswer verdictOf
   model-accepted σ (add d q) = refl
   model-accepted σ (remove d) = refl
   model-accepted σ (query p work hits) = refl
+  model-accepted σ (batch motifs work hits) = refl
 
   -- after an accepted call
   tracks-accepted : (β : Buffers) (σ : State) → Tracks β σ → (c : Call) → bytesVerdict β c ≡ Accepted
@@ -80,6 +87,13 @@ module _ (embeds : Strand → Strand → Bool) (B S : ℕ) where
       record {
         stored = t .stored;
         sized = query-accepted embeds (β .catalog) (β .cache) p work hits e .only .size ∙ clean-length (β .cache) S (t .sized);
+      }
+  tracks-accepted β σ t (batch motifs work hits) e =
+      record {
+        stored = rw (asked-molecules embeds B S σ motifs (blockCount motifs)) (t .stored);
+        sized =
+            ap (λ (x : BatchEffect). length (x .cache)) (batch-done embeds (β .catalog) motifs work (β .cache) hits e)
+            ∙ clean-size embeds (β .catalog) motifs work (β .cache) hits e (blockCount motifs) (omega arith) ∙ t .sized;
       }
 
   -- the same verdict by the results, and the buffers go on tracking

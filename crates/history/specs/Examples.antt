@@ -1,14 +1,18 @@
 -- Example histories: 01's story, a number used again, one with two slots, one with alterations and refused calls between, one of the motif with no bases,
--- and two that are not admitted.
+-- one with batches, and some that are not admitted.
 use Prim.Native.Nat.{ℕ}
 use mathlib.Core.Path.{_≡_}
-use mathlib.Core.List.{List, [], _∷_}
+use mathlib.Core.List.{List, [], _∷_, _++_}
 use mathlib.Core.Bool.{true, false}
+use lib.ListN.{replicate}
+use Rattle.lists.specs.Vocabulary.{tab}
 use Rattle.strand.specs.Strands.{Strand, strandOf, emptyMotif}
-use Rattle.refusals.specs.Rules.{motifSide, noSide, badLetter, numberTooLarge, alreadyHeld, notHeld}
+use Rattle.refusals.specs.Rules.{motifSide, noSide, tooLong, badLetter, wrongSlice, numberTooLarge, alreadyHeld, notHeld, badMotifs}
 use Rattle.embedding.specs.Longest.{embeds}
-use Rattle.calls.specs.Calls.{Result, refused, done, found}
-use Rattle.history.specs.Model.{Call, add, remove, query, Event, call, alter, Line, start, modelLog}
+use Rattle.block.specs.Content.{emptyBlock}
+use Rattle.block.specs.Motif.{encodeMotif}
+use Rattle.calls.specs.Calls.{Found, Result, refused, done, found, foundAll}
+use Rattle.history.specs.Model.{Call, add, remove, query, batch, Event, call, alter, Line, start, modelLog}
 use Rattle.history.specs.History.{zeroed, Ran, admitted}
 
 -- B, S, a list of events, and what its calls come to.
@@ -203,9 +207,80 @@ emptyMotifStory =
           ∷ [];
     }
 
+-- Motifs handed in, a block each: two of them; one, with an empty block behind it.
+unfoldable pub handedIn : Strand → Strand → List ℕ
+handedIn p q = encodeMotif p ++ encodeMotif q
+
+unfoldable pub oneHandedIn : Strand → List ℕ
+oneHandedIn p = encodeMotif p ++ emptyBlock
+
+-- A batch with any buffer of motifs, and with one of two motifs: work enough for motifs of at most two bases, four entries for the hits, two for each of two
+-- motifs where B is 2.
+abbrev pub askWith : List ℕ → Call
+askWith motifs = batch motifs 1472 (9 ∷ 9 ∷ 9 ∷ 9 ∷ [])
+
+abbrev pub askBoth : Strand → Strand → Call
+askBoth p q = askWith (handedIn p q)
+
+-- What a query of a batch came to.
+abbrev pub foundOf : ℕ → List ℕ → ℕ → Found
+foundOf count hits searched = record { count = count; hits = hits; searched = searched }
+
+-- 121 unpaired bases A: more than a query takes, though a block has places for them.
+unfoldable pub longMotif : Strand
+longMotif = strandOf (replicate 121 65) (tab 121 (λ i. i))
+
+-- 02, (v), with B = 2, S = 1: all motifs share the slot. GC with an arc, then without: the later takes the slot, both search all, and two are read, not four.
+-- The motif that has the slot, asked twice, searches nothing. A hit bit (byte 444) is cleared; batches that are refused, for an empty block, for no block and
+-- for a motif that is too long, end no period; then the first of the two searches all, the second nothing. The byte of the searched bits set as it is, nothing
+-- is searched. A number used again is what the first motif, which has the slot, searches; the other takes the slot and searches all. The motif with no bases
+-- lists all that is held. A batch of one motif is a query. The last batch is refused, as it has three entries for the hits and needs four.
+unfoldable pub batchStory : Story
+batchStory =
+    record {
+      blocks = 2;
+      slots = 1;
+      events =
+          call (add 0 gac)
+          ∷ call (add 1 ggc)
+          ∷ call (askBoth bonded unbonded)
+          ∷ call (askBoth unbonded unbonded)
+          ∷ alter 0 444 0
+          ∷ call (askWith (oneHandedIn bonded))
+          ∷ call (askWith [])
+          ∷ call (askWith (handedIn bonded longMotif))
+          ∷ call (askBoth unbonded unbonded)
+          ∷ alter 0 380 3
+          ∷ call (askBoth unbonded unbonded)
+          ∷ call (remove 0)
+          ∷ call (add 0 ggc)
+          ∷ call (askBoth unbonded bonded)
+          ∷ call (askBoth emptyMotif emptyMotif)
+          ∷ call (askWith (encodeMotif bonded))
+          ∷ call (batch (handedIn bonded unbonded) 1472 (9 ∷ 9 ∷ 9 ∷ []))
+          ∷ [];
+      results =
+          done
+          ∷ done
+          ∷ foundAll (foundOf 2 (0 ∷ 1 ∷ []) 2 ∷ foundOf 1 (1 ∷ []) 2 ∷ []) 2
+          ∷ foundAll (foundOf 1 (1 ∷ []) 0 ∷ foundOf 1 (1 ∷ []) 0 ∷ []) 0
+          ∷ refused badMotifs motifSide 1
+          ∷ refused badMotifs motifSide 0
+          ∷ refused tooLong motifSide 1
+          ∷ foundAll (foundOf 1 (1 ∷ []) 2 ∷ foundOf 1 (1 ∷ []) 0 ∷ []) 2
+          ∷ foundAll (foundOf 1 (1 ∷ []) 0 ∷ foundOf 1 (1 ∷ []) 0 ∷ []) 0
+          ∷ done
+          ∷ done
+          ∷ foundAll (foundOf 2 (0 ∷ 1 ∷ []) 1 ∷ foundOf 2 (0 ∷ 1 ∷ []) 2 ∷ []) 2
+          ∷ foundAll (foundOf 2 (0 ∷ 1 ∷ []) 2 ∷ foundOf 2 (0 ∷ 1 ∷ []) 0 ∷ []) 2
+          ∷ foundAll (foundOf 2 (0 ∷ 1 ∷ []) 2 ∷ []) 2
+          ∷ refused wrongSlice noSide 0
+          ∷ [];
+    }
+
 -- All of them.
 unfoldable pub stories : List Story
-stories = settledStory ∷ reusedStory ∷ sharedSlotStory ∷ alteredStory ∷ emptyMotifStory ∷ []
+stories = settledStory ∷ reusedStory ∷ sharedSlotStory ∷ alteredStory ∷ emptyMotifStory ∷ batchStory ∷ []
 
 -- Every story of a list: by the model, and by every run.
 unfoldable pub AllByModel : List Story → Type 0
@@ -234,12 +309,24 @@ alteredTwice = call (add 0 gac) ∷ call (ask bonded) ∷ alter 0 444 0 ∷ alte
 unfoldable pub refusedBetween : List Event
 refusedBetween = call (add 0 gac) ∷ call (ask bonded) ∷ alter 0 444 0 ∷ call (remove 1) ∷ alter 0 444 1 ∷ call (ask bonded) ∷ []
 
+-- A refused batch between them: its second block is empty.
+unfoldable pub refusedBatchBetween : List Event
+refusedBatchBetween =
+    call (add 0 gac) ∷ call (ask bonded) ∷ alter 0 444 0 ∷ call (askWith (oneHandedIn bonded)) ∷ alter 0 444 1 ∷ call (ask bonded) ∷ []
+
+-- A batch of two motifs after the two alterations.
+unfoldable pub alteredForBatch : List Event
+alteredForBatch = call (add 0 gac) ∷ call (ask bonded) ∷ alter 0 444 0 ∷ alter 0 444 1 ∷ call (askBoth bonded unbonded) ∷ []
+
 -- 01: "at most one alteration in each block .. between one accepted call and the next".
 pub record AlterationsLimited : Type 0 where
   pub one : ByModel alteredOnce
   pub two : admitted embeds 1 1 alteredTwice ≡ false
-  -- a refused call ends no period
+  -- a refused call ends no period, nor does a refused batch
   pub refusal-between : admitted embeds 1 1 refusedBetween ≡ false
+  pub refused-batch : admitted embeds 1 1 refusedBatchBetween ≡ false
+  -- an accepted batch ends a period, as any accepted call: two alterations of a block before it are too many
+  pub before-batch : admitted embeds 1 1 alteredForBatch ≡ false
   -- the limit is needed: the block is sound again, and a run searches nothing, while the model's slot became nothing
   pub run-knows : (log : List Line) → Ran embeds (zeroed 1 1) alteredTwice log → resultsOf log ≡ alteredOnce .results
   pub model-searches : resultsOf (modelLog embeds 1 1 start alteredTwice) ≡ done ∷ found 1 (0 ∷ []) 1 ∷ found 1 (0 ∷ []) 1 ∷ []

@@ -1,5 +1,5 @@
 -- Runs of the calls, known by their contracts alone; which lists of events are admitted; and what is claimed of every run (01: demand 3).
-use Prim.Native.Nat.{ℕ, _+_, _*_, _<_}
+use Prim.Native.Nat.{ℕ, suc, _+_, _*_, _<_}
 use mathlib.Core.Path.{_≡_}
 use mathlib.Core.Logic.{_↔_}
 use mathlib.Core.List.{List, [], _∷_, _++_}
@@ -13,12 +13,17 @@ use Rattle.refusals.specs.Rules.{refusal}
 use Rattle.refusals.specs.declared.Verdict.{Verdict}
 use Rattle.refusals.specs.declared.Verdict.the-variants.{Accepted}
 use Rattle.block.specs.Content.{blockSize}
+use Rattle.block.specs.Block.{blockCount}
 use Rattle.calls.specs.declared.Added.{Added}
 use Rattle.calls.specs.declared.Removed.{Removed}
 use Rattle.calls.specs.declared.Queried.{Queried}
+use Rattle.calls.specs.declared.Batched.{Batched}
 use Rattle.calls.specs.Buffers.{moleculeVerdict, motifVerdict, Holding}
-use Rattle.calls.specs.Calls.{effect, addOutcome, removeOutcome, queried, queryOutcome, Result, refused, done, found, addResult, removeResult, queryResult}
-use Rattle.history.specs.Model.{Call, add, remove, query, Event, call, alter, endsPeriod, Line, gave}
+use Rattle.calls.specs.Calls.{effect, addOutcome, removeOutcome, queried, queryOutcome, Found, Result, refused, done, found, foundAll, addResult}
+use Rattle.calls.specs.Calls.{removeResult, queryResult}
+use Rattle.calls.specs.Motifs.{motifOf}
+use Rattle.calls.specs.Batch.{batched, batchOutcome, batchResult}
+use Rattle.history.specs.Model.{Call, add, remove, query, batch, Event, call, alter, endsPeriod, Line, gave}
 use Rattle.history.specs.Model.{State, start, modelResult, modelAfter, modelAlter, modelLog}
 
 -- The two buffers of a history.
@@ -40,8 +45,8 @@ altered β s i v = buffersOf (β .catalog) (set (β .cache) (blockSize * s + i) 
 -- ---- runs
 
 -- A run from these buffers through a list of events, and its log: "catalogue and shelf change only by these calls and alterations". Of a call it knows
--- the equation of the call's `ensures` (crates/catalog/src/lib.rt) and nothing else; r and the primed names are the answer and the buffers at its exit.
--- The functions of crates/demands/src/lib.rt make these steps, by calling add, remove and query.
+-- the equation of the call's `ensures` (crates/catalog/src/lib.rt, crates/batch/src/lib.rt) and nothing else; r and the primed names are the answer and the
+-- buffers at its exit. The functions of crates/demands/src/lib.rt make these steps, by calling add, remove, query and batch.
 pub data Ran (embeds : Strand → Strand → Bool) : Buffers → List Event → List Line → Type 0 where
   -- no event is left
   runEnd : {β : Buffers} → Ran embeds β [] []
@@ -60,6 +65,13 @@ pub data Ran (embeds : Strand → Strand → Bool) : Buffers → List Event → 
       → queried r cache′ hits′ ≡ queryOutcome embeds (β .catalog) (β .cache) p work hits
       → Ran embeds (buffersOf (β .catalog) cache′) es log
       → Ran embeds β (call (query p work hits) ∷ es) (gave (query p work hits) (queryResult r hits′) ∷ log)
+  -- 02, (v): motifs "in one lent buffer", here any buffer at all (its rules decide), with a work slice of any length and any slice for the hits; catalog and
+  -- motifs are only read
+  runBatch : {β : Buffers} {es : List Event} {log : List Line} (motifs : List ℕ) (work : ℕ) (hits : List ℕ) (r : Batched) (cache′ hits′ : List ℕ)
+      → batched r cache′ hits′ ≡ batchOutcome embeds (β .catalog) motifs work (β .cache) hits
+      → Ran embeds (buffersOf (β .catalog) cache′) es log
+      → Ran embeds β (call (batch motifs work hits) ∷ es)
+      (gave (batch motifs work hits) (batchResult (blockCount (β .catalog)) (blockCount motifs) r hits′) ∷ log)
   -- 01: "An alteration sets one byte of one shelf block"
   runAlter : {β : Buffers} {es : List Event} {log : List Line} (s i v : ℕ) → Ran embeds (altered β s i v) es log → Ran embeds β (alter s i v ∷ es) log
 
@@ -78,6 +90,7 @@ unfoldable pub verdictOf : Result → Verdict
 verdictOf (refused number side place) = refusal number side place
 verdictOf done = Accepted
 verdictOf (found count hits searched) = Accepted
+verdictOf (foundAll each read) = Accepted
 
 unfoldable pub verdictsOf : List Line → List Verdict
 verdictsOf [] = []
@@ -117,12 +130,14 @@ unfoldable pub holdingBy : ℕ → Holding → Call → Holding
 holdingBy d x (add n q) = choose (eqb d n) (holds q) x
 holdingBy d x (remove n) = choose (eqb d n) vacant x
 holdingBy d x (query p work hits) = x
+holdingBy d x (batch motifs work hits) = x
 
 -- The same after a call that came to this, and after the calls of a log.
 unfoldable pub holdingAfter : ℕ → Holding → Call → Result → Holding
 holdingAfter d x c (refused number side place) = x
 holdingAfter d x c done = holdingBy d x c
 holdingAfter d x c (found count hits searched) = x
+holdingAfter d x c (foundAll each read) = x
 
 unfoldable pub holdingSince : ℕ → Holding → List Line → Holding
 holdingSince d x [] = x
@@ -132,18 +147,30 @@ holdingSince d x (line ∷ log) = holdingSince d (holdingAfter d x (line .of) (l
 abbrev pub Held : ℕ → Strand → List Line → Type 0
 Held d q log = holdingSince d vacant log ≡ holds q
 
--- A query that a call made: its motif, the count and the hit list that it came to. An accepted query makes one; no other call makes any.
+-- A query that a call made: its motif, the count and the hit list that it came to. An accepted query makes one, an accepted batch one for each motif; no other
+-- call makes any.
 pub record Ask : Type 0 where
   pub motif : Strand
   pub count : ℕ
   pub hits : List ℕ
 
+-- The queries of a batch by what they found: the first of `each` is that of motif t, the next that of motif t + 1, and so on.
+unfoldable pub asksFrom : List ℕ → ℕ → List Found → List Ask
+asksFrom motifs t [] = []
+asksFrom motifs t (x ∷ each) = record { motif = motifOf motifs t; count = x .count; hits = x .hits } ∷ asksFrom motifs (suc t) each
+
+-- The queries that a call made which came to this.
 unfoldable pub asksOf : Call → Result → List Ask
 asksOf (add d q) result = []
 asksOf (remove d) result = []
 asksOf (query p work slice) (refused number side place) = []
 asksOf (query p work slice) done = []
 asksOf (query p work slice) (found count hits searched) = record { motif = p; count = count; hits = hits } ∷ []
+asksOf (query p work slice) (foundAll each read) = []
+asksOf (batch motifs work slice) (refused number side place) = []
+asksOf (batch motifs work slice) done = []
+asksOf (batch motifs work slice) (found count hits searched) = []
+asksOf (batch motifs work slice) (foundAll each read) = asksFrom motifs 0 each
 
 -- A query stands in a log: the call of the line after `before` made it.
 pub record Stands (log before : List Line) (a : Ask) : Type 0 where

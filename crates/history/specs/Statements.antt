@@ -10,8 +10,10 @@ use Rattle.refusals.specs.Rules.{noSide, notWholeBlocks}
 use Rattle.embedding.specs.Embedding.{EmbedsIn}
 use Rattle.embedding.specs.Longest.{embeds}
 use Rattle.block.specs.Content.{blockSize}
-use Rattle.calls.specs.Calls.{refused, found}
-use Rattle.history.specs.Model.{query, Event, Line, gave}
+use Rattle.block.specs.Block.{blockCount}
+use Rattle.calls.specs.Calls.{Found, refused, found, foundAll}
+use Rattle.calls.specs.Motifs.{motifOf}
+use Rattle.history.specs.Model.{query, batch, Event, Line, gave}
 use Rattle.history.specs.History.{Buffers, Ran, SomeRun, SameRefusals, Held, Ask, Stands, Among, RightHits, RightLog, Decides, RunTheorem}
 use Rattle.history.specs.Examples.{stories, AllByModel, AllByRuns, AlterationsLimited}
 
@@ -21,6 +23,20 @@ QueriesRight Relation log =
     (before after : List Line) (p : Strand) (work : ℕ) (slice : List ℕ) (count : ℕ) (hits : List ℕ) (searched : ℕ)
     → log ≡ before ++ (gave (query p work slice) (found count hits searched) ∷ after)
     → RightHits Relation before (record { motif = p; count = count; hits = hits })
+
+-- An accepted batch is right: `each` has one result for each motif, in the order of the motifs, and each of them is right for the query of its motif: the
+-- result that has t others in front of it for motif t.
+pub record RightBatch (Relation : Strand → Strand → Type 0) (before : List Line) (motifs : List ℕ) (each : List Found) : Type 0 where
+  pub many : length each ≡ blockCount motifs
+  pub right : (front back : List Found) (x : Found) → each ≡ front ++ (x ∷ back)
+      → RightHits Relation before (record { motif = motifOf motifs (length front); count = x .count; hits = x .hits })
+
+-- Every accepted batch of a log is right.
+abbrev pub BatchesRight : (Strand → Strand → Type 0) → List Line → Type 0
+BatchesRight Relation log =
+    (before after : List Line) (motifs : List ℕ) (work : ℕ) (slice : List ℕ) (each : List Found) (read : ℕ)
+    → log ≡ before ++ (gave (batch motifs work slice) (foundAll each read) ∷ after)
+    → RightBatch Relation before motifs each
 
 -- 02, (iii): "Query histories may contain it, and the hit rule covers it without an exception". An empty motif embeds in every molecule, so each accepted
 -- query of it lists just the numbers then held.
@@ -47,6 +63,8 @@ pub record Claims : Type 0 where
   pub refusals : SameRefusals embeds
   -- so every accepted query of a right log, as a line of it, is right
   pub queries : (B S : ℕ) (es : List Event) (log : List Line) → RightLog EmbedsIn embeds B S es log → QueriesRight EmbedsIn log
+  -- and so is every accepted batch
+  pub batches : (B S : ℕ) (es : List Event) (log : List Line) → RightLog EmbedsIn embeds B S es log → BatchesRight EmbedsIn log
   -- and every accepted query of the motif with no bases lists all that is held
   pub empty-motif : (B S : ℕ) (es : List Event) (log : List Line) → RightLog EmbedsIn embeds B S es log → EmptyMotifListsHeld log
   -- buffers that are not whole blocks: every call of every list is refused by rule 10

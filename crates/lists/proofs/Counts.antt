@@ -7,6 +7,7 @@ use native.Mathlib.Omega.{arith}
 use native.Mathlib.Decide.{ℕ-discrete}
 use lib.ListN.{length, length-append}
 use Rattle.lists.specs.Vocabulary.{choose, select}
+use Rattle.lists.proofs.ListLaws.{never, select-none}
 use Rattle.lists.proofs.Ranges.{select-ext}
 
 abbrev pub count : ℕ → (ℕ → Bool) → ℕ
@@ -25,6 +26,17 @@ count-yes p n e = count-suc p n ∙ unfold choose in (rw e)
 
 pub count-no : (p : ℕ → Bool) (n : ℕ) → p n ≡ false → count (suc n) p ≡ count n p
 count-no p n e = count-suc p n ∙ unfold choose in (rw e (omega arith))
+
+-- Where each number that passes p passes q, at least as many pass q.
+pub count-more : (n : ℕ) (p q : ℕ → Bool) → ((d : ℕ) → p d ≡ true → q d ≡ true) → count n p ≤ count n q
+count-more zero p q h = omega (arith, ap length (select-none p), ap length (select-none q))
+count-more (suc n) p q h = go (p n) (q n) refl refl (count-more n p q h)
+  where
+    go : (a b : Bool) → p n ≡ a → q n ≡ b → count n p ≤ count n q → count (suc n) p ≤ count (suc n) q
+    go true true x y r = omega (arith, count-yes p n x, count-yes q n y)
+    go true false x y r = never (sym y ∙ h n x)
+    go false true x y r = omega (arith, count-no p n x, count-yes q n y)
+    go false false x y r = omega (arith, count-no p n x, count-no q n y)
 
 count-up : (p : ℕ → Bool) (n d : ℕ) → count n p ≤ count (n + d) p
 unfolding choose

@@ -1,3 +1,4 @@
 pub mod ListLaws
 pub mod Ranges
 pub mod Counts
+pub mod Stretches

@@ -303,10 +303,10 @@ same-all xs ys l h = ap (sameList xs) (sym (ext-getD 0 xs ys l h)) ∙ same-refl
 
 -- ---- passes and zeros
 
-pub tab-ext : (f g : ℕ → ℕ) (n : ℕ) → ((i : ℕ) → i < n → f i ≡ g i) → tab n f ≡ tab n g
+pub tab-ext : {A : Type 0} (f g : ℕ → A) (n : ℕ) → ((i : ℕ) → i < n → f i ≡ g i) → tab n f ≡ tab n g
 unfolding tab
 tab-ext f g zero e = refl
-tab-ext f g (suc n) e = ap₂ (λ (x : List ℕ) (y : ℕ). x ++ (y ∷ [])) (tab-ext f g n (λ i h. e i (omega arith))) (e n (omega arith))
+tab-ext {A} f g (suc n) e = ap₂ (λ (x : List A) (y : A). x ++ (y ∷ [])) (tab-ext f g n (λ i h. e i (omega arith))) (e n (omega arith))
 
 -- All entries are zero.
 pub zeros-at : (l : List ℕ) → all (λ x. eqb x 0) l ≡ true → (i : ℕ) → nth l i ≡ 0

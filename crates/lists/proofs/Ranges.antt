@@ -73,6 +73,11 @@ unfolding select
 select-ext zero p q h = refl
 select-ext (suc n) p q h = rw (h n (omega arith), select-ext n p q (λ d l. h d (omega arith)))
 
+pub some-ext : (n : ℕ) (p q : ℕ → Bool) → ((i : ℕ) → i < n → p i ≡ q i) → some n p ≡ some n q
+unfolding some
+some-ext zero p q h = refl
+some-ext (suc n) p q h = rw (h n (omega arith), some-ext n p q (λ i l. h i (omega arith)))
+
 snoc-cases : (l : List ℕ) (n i : ℕ) → i < length (l ++ (n ∷ [])) → (i < length l) ⊎ (i ≡ length l)
 snoc-cases l n i h = lt-suc-cases i (length l) (omega (arith, length-append l (n ∷ [])))
 

@@ -1,5 +1,5 @@
 -- Words that all specifications share: entries and parts of lists, choices, and tests over the numbers below n.
-use Prim.Native.Nat.{ℕ, zero, suc, _+_, _-_}
+use Prim.Native.Nat.{ℕ, zero, suc, _+_, _-_, _*_}
 use mathlib.Core.Bool.{Bool, true, false, _&&_, _||_}
 use mathlib.Core.List.{List, [], _∷_, _++_}
 use lib.Dec.{eqb}
@@ -12,6 +12,13 @@ nth xs i = getD xs i 0
 -- The part from a to before e: what `&s[a..e]` is.
 abbrev pub between : ℕ → ℕ → List ℕ → List ℕ
 between a e s = take (e - a) (drop a s)
+
+-- Piece t, counted from 0, of a list that is cut into pieces of w entries; the list with that piece replaced.
+abbrev pub piece : ℕ → ℕ → List ℕ → List ℕ
+piece w t s = between (w * t) (w * t + w) s
+
+unfoldable pub putPiece : ℕ → ℕ → List ℕ → List ℕ → List ℕ
+putPiece w t new s = take (w * t) s ++ new ++ drop (w * t + w) s
 
 -- The first value where the test passed, else the second.
 unfoldable pub choose : {A : Type 0} → Bool → A → A → A
@@ -51,7 +58,7 @@ select zero p = []
 select (suc n) p = select n p ++ choose (p n) (n ∷ []) []
 
 -- The list of f at 0, 1, .., n - 1.
-unfoldable pub tab : ℕ → (ℕ → ℕ) → List ℕ
+unfoldable pub tab : {A : Type 0} → ℕ → (ℕ → A) → List A
 tab zero f = []
 tab (suc n) f = tab n f ++ (f n ∷ [])
 

@@ -7,7 +7,7 @@ use native.Mathlib.Omega.{arith}
 use native.Mathlib.Nat.{zero-div}
 use native.Mathlib.Decide.{ℕ-discrete}
 use lib.Dec.{T, eqb, eqb→eq, ltb, ltb→lt}
-use lib.Bits.{bitAnd, bitOr, and-mask, and-shr, and-mod, and-le-l}
+use lib.Bits.{bitAnd, bitOr, and-mask, and-shr, and-mod, and-le-l, or-shr, or-mod}
 use lib.ListN.{length, set, List·getD-eq-default}
 use lib.Seq.{getD-set-same, getD-set-other, set-out}
 use borrow.Author.Tests.{eq-eqb, ne-eqb, eqb-true}
@@ -153,6 +153,15 @@ unfolding bitOf and-test
 and-bit a b k =
     ap (λ (x : ℕ). eqb x 1) (ap (λ (x : ℕ). x % 2) (and-shr a b k) ∙ and-mod (a / 2 ^ k) (b / 2 ^ k) 1)
     ∙ same→eq _ _ (below₂-at and-test 2 2 tt (a / 2 ^ k % 2) (b / 2 ^ k % 2) (omega arith) (omega arith))
+
+or-test : ℕ → ℕ → Bool
+or-test x y = same (eqb (bitOr x y) 1) (eqb x 1 || eqb y 1)
+
+pub or-bit : (a b k : ℕ) → bitOf (bitOr a b) k ≡ (bitOf a k || bitOf b k)
+unfolding bitOf or-test
+or-bit a b k =
+    ap (λ (x : ℕ). eqb x 1) (ap (λ (x : ℕ). x % 2) (or-shr a b k) ∙ or-mod (a / 2 ^ k) (b / 2 ^ k) 1)
+    ∙ same→eq _ _ (below₂-at or-test 2 2 tt (a / 2 ^ k % 2) (b / 2 ^ k % 2) (omega arith) (omega arith))
 
 not-test : ℕ → ℕ → Bool
 not-test k b = same (bitOf (255 - b) k) (not (bitOf b k))

@@ -1,17 +1,17 @@
 -- A map made from another map and one that lies in a slice, a byte a turn.
 use mathlib.Core.Path.{_≡_, sym, ap, ap₂, _∙_}
-use mathlib.Core.Bool.{Bool, not, _&&_}
+use mathlib.Core.Bool.{Bool, not, _&&_, _||_}
 use mathlib.Core.List.{List, _++_, append-nil}
 use Prim.Native.Nat.{ℕ, suc, _+_, _-_, _*_, _/_, _%_, _<_}
 use native.Mathlib.Omega.{arith}
 use native.Mathlib.Nat.{zero-add}
-use lib.Bits.{bitAnd, and-le-l}
+use lib.Bits.{bitAnd, bitOr, and-le-l, or-lt}
 use lib.ListN.{length, set, drop, drop-of-length-le}
 use lib.Seq.{drop-cons, getD-at}
 use Rattle.lists.specs.Vocabulary.{nth, tab}
 use Rattle.lists.proofs.ListLaws.{length-tab, tab-none, tab-more}
 use Rattle.octets.specs.Octets.{bitOf, mapBit, bitSum, mapBytes}
-use Rattle.octets.proofs.BitLaws.{and-bit, not-bit}
+use Rattle.octets.proofs.BitLaws.{and-bit, not-bit, or-bit}
 use Rattle.octets.proofs.MapLaws.{byte-bits, sum-ext}
 
 -- Byte j of the map of p.
@@ -50,6 +50,11 @@ module _ (m s : List ℕ) (at j : ℕ) (small : nth m j < 256) where
       byte-from (λ d. mapBit m 0 d && not (mapBit s at d)) j _ (omega (arith, and-le-l (nth m j) (255 - nth s (at + j))))
       (λ k h. and-bit (nth m j) (255 - nth s (at + j)) k
       ∙ ap₂ (λ (a b : Bool). a && b) (first-at k h) (not-bit (nth s (at + j)) k small-s h ∙ ap not (sym (bit-at s at j k h))))
+
+  join-byte : nth s (at + j) < 256 → bitOr (nth m j) (nth s (at + j)) ≡ byteOf (λ d. mapBit m 0 d || mapBit s at d) j
+  join-byte small-s =
+      byte-from (λ d. mapBit m 0 d || mapBit s at d) j _ (or-lt 8 (nth m j) (nth s (at + j)) small small-s)
+      (λ k h. or-bit (nth m j) (nth s (at + j)) k ∙ ap₂ (λ (a b : Bool). a || b) (first-at k h) (sym (bit-at s at j k h)))
 
 -- ---- the pass: the first i bytes are those of p, the rest is as it was
 
@@ -92,3 +97,9 @@ module _ (m s w : List ℕ) (at i : ℕ) (h : i < length m) (small : nth w i < 2
   out-more small-s e =
       let q : nth w i ≡ nth m i = made-at _ m i w h e in
       made-more _ m i _ w h e (ap (λ (x : ℕ). bitAnd x (255 - nth s (at + i))) q ∙ out-byte m s at i (rw q at small) small-s)
+
+  pub join-more : nth s (at + i) < 256 → w ≡ madeTo (λ d. mapBit m 0 d || mapBit s at d) i m
+      → set w i (bitOr (nth w i) (nth s (at + i))) ≡ madeTo (λ d. mapBit m 0 d || mapBit s at d) (i + 1) m
+  join-more small-s e =
+      let q : nth w i ≡ nth m i = made-at _ m i w h e in
+      made-more _ m i _ w h e (ap (λ (x : ℕ). bitOr x (nth s (at + i))) q ∙ join-byte m s at i (rw q at small) small-s)

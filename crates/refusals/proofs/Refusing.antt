@@ -11,13 +11,15 @@ use Rattle.refusals.specs.declared.Refusal.{Refusal}
 use Rattle.refusals.specs.declared.Verdict.{Verdict}
 use Rattle.refusals.specs.declared.Verdict.the-variants.{Accepted, Refused}
 use Rattle.refusals.specs.Rules.{noBases, badLetter, unsoundBlock, arcsCross, notHeld, moleculeSide, noSide, refusal, refuseIf, refuseAtLowest, first}
-use Rattle.refusals.specs.Rules.{byVerdict, Numbered}
-use Rattle.refusals.specs.Rules.{Refuses, Keeps, workRule}
+use Rattle.refusals.specs.Rules.{byVerdict, Numbered, RefusesBy, Keeps, workRule}
 use Rattle.refusals.proofs.RuleLaws.{unrefused, by-accepted, by-refused}
 
--- Every refusal that a verdict can be is one of the table.
+-- Every refusal that a verdict can be is one of a table; of the table of every call but batch.
+abbrev pub NumberingBy : (ℕ → ℕ → ℕ → Type 0) → Verdict → Type 0
+NumberingBy table v = (r : Refusal) → v ≡ Refused r → table (r .number) (r .side) (r .place)
+
 abbrev pub Numbering : Verdict → Type 0
-Numbering v = (r : Refusal) → v ≡ Refused r → Numbered (r .number) (r .side) (r .place)
+Numbering v = NumberingBy Numbered v
 
 pub strand-number : (number side place : ℕ) → 1 ≤ number → number ≤ arcsCross → side ≤ moleculeSide
     → (number ≡ noBases → side ≡ moleculeSide) → (number < badLetter → place ≡ 0) → Numbered number side place
@@ -44,40 +46,54 @@ call-number number place a b d =
       late = λ h n. d n;
     }
 
-module _ (number side : ℕ) where
-  refusal-numbered : (place : ℕ) → Numbered number side place → Numbering (refusal number side place)
-  refusal-numbered place ok r e =
+module _ (table : ℕ → ℕ → ℕ → Type 0) where
+  refusal-by : (number side place : ℕ) → table number side place → NumberingBy table (refusal number side place)
+  refusal-by number side place ok r e =
       let a : number ≡ r .number = cc in
       let b : side ≡ r .side = cc in
       let c : place ≡ r .place = cc in
       rw (a, b, c) at ok
 
   -- a rule that names no place; where it applies it must give a refusal of the table
-  pub when-numbered : (b : Bool) → (b ≡ true → Numbered number side 0) → Numbering (refuseIf number side b)
+  pub when-by : (number side : ℕ) (b : Bool) → (b ≡ true → table number side 0) → NumberingBy table (refuseIf number side b)
   unfolding refuseIf choose
-  when-numbered true ok r e = refusal-numbered 0 (ok refl) r e
-  when-numbered false ok r e = absurd (unrefused r (sym e))
+  when-by number side true ok r e = refusal-by number side 0 (ok refl) r e
+  when-by number side false ok r e = absurd (unrefused r (sym e))
+
+  -- a rule that names the lowest place
+  pub lowest-by : (number side : ℕ) → ((place : ℕ) → table number side place) → (n : ℕ) (p : ℕ → Bool) → NumberingBy table (refuseAtLowest number side n p)
+  unfolding refuseAtLowest choose
+  lowest-by number side ok n p = go (ltb (lowest n p) n)
+    where
+      go : (b : Bool) → NumberingBy table (choose b (refusal number side (lowest n p)) Accepted)
+      go true r e = refusal-by number side (lowest n p) (ok (lowest n p)) r e
+      go false r e = absurd (unrefused r (sym e))
+
+  pub none-by : NumberingBy table (first [])
+  unfolding first
+  none-by r e = absurd (unrefused r (sym e))
+
+  pub first-by : (v : Verdict) (vs : List Verdict) → NumberingBy table v → NumberingBy table (first vs) → NumberingBy table (first (v ∷ vs))
+  unfolding first
+  first-by Accepted vs a b = b
+  first-by (Refused x) vs a b = a
+
+-- The same by the table of every call but batch.
+module _ (number side : ℕ) where
+  pub when-numbered : (b : Bool) → (b ≡ true → Numbered number side 0) → Numbering (refuseIf number side b)
+  when-numbered = when-by Numbered number side
 
   pub if-numbered : Numbered number side 0 → (b : Bool) → Numbering (refuseIf number side b)
   if-numbered ok b = when-numbered b (λ e. ok)
 
-  -- a rule that names the lowest place
   pub lowest-numbered : ((place : ℕ) → Numbered number side place) → (n : ℕ) (p : ℕ → Bool) → Numbering (refuseAtLowest number side n p)
-  unfolding refuseAtLowest choose
-  lowest-numbered ok n p = go (ltb (lowest n p) n)
-    where
-      go : (b : Bool) → Numbering (choose b (refusal number side (lowest n p)) Accepted)
-      go true r e = refusal-numbered (lowest n p) (ok (lowest n p)) r e
-      go false r e = absurd (unrefused r (sym e))
+  lowest-numbered = lowest-by Numbered number side
 
 pub none-numbered : Numbering (first [])
-unfolding first
-none-numbered r e = absurd (unrefused r (sym e))
+none-numbered = none-by Numbered
 
 pub first-numbered : (v : Verdict) (vs : List Verdict) → Numbering v → Numbering (first vs) → Numbering (first (v ∷ vs))
-unfolding first
-first-numbered Accepted vs a b = b
-first-numbered (Refused x) vs a b = a
+first-numbered = first-by Numbered
 
 pub work-numbered : (m n work : ℕ) → Numbering (workRule m n work)
 work-numbered m n work = if-numbered 8 noSide (call-number 8 0 (omega arith) (omega arith) (λ n. refl)) _
@@ -85,7 +101,8 @@ work-numbered m n work = if-numbered 8 noSide (call-number 8 0 (omega arith) (om
 -- A call that comes to a value by its verdict, of which `answer` is read: refusals have different answers, and no other answer is one of them.
 module _ {E A : Type 0} (v : Verdict) (f : Refusal → E) (x : E) (answer : E → A) (refused : Refusal → A) (tells : (r : Refusal) → answer (f r) ≡ refused r)
     (apart : (r : Refusal) → answer x ≡ refused r → ⊥) where
-  pub refuses-by : Numbering v → ((r s : Refusal) → refused r ≡ refused s → r ≡ s) → Refuses v refused (answer (byVerdict v f x))
+  pub refuses-by : {table : ℕ → ℕ → ℕ → Type 0} → NumberingBy table v → ((r s : Refusal) → refused r ≡ refused s → r ≡ s)
+      → RefusesBy table v refused (answer (byVerdict v f x))
   refuses-by ok one = record { numbered = ok; exactly = go v }
     where
       go : (w : Verdict) (r : Refusal) → (w ≡ Refused r) ↔ (answer (byVerdict w f x) ≡ refused r)

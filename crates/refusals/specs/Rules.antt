@@ -54,6 +54,10 @@ alreadyHeld = 13
 abbrev pub notHeld : ℕ
 notHeld = 14
 
+-- 02, (v): the motif buffer of a batch.
+abbrev pub badMotifs : ℕ
+badMotifs = 15
+
 -- The sides: 0 for a motif, 1 for a molecule, 2 for neither.
 abbrev pub motifSide : ℕ
 motifSide = 0
@@ -98,10 +102,21 @@ pub record Numbered (number side place : ℕ) : Type 0 where
   pub early : number < badLetter → place ≡ 0
   pub late : arcsCross < number → (number ≡ unsoundBlock → ⊥) → place ≡ 0
 
--- A call whose rules give verdict v and which answers this tells a refusal exactly where the rules refuse, and just that refusal; it is one of the table's.
-pub record Refuses {A : Type 0} (v : Verdict) (refused : Refusal → A) (answer : A) : Type 0 where
-  pub numbered : (r : Refusal) → v ≡ Refused r → Numbered (r .number) (r .side) (r .place)
+-- A refusal of a batch: one of these, or one of its motif buffer (02, (v)), "side 0": 15 or 3, with any place. (`MotifsRefuse` of crate calls says which.)
+pub data BatchNumbered (number side place : ℕ) : Type 0 where
+  ofTable : Numbered number side place → BatchNumbered number side place
+  ofMotifs : number ≡ badMotifs → side ≡ motifSide → BatchNumbered number side place
+  ofLong : number ≡ tooLong → side ≡ motifSide → BatchNumbered number side place
+
+-- The rules of a call give verdict v, and the call has this answer: every refusal of the rules is one of `table`, and the call answers a refusal exactly where
+-- the rules refuse, and the same one.
+pub record RefusesBy (table : ℕ → ℕ → ℕ → Type 0) {A : Type 0} (v : Verdict) (refused : Refusal → A) (answer : A) : Type 0 where
+  pub numbered : (r : Refusal) → v ≡ Refused r → table (r .number) (r .side) (r .place)
   pub exactly : (r : Refusal) → (v ≡ Refused r) ↔ (answer ≡ refused r)
+
+-- The refusals of every call but batch.
+abbrev pub Refuses : {A : Type 0} → Verdict → (Refusal → A) → A → Type 0
+Refuses v refused answer = RefusesBy Numbered v refused answer
 
 -- Where it answers a refusal, its two buffers are afterwards (a prime marks them) as they were before.
 abbrev pub Keeps : {A : Type 0} → (Refusal → A) → A → List ℕ → List ℕ → List ℕ → List ℕ → Type 0

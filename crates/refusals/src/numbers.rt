@@ -27,6 +27,8 @@ pub const ALREADY_HELD: u8 = 13;
 
 pub const NOT_HELD: u8 = 14;
 
+pub const BAD_MOTIFS: u8 = 15;
+
 pub const MOTIF: u8 = 0;
 
 pub const MOLECULE: u8 = 1;

@@ -19,7 +19,7 @@ use Rattle.block.specs.Content.{blockSize, emptyBlock, keepsMotif}
 use Rattle.embedding.specs.Longest.{embeds}
 use Rattle.calls.specs.Buffers.{held, moleculeAt, slotOf, cleanCache}
 use Rattle.calls.specs.Calls.{isHit, toSearch, queryVerdict, queryOutcome}
-use Rattle.calls.specs.Statements.{slotIn, entryFor}
+use Rattle.calls.specs.Calls.{slotIn, entryFor}
 use Rattle.calls.proofs.BlockUse as leaf
 use Rattle.calls.proofs.ReadingLaws as read
 use Rattle.calls.proofs.Claims as calls

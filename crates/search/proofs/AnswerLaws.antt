@@ -20,7 +20,7 @@ use Rattle.embedding.specs.Longest.{embeds}
 use Rattle.calls.specs.declared.Queried.the-variants.{Hits}
 use Rattle.calls.specs.Buffers.{held, moleculeAt}
 use Rattle.calls.specs.Calls.{toSearch, isHit, queried, queryAccepted}
-use Rattle.calls.specs.Statements.{slotIn}
+use Rattle.calls.specs.Calls.{slotIn}
 use Rattle.calls.proofs.CallLaws.{search-is, hit-is, query-answers}
 use Rattle.search.specs.Search.{AllHeld, knownHit, answered}
 

@@ -1,7 +1,7 @@
-mod ReadyLaws
-mod MatchLaws
-mod MarkLaws
-mod ListingLaws
-mod ScanLaws
-mod KnownLaws
-mod AnswerLaws
+pub mod ReadyLaws
+pub mod MatchLaws
+pub mod MarkLaws
+pub mod ListingLaws
+pub mod ScanLaws
+pub mod KnownLaws
+pub mod AnswerLaws

@@ -14,7 +14,7 @@ use Rattle.block.specs.Content.{blockBases, keepsMotif, searchedIn, hitIn}
 use Rattle.embedding.specs.Longest.{embeds}
 use Rattle.calls.specs.Buffers.{mostCatalogBlocks, mostMoleculeBases, mostMotifBases, held}
 use Rattle.calls.specs.Calls.{QueryEffect, queryAccepted}
-use Rattle.calls.specs.Statements.{slotIn}
+use Rattle.calls.specs.Calls.{slotIn}
 
 -- Rule 11 lets the catalog pass: each block is sound.
 pub record SoundCatalog (catalog : List ℕ) : Type 0 where

@@ -12,12 +12,12 @@ ghost use Rattle.calls.specs.Calls.{addVerdict, removeVerdict, queryVerdict};
 ghost use Rattle.search.specs.Search.{SoundCatalog};
 
 // The most blocks of a catalog and of a cache (specs/Buffers of calls has the same numbers).
-const MOST_CATALOG_BLOCKS: usize = 512;
+pub const MOST_CATALOG_BLOCKS: usize = 512;
 
-const MOST_CACHE_BLOCKS: usize = 64;
+pub const MOST_CACHE_BLOCKS: usize = 64;
 
 // Whether a buffer is 1 to `most` whole blocks.
-fn is_whole(buf: &[u8], most: usize) -> bool
+pub fn is_whole(buf: &[u8], most: usize) -> bool
     ensures { λ r. ⌜ r ≡ isWhole most (now (buf .entry)) ⌝ }
 {
     if buf.len() % layout::BLOCK_SIZE != 0 {
@@ -46,7 +46,7 @@ fn lowest_unsound(catalog: &[u8]) -> usize
 }
 
 // Rules 10 and 11.
-fn judge_buffers(catalog: &[u8], cache: &[u8]) -> refusals::Verdict
+pub fn judge_buffers(catalog: &[u8], cache: &[u8]) -> refusals::Verdict
     ensures { λ r. ⌜ r ≡ buffersVerdict (now (catalog .entry)) (now (cache .entry)) ⌝ }
 {
     if !is_whole(catalog, MOST_CATALOG_BLOCKS) {

@@ -1,7 +1,7 @@
 // The search of a query over the blocks of a catalog, and the rules that judge a call. Query meets what `answer` asks: its judge has let catalog, motif,
 // work and hits pass (`Judged`), and the cache is clean.
 pub mod judge;
-mod maps;
+pub mod maps;
 mod scan;
 
 use block::layout;
@@ -24,7 +24,7 @@ ghost use Rattle.calls.specs.Statements.{AllSound};
 ghost use Rattle.search.specs.Search.{Judged, Sized, answered};
 
 // The slot of a motif in a cache of n blocks: its key mod n.
-fn slot(p: &[u8], pm: &[u16], n: usize) -> usize
+pub fn slot(p: &[u8], pm: &[u16], n: usize) -> usize
     requires { ⌜ (length (now p) ≤ mostMotifBases) × (length (now pm) ≡ length (now p)) × (1 ≤ n) ⌝ }
     ensures { λ r. ⌜ (r ≡ slotOf n (strandOf (now (p .entry)) (now (pm .entry)))) × (r < n) ⌝ }
 {
@@ -60,7 +60,7 @@ fn find_hits(
 }
 
 // The numbers below n of the map, rising, at the start of `hits`; how many there are.
-fn list_hits(found: &[u8], n: usize, hits: &mut [u16]) -> usize
+pub fn list_hits(found: &[u8], n: usize, hits: &mut [u16]) -> usize
     requires { ⌜ (n ≤ length (now hits)) × (n ≤ mapBits) ⌝ }
     ensures { λ r. ⌜ (r ≡ length (select n (mapBit (now (found .entry)) 0)))
         × (now (hits .exit) ≡ select n (mapBit (now (found .entry)) 0) ++ drop r (now (hits .entry))) ⌝ }

@@ -24,7 +24,7 @@ pub(crate) fn mark(yes: bool, d: usize, map: &mut [u8])
 }
 
 // The held numbers.
-fn fill_held(catalog: &[u8], held: &mut [u8])
+pub fn fill_held(catalog: &[u8], held: &mut [u8])
     requires { ⌜ (length (now held) ≡ mapSize) × (blockCount (now catalog) ≤ mostCatalogBlocks) × SoundCatalog (now catalog) ⌝ }
     ensures { λ _. ⌜ now (held .exit) ≡ mapBytes (heldIn (now (catalog .entry))) ⌝ }
 {
@@ -38,7 +38,7 @@ fn fill_held(catalog: &[u8], held: &mut [u8])
 }
 
 // The held numbers that the entry, which keeps this motif if `same`, has not searched.
-fn fill_todo(entry: &[u8], same: bool, held: &[u8], todo: &mut [u8])
+pub fn fill_todo(entry: &[u8], same: bool, held: &[u8], todo: &mut [u8])
     requires { ⌜ (length (now entry) ≡ blockSize) × (length (now held) ≡ mapSize) × (length (now todo) ≡ mapSize) ⌝ }
     ensures { λ _. ⌜ now (todo .exit) ≡ mapBytes (λ d. mapBit (now (held .entry)) 0 d && not (same && searchedIn (now (entry .entry)) d)) ⌝ }
 {
@@ -49,7 +49,7 @@ fn fill_todo(entry: &[u8], same: bool, held: &[u8], todo: &mut [u8])
 }
 
 // The held numbers that the entry, which keeps this motif if `same`, has searched and found to be hits.
-fn fill_known(entry: &[u8], same: bool, held: &[u8], found: &mut [u8])
+pub fn fill_known(entry: &[u8], same: bool, held: &[u8], found: &mut [u8])
     requires { ⌜ (length (now entry) ≡ blockSize) × (length (now held) ≡ mapSize) × (length (now found) ≡ mapSize) ⌝ }
     ensures { λ _. ⌜ now (found .exit)
         ≡ mapBytes (λ d. mapBit (now (held .entry)) 0 d && (same && (searchedIn (now (entry .entry)) d && hitIn (now (entry .entry)) d))) ⌝ }

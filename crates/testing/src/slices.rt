@@ -97,6 +97,17 @@ pub fn sum_entries(s: &[u16]) -> usize {
     sum
 }
 
+// The sum of numbers below 65536, behind those that another sum is of.
+pub fn sum_numbers(before: usize, s: &[usize]) -> usize {
+    let mut sum: usize = before;
+    let mut i = 0;
+    while i < s.len() {
+        sum = further(sum, s[i]);
+        i += 1;
+    }
+    sum
+}
+
 pub fn clear(s: &mut [u8]) {
     let mut i = 0;
     while i < s.len() {

@@ -1,5 +1,6 @@
 //! Times the library against plain Rust (tests/compare/plain) and plain C (benches/peers) on the same inputs in one run, all at optimization level 3, and
-//! prints tables and the goals. `cargo bench --features c-peers`; words after `--` choose the tables: length, window, show, soundness, query.
+//! prints tables and the goals. `cargo bench --features c-peers`; words after `--` choose the tables: length, window, show, soundness, query, batch.
+mod batches;
 #[allow(dead_code)]
 #[path = "../../tests/compare/make.rs"]
 mod make;
@@ -426,7 +427,8 @@ fn main() {
         "Plain C by {} at -O3, plain Rust at opt-level 3, both for plain x86-64; processor time, the least of {TURNS} turns; seed {SEED}.",
         env!("LAKHIDO_PEER_COMPILER")
     );
-    let tables: [(&str, fn()); 5] = [("length", lengths), ("window", windows), ("show", shows), ("soundness", soundness), ("query", queries)];
+    let tables: [(&str, fn()); 6] =
+        [("length", lengths), ("window", windows), ("show", shows), ("soundness", soundness), ("query", queries), ("batch", batches::table)];
     for (name, table) in tables {
         if wanted(name) {
             table();

@@ -1,8 +1,10 @@
 //! The plain C versions of benches/peers, compiled at -O3 by build.rs, with slices in the place of pointers.
 use crate::plain::strand::{Fold, Strand};
-use lakhido::{BLOCK, BLOCKS_MOST, MOST, MOTIF_MOST, Window};
+use lakhido::{BLOCK, BLOCKS_MOST, MOST, MOTIF_MOST, MOTIFS_MOST, SLOTS_MOST, Window};
 
 mod c {
+    use lakhido::MOTIFS_MOST;
+
     /// The fold of a molecule.
     #[derive(Default)]
     #[repr(C)]
@@ -17,6 +19,15 @@ mod c {
     pub struct Window {
         pub start: usize,
         pub length: usize,
+    }
+
+    /// What a batch answers.
+    #[derive(Default)]
+    #[repr(C)]
+    pub struct Batched {
+        pub read: usize,
+        pub counts: [usize; MOTIFS_MOST],
+        pub searched: [usize; MOTIFS_MOST],
     }
 
     /// A motif with what a search works out of it, which only C looks into.
@@ -86,6 +97,17 @@ mod c {
             hits: *mut u16,
             searched: *mut usize,
         ) -> std::ffi::c_long;
+        pub fn peer_batch(
+            catalog: *const u8,
+            blocks: usize,
+            cache: *mut u8,
+            slots: usize,
+            motifs: *const u8,
+            count: usize,
+            work: *mut u16,
+            hits: *mut u16,
+            answer: *mut Batched,
+        ) -> std::ffi::c_int;
     }
 }
 
@@ -244,4 +266,19 @@ pub unsafe fn query(by: By, catalog: &[u8], cache: &mut [u8], p: Strand, work: &
         )
     };
     (usize::try_from(count).expect("a sound catalog"), searched)
+}
+
+/// For each motif the count of hits and of molecules searched, and the number of molecules read.
+pub fn batch(catalog: &[u8], cache: &mut [u8], motifs: &[u8], work: &mut [u16], hits: &mut [u16]) -> ([(usize, usize); MOTIFS_MOST], usize) {
+    let (blocks, slots, count) = (catalog.len() / BLOCK, cache.len() / BLOCK, motifs.len() / BLOCK);
+    assert!(blocks <= BLOCKS_MOST && 0 < slots && slots <= SLOTS_MOST && count <= MOTIFS_MOST);
+    assert!(count * blocks <= hits.len() && lakhido::query_work_size(MOTIF_MOST) <= work.len());
+    let mut answer = c::Batched::default();
+    // SAFETY: whole blocks of any content, which the peer judges, no more than it has room for, work as large as the library's for the longest motif that it
+    // takes, and hits for each motif.
+    let accepted = unsafe {
+        c::peer_batch(catalog.as_ptr(), blocks, cache.as_mut_ptr(), slots, motifs.as_ptr(), count, work.as_mut_ptr(), hits.as_mut_ptr(), &mut answer)
+    };
+    assert!(accepted != 0, "a sound catalog and sound motifs");
+    (std::array::from_fn(|t| (answer.counts[t], answer.searched[t])), answer.read)
 }

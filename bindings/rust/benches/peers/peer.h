@@ -20,17 +20,31 @@ int segments_length(const uint8_t *p, const uint16_t *pm, size_t m, const uint8_
                     peer_fold *fold);
 
 // A motif for a search of many molecules. Of its tables (the letters of its mates, for each letter the row of an unbonded base) and of the bounds of the
-// molecule at hand only segments.c makes use.
-enum { PEER_MOST = 4096 };
+// molecule at hand only segments.c makes use. They are lent.
 typedef struct {
     const uint8_t *p;
     const uint16_t *pm;
     int m;
-    uint8_t partner[PEER_MOST];
-    uint16_t steps[4 * (PEER_MOST + 1)], bounds[PEER_MOST + 1];
+    uint8_t *partner;
+    uint16_t *steps, *bounds;
 } peer_motif;
 
-void peer_prepare(peer_motif *motif, const uint8_t *p, const uint16_t *pm, size_t m);
+// Room for the tables of a motif and for bounds: of strands of the direct calls, and of a query or a batch.
+enum { PEER_MOST = 4096, PEER_MOLECULE = 160, PEER_MOTIF = 120 };
+typedef struct {
+    uint8_t partner[PEER_MOST];
+    uint16_t steps[4 * (PEER_MOST + 1)], bounds[PEER_MOST + 1];
+} peer_tables;
+typedef struct {
+    uint8_t partner[PEER_MOTIF];
+    uint16_t steps[4 * (PEER_MOTIF + 1)], bounds[PEER_MOLECULE + 1];
+} peer_small_tables;
+
+// The motif, with either room; its tables are not filled.
+#define PEER_MOTIF_OF(p, pm, m, room) ((peer_motif){p, pm, m, (room)->partner, (room)->steps, (room)->bounds})
+
+// Fills the tables.
+void peer_prepare(peer_motif *motif);
 
 // Whether the motif embeds in the molecule.
 typedef int peer_embeds(peer_motif *motif, const uint8_t *q, const uint16_t *qm, size_t n, uint16_t *work);
@@ -76,6 +90,9 @@ peer_fold peer_fold_of(const uint16_t *mates, size_t n);
 typedef size_t peer_unsound(const uint8_t *buffer, size_t blocks);
 peer_unsound walk_unsound_molecule, walk_unsound_entry, apart_unsound_molecule, apart_unsound_entry;
 
+// The lowest block of a motif buffer that holds no motif, or the number of blocks (sound.c), in one walk.
+size_t walk_no_motif(const uint8_t *motifs, size_t blocks);
+
 // Writes the checksum of a block.
 void peer_put_checksum(uint8_t *block);
 
@@ -83,6 +100,17 @@ void peer_put_checksum(uint8_t *block);
 // the entry written to the motif's slot. Gives the count of hits, or -1 where a block of the catalog is unsound.
 long peer_query(peer_embeds *embeds, const uint8_t *catalog, size_t blocks, uint8_t *cache, size_t slots, const uint8_t *p, const uint16_t *pm, size_t m,
                 uint16_t *work, uint16_t *hits, size_t *searched);
+
+// What a batch answers: the number of molecules read, and for each motif the count of hits and of molecules searched.
+enum { PEER_MOTIFS = 16 };
+typedef struct {
+    size_t read, counts[PEER_MOTIFS], searched[PEER_MOTIFS];
+} peer_batched;
+
+// A batch of `count` motif blocks (query.c) by the library's own algorithm, with every step of its call. The hits of motif t are from entry t * blocks on.
+// Gives whether it is accepted: the catalog is sound and each block holds a motif that is not too long; where it is not, nothing is written.
+int peer_batch(const uint8_t *catalog, size_t blocks, uint8_t *cache, size_t slots, const uint8_t *motifs, size_t count, uint16_t *work, uint16_t *hits,
+               peer_batched *answer);
 
 // Show (show.c): the length, the places of an embedding, and the molecule's fold. `rows` has (n + 1) (m + 1) numbers, a row for each position of the molecule.
 size_t table_show(const uint8_t *p, const uint16_t *pm, size_t m, const uint8_t *q, const uint16_t *qm, size_t n, uint16_t *rows, uint16_t *places,

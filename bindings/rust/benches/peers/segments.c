@@ -145,8 +145,9 @@ static void inner_row(const Pair *s, int l, int r, uint16_t *work) {
     if (l + 1 < heavy) prepend(s, l + 1, heavy, work);
 }
 
-void peer_prepare(peer_motif *t, const uint8_t *p, const uint16_t *pm, size_t m) {
-    t->p = p, t->pm = pm, t->m = m;
+void peer_prepare(peer_motif *t) {
+    const uint8_t *p = t->p;
+    const uint16_t *pm = t->pm;
     for (int j = 0; j < t->m; j++) t->partner[j] = p[pm[j]];
     for (int c = 0; c < 4; c++) {
         uint8_t y = "ACUG"[c];
@@ -212,12 +213,12 @@ static int walk(peer_motif *t, const uint8_t *q, const uint16_t *qm, int lo, int
 
 // The length where both strands are valid. The tables are made at the first arc.
 static size_t prefix_length(const uint8_t *p, const uint16_t *pm, size_t m, const uint8_t *q, const uint16_t *qm, size_t length, uint16_t *work) {
-    peer_motif t;
+    peer_tables room;
+    peer_motif t = PEER_MOTIF_OF(p, pm, m, &room);
     int i = 0, cur = 0, n = length;
-    t.p = p, t.pm = pm, t.m = m;
     for (; i < n && cur < t.m && qm[i] == i; i++) cur = unit(&t, cur, q[i]);
     if (i == n || cur == t.m) return cur;
-    peer_prepare(&t, p, pm, m);
+    peer_prepare(&t);
     return walk(&t, q, qm, i, n, cur, work, 0);
 }
 

@@ -1,4 +1,4 @@
-// The check of a strand and its fold, and two versions of the soundness pass in plain C, by the rules of document 01 and the requests (i), (iii) and (iv)
+// The check of a strand and its fold, and two versions of the soundness pass in plain C, by the rules of document 01 and the requests (i) and (iii) to (v)
 // of 02.
 #include "peer.h"
 
@@ -9,7 +9,7 @@ typedef struct {
     int mark, start, least, most;
 } kind;
 
-static const kind MOLECULE = {1, 28, PEER_LEAST_MOLECULE, BLOCK_BASES}, ENTRY = {2, 20, PEER_LEAST_MOTIF, 120};
+static const kind MOLECULE = {1, 28, PEER_LEAST_MOLECULE, BLOCK_BASES}, MOTIF = {1, 28, PEER_LEAST_MOTIF, BLOCK_BASES}, ENTRY = {2, 20, PEER_LEAST_MOTIF, 120};
 
 // 1 where a byte is a letter, else 0. A sum, of which clang and gcc both make vector code.
 static uint8_t is_letter(uint8_t b) { return (b == 'A') + (b == 'C') + (b == 'G') + (b == 'U'); }
@@ -179,6 +179,12 @@ static int walk_molecule(const uint8_t *s) {
     return ends_sound(s, content(s, &MOLECULE, mates), mates);
 }
 
+// An empty block holds no motif, and has no mark.
+static int walk_motif(const uint8_t *s) {
+    uint16_t mates[BLOCK_BASES];
+    return ends_sound(s, content(s, &MOTIF, mates), mates);
+}
+
 static int walk_entry(const uint8_t *s) {
     uint16_t mates[BLOCK_BASES];
     if (!s[0]) return all_zero(s, 0, BLOCK);
@@ -188,6 +194,7 @@ static int walk_entry(const uint8_t *s) {
 
 size_t walk_unsound_molecule(const uint8_t *catalog, size_t blocks) { return lowest_unsound(walk_molecule, catalog, blocks); }
 size_t walk_unsound_entry(const uint8_t *cache, size_t blocks) { return lowest_unsound(walk_entry, cache, blocks); }
+size_t walk_no_motif(const uint8_t *motifs, size_t blocks) { return lowest_unsound(walk_motif, motifs, blocks); }
 
 // The soundness test with the sum apart: zeros are left at the first other byte, the strand is checked as one handed in, and the checksum is a walk of its
 // own.

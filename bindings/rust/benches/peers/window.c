@@ -74,13 +74,14 @@ static peer_window tightest(const Search *s) {
 int window_tightest(const uint8_t *p, const uint16_t *pm, size_t m, const uint8_t *q, const uint16_t *qm, size_t n, uint16_t *work, peer_window *window,
                     peer_fold *fold) {
     if (!peer_strand_ok(p, pm, m, PEER_LEAST_MOTIF) || !peer_strand_ok(q, qm, n, PEER_LEAST_MOLECULE)) return 0;
-    peer_motif motif;
+    peer_tables room;
+    peer_motif motif = PEER_MOTIF_OF(p, pm, m, &room);
     *fold = peer_fold_of(qm, n);
     if (m == 0) {
         *window = (peer_window){0, 0};
         return 1;
     }
-    peer_prepare(&motif, p, pm, m);
+    peer_prepare(&motif);
     *window = tightest(&(Search){&motif, q, qm, n, work});
     return 1;
 }

@@ -1,14 +1,15 @@
-//! Holds the layout of [`Answer`] to that of `lakhido_answer`, and that of [`WindowAnswer`] to that of `lakhido_window_answer`, which a small C program prints
-//! from the header (bindings/c/layout.c). CC names the compiler; else it is cc.
-use super::{Answer, WindowAnswer};
+//! Holds the layout of [`Answer`] to that of `lakhido_answer`, that of [`WindowAnswer`] to that of `lakhido_window_answer`, and that of [`BatchAnswer`] to
+//! that of `lakhido_batch_answer`, which a small C program prints from the header (bindings/c/layout.c). CC names the compiler; else it is cc.
+use super::{Answer, BatchAnswer, WindowAnswer};
 use std::mem::offset_of;
 use std::path::Path;
 use std::process::Command;
 
-/// The lines of a struct of the wrapper, under its name in C, for the fields of a list, which names each field once or does not compile.
+/// The lines of a struct of the wrapper, under its name in C, for the fields of a list, which names each field once or does not compile. A field is a number
+/// or an array of numbers.
 macro_rules! lines {
     ($type:ident, $c:literal, $($field:ident)*) => {{
-        let $type { $($field),* } = $type { $($field: 0),* };
+        let $type { $($field),* } = $type { $($field: Default::default()),* };
         let fields = [$(format!("{}.{}: offset {}, bytes {}", $c, stringify!($field), offset_of!($type, $field), size_of_val(&$field))),*];
         fields.into_iter().chain([format!("{}: size {}", $c, size_of::<$type>())])
     }};
@@ -36,7 +37,8 @@ fn of_header() -> Vec<String> {
 fn answers_are_laid_out_as_in_c() {
     let answer = lines!(Answer, "lakhido_answer", refusal side place value searched arcs depth);
     let window = lines!(WindowAnswer, "lakhido_window_answer", refusal side place found start length arcs depth);
-    let (header, wrapper): (_, Vec<String>) = (of_header(), answer.chain(window).collect());
+    let batch = lines!(BatchAnswer, "lakhido_batch_answer", refusal side place read counts searched);
+    let (header, wrapper): (_, Vec<String>) = (of_header(), answer.chain(window).chain(batch).collect());
     for (k, (c, rust)) in header.iter().zip(&wrapper).enumerate() {
         assert_eq!(c, rust, "line {} of the layout of the answers: include/lakhido.h (left) and src/ffi.rs (right) differ", k + 1);
     }

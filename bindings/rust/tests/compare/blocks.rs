@@ -91,6 +91,11 @@ pub fn catalog(r: &mut Random, blocks: usize, pool: &[Owned], spoilt: usize) -> 
     bytes
 }
 
+/// A buffer of motif blocks, each with any of the motifs.
+pub fn motifs(r: &mut Random, blocks: usize, pool: &[Owned]) -> Vec<u8> {
+    (0..blocks).flat_map(|_| block::molecule_block(pool[r.below(pool.len())].lend())).collect()
+}
+
 /// A buffer of S cache blocks with entries of any of the motifs in any slot; one in four is damaged.
 pub fn cache(r: &mut Random, slots: usize, numbers: usize, pool: &[Owned]) -> Vec<u8> {
     let mut bytes = vec![0; BLOCK * slots];

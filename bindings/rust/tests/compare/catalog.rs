@@ -1,9 +1,11 @@
-//! Add, remove and query against the plain implementation, call by call, on catalogs and caches of any content: sound, lying, damaged.
+//! Add, remove and query against the plain implementation, call by call, on catalogs and caches of any content: sound, lying, damaged. Batches have their
+//! tests in batch.rs.
 use crate::blocks::{self, written};
 use crate::guard::Guarded;
 use crate::make;
-use crate::plain::block::{self, BLOCK, CHECKSUM, ENTRY, MOLECULE, Owned};
+use crate::plain::block::{self, BLOCK, CHECKSUM, ENTRY, MOLECULE, MOTIF, Owned};
 use crate::plain::calls::{self, work_size};
+use crate::plain::model::Found;
 use crate::plain::strand::{Fold, Refused, Strand};
 use crate::random::{Random, rounds, seeded};
 use crate::{folded, lent, refused, report};
@@ -76,6 +78,31 @@ impl Shop {
         self.take_over(&before, catalog, cache, &input);
         answer.map(|(count, searched)| (expected[..count].to_vec(), searched))
     }
+
+    /// Gives for each motif the hits and the number searched, and the number of molecules read.
+    pub fn batch(&mut self, motifs: &[u8], size: usize, room: usize) -> Result<(Vec<Found>, usize), Refused> {
+        let (before, input) = (self.clone(), ("batch", written(motifs), "work", size, "hits", room));
+        let (catalog, mut cache, lent) = (Guarded::new(&self.catalog), Guarded::new(&self.cache), Guarded::new(motifs));
+        let old: Vec<u16> = (0..room as u16).map(|i| i ^ 0x3c3c).collect();
+        let (mut work, mut hits) = (Guarded::new(&vec![0xabcd; size]), Guarded::new(&old));
+        let ours = lakhido::batch(catalog.content(), cache.lend(), lent.content(), work.lend(), hits.lend());
+        let ours = ours.map(told).map_err(refused);
+        let mut expected = old.clone();
+        let answer = calls::batch(&self.catalog, &mut self.cache, motifs, size, &mut expected);
+        assert_eq!(ours, answer, "counts and searched, read: library, plain; {input:?} on {before:?}");
+        assert_eq!(hits.content(), expected, "hits: library, plain; {input:?} on {before:?}");
+        assert!(lent.kept() && work.edges_kept() && hits.edges_kept() && catalog.kept(), "batch wrote where it must not: {input:?} on {before:?}");
+        assert!(ours.is_ok() || work.kept() && hits.kept() && cache.kept(), "a refused call wrote: {input:?} on {before:?}");
+        self.take_over(&before, catalog, cache, &input);
+        let list = |t: usize, count: usize| expected[t * self.catalog.len() / BLOCK..][..count].to_vec();
+        let of_motif = |(t, (count, searched))| Found { hits: list(t, count), searched };
+        answer.map(|(found, read)| (found.into_iter().enumerate().map(of_motif).collect(), read))
+    }
+}
+
+/// What a batch of the library answers, as the plain one.
+pub fn told(batch: lakhido::Batch) -> (Vec<(usize, usize)>, usize) {
+    (batch.queries().iter().map(|found| (found.count, found.searched)).collect(), batch.read)
 }
 
 /// A few molecules, and motifs that have to do with them.
@@ -98,7 +125,7 @@ pub fn pool(r: &mut Random, count: usize, longest: usize) -> (Vec<Owned>, Vec<Ow
 }
 
 /// A number of blocks, mostly small.
-fn blocks(r: &mut Random, most: usize) -> usize {
+pub fn blocks(r: &mut Random, most: usize) -> usize {
     match r.below(200) {
         0 => most,
         1..=20 => r.between(1, 40.min(most)),
@@ -162,6 +189,20 @@ fn every_byte(original: &[u8; BLOCK], test: fn(&[u8; BLOCK])) -> usize {
     count
 }
 
+/// A motif block, the second of a batch with no room for hits, which is refused with 9 behind 15 and 3.
+fn passes_as_motif(b: &[u8; BLOCK]) {
+    let expected = match b[1] as usize {
+        _ if block::empty(b) || !block::sound(&MOTIF, b) => Refused(15, 0, 1),
+        n if ENTRY.most < n => Refused(3, 0, 1),
+        _ => Refused(9, 2, 0),
+    };
+    let mut motifs = [0; 2 * BLOCK];
+    motifs[..BLOCK].copy_from_slice(&block::molecule_block(Strand::new(b"A", &[0])));
+    motifs[BLOCK..].copy_from_slice(b);
+    let answer = lakhido::batch(&[0; BLOCK], &mut [0; BLOCK], &motifs, &mut [], &mut []).map_err(refused);
+    assert_eq!(answer, Err(expected), "library, plain; a batch of A and of {}", written(b));
+}
+
 /// A molecule block: a remove past the end is refused with 12 after the soundness pass, with 11 by it.
 fn passes_as_molecule(b: &[u8; BLOCK]) {
     let expected = if block::sound(&MOLECULE, b) { Refused(12, 2, 0) } else { Refused(11, 2, 0) };
@@ -186,6 +227,7 @@ fn every_byte_of_a_block() {
     for n in [0, 1, r.between(2, MOLECULE.most - 1), MOLECULE.most] {
         let s = make::strand(&mut r, n);
         count += every_byte(&block::molecule_block(s.lend()), passes_as_molecule);
+        count += every_byte(&block::molecule_block(s.lend()), passes_as_motif);
     }
     for n in [0, 1, r.between(2, ENTRY.most - 1), ENTRY.most] {
         let s = make::strand(&mut r, n);

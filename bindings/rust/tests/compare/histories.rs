@@ -1,11 +1,14 @@
-//! Histories from zeroed buffers: add, remove and query, refused ones among them, with at most one alteration in each cache block between one accepted call
-//! and the next; every answer against the plain calls on bytes and against the reference model, which sees no bytes and says of an accepted add no more
+//! Histories from zeroed buffers: add, remove, query and batch, refused ones among them, with at most one alteration in each cache block between one accepted
+//! call and the next; every answer against the plain calls on bytes and against the reference model, which sees no bytes and says of an accepted add no more
 //! than that it is done.
+use crate::batch::refused_motifs;
+use crate::blocks::{self, written};
 use crate::catalog::{Shop, pool};
 use crate::make;
 use crate::plain::block::{BLOCK, CHECKSUM, ENTRY, HIT, MOLECULE, Owned, SEARCHED};
 use crate::plain::calls::work_size;
 use crate::plain::model::{Found, Model};
+use crate::plain::motifs;
 use crate::random::{Random, rounds, seeded};
 use crate::report;
 
@@ -20,6 +23,9 @@ struct History {
     steps: Vec<String>,
     compared: usize,
     saved: usize,
+    /// The accepted batches, and those of them that the cache answered alone.
+    batches: usize,
+    saved_batches: usize,
     /// The alterations that changed a byte of the entry with no bases, and those of them that changed its byte 0.
     changed_empty: (usize, usize),
 }
@@ -28,7 +34,7 @@ impl History {
     fn new(b: usize, s: usize) -> Self {
         let steps = vec![format!("B = {b}, S = {s}")];
         let (shop, model) = (Shop::empty(b, s), Model::new(b, s));
-        History { shop, model, b, s, altered: vec![false; s], steps, compared: 0, saved: 0, changed_empty: (0, 0) }
+        History { shop, model, b, s, altered: vec![false; s], steps, compared: 0, saved: 0, batches: 0, saved_batches: 0, changed_empty: (0, 0) }
     }
 
     fn told(&self) -> String {
@@ -64,6 +70,17 @@ impl History {
             self.saved += (found.searched == 0 && !found.hits.is_empty()) as usize;
         }
         let model = self.model.query(motif.lend(), size, room);
+        self.same(answer, model);
+    }
+
+    fn batch(&mut self, motifs: &[u8], size: usize, room: usize) {
+        self.steps.push(format!("batch {}, work {size}, hits {room}", written(motifs)));
+        let answer = self.shop.batch(motifs, size, room);
+        if let Ok((found, read)) = &answer {
+            self.batches += 1;
+            self.saved_batches += (*read == 0 && found.iter().any(|of_motif| !of_motif.hits.is_empty())) as usize;
+        }
+        let model = self.model.batch(motifs, size, room);
         self.same(answer, model);
     }
 
@@ -104,7 +121,7 @@ impl History {
 /// One step: mostly calls that are accepted, some that are not.
 fn step(r: &mut Random, h: &mut History, molecules: &[Owned], motifs: &[Owned]) {
     let d = if r.one_in(20) { h.b + r.below(3) } else { r.below(h.b) };
-    match r.below(10) {
+    match r.below(12) {
         0 | 1 => h.alter(r),
         2 | 3 => {
             let at = r.below(molecules.len());
@@ -116,6 +133,7 @@ fn step(r: &mut Random, h: &mut History, molecules: &[Owned], motifs: &[Owned]) 
             h.add(d, &molecule);
         }
         4 => h.remove(d),
+        5 | 6 => batch(r, h, motifs),
         _ => {
             let at = r.below(motifs.len());
             let mut motif = motifs[at].clone();
@@ -131,10 +149,25 @@ fn step(r: &mut Random, h: &mut History, molecules: &[Owned], motifs: &[Owned]) 
     }
 }
 
+/// A batch, one time in two straight behind an alteration.
+fn batch(r: &mut Random, h: &mut History, motifs: &[Owned]) {
+    if r.one_in(2) {
+        h.alter(r);
+    }
+    let k = if r.one_in(10) { motifs::MOST } else { r.between(1, 4) };
+    let bytes = if r.one_in(8) { refused_motifs(r, motifs) } else { blocks::motifs(r, k, motifs) };
+    let full = work_size(motifs::longest(&bytes), MOLECULE.most);
+    let size = if r.one_in(16) { full - r.between(1, 3) } else { full + r.below(3) };
+    let all = motifs::count(&bytes) * h.b;
+    let room = if r.one_in(16) { all.saturating_sub(1) } else { all + r.below(3) };
+    h.batch(&bytes, size, room);
+}
+
 #[test]
 fn random_histories() {
     let mut r = seeded();
     let (mut compared, mut saved, mut changed, mut changed_first) = (0, 0, 0, 0);
+    let (mut batches, mut saved_batches) = (0, 0);
     for case in 0..rounds(1_500) {
         let b = match case % 50 {
             0 => r.between(1, 512),
@@ -150,11 +183,14 @@ fn random_histories() {
         }
         compared += h.compared;
         saved += h.saved;
+        batches += h.batches;
+        saved_batches += h.saved_batches;
         changed += h.changed_empty.0;
         changed_first += h.changed_empty.1;
     }
-    report(&format!("histories, {changed} changes of the entry with no bases, {changed_first} of its byte 0"), compared);
+    report(&format!("histories, {batches} accepted batches, {changed} changes of the entry with no bases, {changed_first} of its byte 0"), compared);
     assert!(30_000 < compared && compared / 100 < saved, "{compared} compared, {saved} answered from the cache alone");
+    assert!(4_000 < batches && batches / 100 < saved_batches, "{batches} accepted batches, {saved_batches} answered from the cache alone");
     assert!(0 < changed_first && changed_first < changed, "{changed} changes of the entry with no bases, {changed_first} of its byte 0");
 }
 

@@ -1,8 +1,9 @@
-//! Holds the library to `plain`, an independent implementation of document 01 and the requests (i) to (iii) of 02: the same inputs, answers and all
+//! Holds the library to `plain`, an independent implementation of document 01 and the requests (i) to (v) of 02: the same inputs, answers and all
 //! buffers compared byte for byte.
 //!
 //! Each test prints its seed and how many comparisons it made (`cargo test --release -- --nocapture`). LAKHIDO_SEED sets the seed; otherwise it is taken
 //! from the clock. LAKHIDO_ROUNDS multiplies the random cases. A difference prints the input that shows it.
+mod batch;
 mod blocks;
 mod catalog;
 mod direct;

@@ -1,10 +1,12 @@
 //! The order of the refusals: for each call every pair of rows that can apply to one input, and random sets of them.
+use crate::batch;
 use crate::blocks;
 use crate::catalog::{Shop, pool};
 use crate::direct;
 use crate::make;
-use crate::plain::block::{BLOCK, ENTRY, MOLECULE, Owned};
+use crate::plain::block::{BLOCK, ENTRY, MOLECULE, Owned, molecule_block, sound};
 use crate::plain::calls::{self, LONGEST, work_size};
+use crate::plain::motifs;
 use crate::plain::strand::Refused;
 use crate::random::{Random, rounds, seeded};
 use crate::report;
@@ -149,14 +151,14 @@ fn shop(r: &mut Random, labels: &[Label]) -> Shop {
     let (molecules, motifs) = pool(r, 3, 20);
     let b = r.between(3, 6);
     let mut catalog = blocks::catalog(r, b, &molecules, 0);
-    catalog[..BLOCK].copy_from_slice(&crate::plain::block::molecule_block(molecules[0].lend()));
+    catalog[..BLOCK].copy_from_slice(&molecule_block(molecules[0].lend()));
     catalog[BLOCK..2 * BLOCK].fill(0);
     let slots = r.between(1, 3);
     let mut cache = blocks::cache(r, slots, b, &motifs);
     if labels.contains(&(11, 2)) {
         let at = BLOCK * r.between(2, b - 1);
-        catalog[at..at + BLOCK].copy_from_slice(&crate::plain::block::molecule_block(molecules[1].lend()));
-        while crate::plain::block::sound(&MOLECULE, &catalog[at..at + BLOCK]) {
+        catalog[at..at + BLOCK].copy_from_slice(&molecule_block(molecules[1].lend()));
+        while sound(&MOLECULE, &catalog[at..at + BLOCK]) {
             blocks::spoil(r, &MOLECULE, &mut catalog[at..at + BLOCK]);
         }
     }
@@ -219,6 +221,44 @@ fn of_query() {
     });
 }
 
+/// A motif buffer; where the labels say so, with a motif that is too long, a block without a motif, or a length that no buffer has.
+fn motif_buffer(r: &mut Random, labels: &[Label]) -> Vec<u8> {
+    let (_, pool) = pool(r, 3, 20);
+    let k = r.between(2, 5);
+    let mut bytes = blocks::motifs(r, k, &pool);
+    let mut at: Vec<usize> = (0..k).collect();
+    let mut block = |r: &mut Random| BLOCK * at.swap_remove(r.below(at.len()));
+    if labels.contains(&(3, MOTIF)) {
+        let long = block(r);
+        bytes[long..long + BLOCK].copy_from_slice(&batch::long_motif(r));
+    }
+    if labels.contains(&(15, MOTIF)) {
+        let wrong = block(r);
+        match r.below(5) {
+            0 => drop(bytes.pop()),
+            1 => bytes.push(1),
+            2 => bytes = bytes.repeat(motifs::MOST),
+            3 => bytes[wrong..wrong + BLOCK].fill(0),
+            _ => batch::damage_motif(r, &mut bytes[wrong..wrong + BLOCK]),
+        }
+    }
+    bytes
+}
+
+#[test]
+fn of_batch() {
+    let labels = [other_labels(&[8, 9, 10, 11]), vec![(15, MOTIF), (3, MOTIF)]].concat();
+    every_pair("batch", &labels, &[], 60, |r, labels| {
+        let mut shop = shop(r, labels);
+        let motifs = motif_buffer(r, labels);
+        let size = room(r, labels, 8, work_size(motifs::longest(&motifs), MOLECULE.most));
+        let hits = room(r, labels, 9, motifs::count(&motifs) * (shop.catalog.len() / BLOCK));
+        let rows = calls::all(calls::batch_rows(&shop.catalog, &shop.cache, &motifs, size, hits));
+        assert_eq!(shop.batch(&motifs, size, hits).err(), rows.first().copied());
+        rows
+    });
+}
+
 #[test]
 fn of_lengths() {
     // Strands and buffers at the limits: the last that is accepted and the first that is not.
@@ -231,7 +271,16 @@ fn of_lengths() {
             assert_eq!(shop.add(1, s.lend()).is_ok(), (1..=MOLECULE.most).contains(&n));
             let found = shop.query(s.lend(), work_size(n, MOLECULE.most), 2);
             assert_eq!(found.is_ok(), n <= ENTRY.most);
+            if let Some(motif) = lakhido::motif_block(lakhido::Strand::new(&s.bases, &s.mates)) {
+                let found = shop.batch(&motif, work_size(n, MOLECULE.most), 2);
+                assert_eq!(found.is_ok(), n <= ENTRY.most);
+            }
         }
+    }
+    for k in [0, 1, motifs::MOST, motifs::MOST + 1] {
+        let bytes = molecule_block(make::strand(&mut r, 5).lend()).repeat(k);
+        let found = Shop::empty(2, 1).batch(&bytes, work_size(5, MOLECULE.most), 2 * k);
+        assert_eq!(found.is_ok(), (1..=motifs::MOST).contains(&k));
     }
     for (b, s) in [(1, 1), (512, 64), (513, 1), (1, 65), (0, 1), (1, 0)] {
         let mut shop = Shop::empty(b, s);
@@ -245,6 +294,8 @@ fn of_lengths() {
         if let Ok((hits, searched)) = found {
             assert_eq!(hits.len(), searched);
         }
+        let found = shop.batch(&molecule_block(p.lend()), work_size(5, MOLECULE.most), b);
+        assert_eq!(found.is_ok(), accepted);
         assert_eq!(shop.remove(0).is_ok(), accepted);
     }
 }

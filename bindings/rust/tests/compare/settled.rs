@@ -1,5 +1,5 @@
-//! The settled examples of document 01, and small ones of the requests (i) to (iii) of 02, on the library: the fold of a molecule, the tightest window, the
-//! empty motif.
+//! The settled examples of document 01, and small ones of the requests (i) to (iii) and (v) of 02, on the library: the fold of a molecule, the tightest
+//! window, the empty motif, batches.
 use crate::direct;
 use crate::plain::block;
 use crate::plain::calls;
@@ -284,9 +284,92 @@ fn the_block_with_no_bases() {
     assert_eq!(lakhido::query(&catalog, &mut cache, l("", &[]), &mut [0; 64 + 8 * 160], &mut [0; 2]).map_err(refused), Err(unsound));
 }
 
+/// The motif buffer of a batch.
+fn family(motifs: &[lakhido::Strand]) -> Vec<u8> {
+    motifs.iter().flat_map(|&motif| lakhido::motif_block(motif).expect("a short motif")).collect()
+}
+
+/// A batch with work and room enough: counts and searched numbers, the number read, and the hits, 9 where none was written.
+fn batch(catalog: &[u8], cache: &mut [u8], motifs: &[lakhido::Strand]) -> (Vec<(usize, usize)>, usize, Vec<u16>) {
+    let (mut work, mut hits) = (vec![0; lakhido::query_work_size(120)], vec![9; motifs.len() * catalog.len() / BLOCK]);
+    let found = lakhido::batch(catalog, cache, &family(motifs), &mut work, &mut hits).unwrap();
+    (found.queries().iter().map(|query| (query.count, query.searched)).collect(), found.read, hits)
+}
+
+/// "Counts, hits, searched numbers and the shelf afterwards equal those of single queries in that order": 01's story of two molecules and one slot.
+#[test]
+fn the_history_in_batches() {
+    let (mut catalog, mut cache) = (vec![0; 2 * BLOCK], vec![0; BLOCK]);
+    lakhido::add(&mut catalog, &mut cache, 0, l("GAC", &[2, 1, 0])).unwrap();
+    lakhido::add(&mut catalog, &mut cache, 1, l("GGC", &[2, 1, 0])).unwrap();
+    let (bonded, free) = (l("GC", &[1, 0]), l("GC", &[0, 1]));
+    let story = batch(&catalog, &mut cache, &[bonded, bonded, free, bonded]);
+    assert_eq!(story, (vec![(2, 2), (2, 0), (1, 2), (2, 2)], 2, vec![0, 1, 0, 1, 1, 9, 0, 1]));
+    lakhido::remove(&mut catalog, &mut cache, 0).unwrap();
+    assert_eq!(batch(&catalog, &mut cache, &[bonded]), (vec![(1, 0)], 0, vec![1, 9]));
+    assert_eq!(query(&catalog, &mut cache, bonded), (Found { count: 1, searched: 0 }, vec![1]));
+    assert_eq!(batch(&catalog, &mut cache, &[l("", &[]), free]), (vec![(1, 1), (1, 1)], 1, vec![1, 9, 1, 9]));
+}
+
+/// "The answer also has the number of molecules read: those held numbers that at least one of these queries would search." A and C have the slots 1 and 3 of
+/// 64; A is known of molecule 0, C of none. A searches 2 and 3, C searches 0, 2 and 3: three are read.
+#[test]
+fn read_counts_each_molecule_once() {
+    let (mut catalog, mut cache) = (vec![0; 4 * BLOCK], vec![0; 64 * BLOCK]);
+    let (a, c) = (l("A", &[0]), l("C", &[0]));
+    lakhido::add(&mut catalog, &mut cache, 0, a).unwrap();
+    assert_eq!(query(&catalog, &mut cache, a), (Found { count: 1, searched: 1 }, vec![0]));
+    lakhido::add(&mut catalog, &mut cache, 2, c).unwrap();
+    lakhido::add(&mut catalog, &mut cache, 3, l("AC", &[1, 0])).unwrap();
+    let first = batch(&catalog, &mut cache, &[a, c, a]);
+    assert_eq!(first, (vec![(2, 2), (2, 3), (2, 0)], 3, vec![0, 3, 9, 9, 2, 3, 9, 9, 0, 3, 9, 9]));
+    assert_eq!(batch(&catalog, &mut cache, &[c, a]), (vec![(2, 0), (2, 0)], 0, vec![2, 3, 9, 9, 0, 3, 9, 9]));
+}
+
+/// "It refuses with 15 a motif buffer that isn't 1 to 16 whole blocks or has an unsound or empty block, place 0 for its size, else the lowest such block,
+/// side 0, after 11; then 3, place the lowest such motif's index, then 9 and 8."
+#[test]
+fn refusals_of_batches() {
+    let (bases, mates) = ("A".repeat(160), (0..160).collect::<Vec<u16>>());
+    let of = |n: usize| block::molecule_block(s(&bases[..n], &mates[..n]));
+    let (none, mut unsound) = ([0; BLOCK], of(2));
+    unsound[2] = 1;
+    let blocks = |list: &[[u8; BLOCK]]| list.concat();
+    let rows: [(Vec<u8>, usize, usize, Option<Refused>); 14] = [
+        (Vec::new(), 0, 0, Some(Refused(15, 0, 0))),
+        (of(2)[..511].to_vec(), 0, 0, Some(Refused(15, 0, 0))),
+        ([of(2).as_slice(), &[0]].concat(), 0, 0, Some(Refused(15, 0, 0))),
+        (of(2).repeat(17), 0, 0, Some(Refused(15, 0, 0))),
+        (blocks(&[none, of(2)]), 0, 0, Some(Refused(15, 0, 0))),
+        (blocks(&[of(121), of(2), none, unsound]), 0, 0, Some(Refused(15, 0, 2))),
+        (blocks(&[of(121), unsound, of(2), none]), 0, 0, Some(Refused(15, 0, 1))),
+        (blocks(&[of(120), of(121), of(160)]), 0, 0, Some(Refused(3, 0, 1))),
+        (blocks(&[of(160)]), 0, 0, Some(Refused(3, 0, 0))),
+        (blocks(&[of(120), of(0)]), 0, 3, Some(Refused(9, 2, 0))),
+        (blocks(&[of(2), of(120), of(0)]), 64 * 121 + 8 * 160 - 1, 6, Some(Refused(8, 2, 0))),
+        (blocks(&[of(2), of(120), of(0)]), 64 * 121 + 8 * 160, 6, None),
+        (blocks(&[of(0)]), 64 + 8 * 160 - 1, 2, Some(Refused(8, 2, 0))),
+        (of(0).repeat(16), 64 + 8 * 160, 32, None),
+    ];
+    for (k, (motifs, size, room, expected)) in rows.into_iter().enumerate() {
+        let (mut work, mut hits) = (vec![0; size], vec![0; room]);
+        let answer = lakhido::batch(&[0; 2 * BLOCK], &mut [0; BLOCK], &motifs, &mut work, &mut hits).map_err(refused);
+        assert_eq!(answer.err(), expected, "row {k}");
+        let unsound = lakhido::batch(&[[0; BLOCK], unsound].concat(), &mut [0; BLOCK], &motifs, &mut work, &mut hits).map_err(refused);
+        assert_eq!(unsound, Err(Refused(11, 2, 1)), "row {k}");
+        let no_block = lakhido::batch(&[0; 2 * BLOCK], &mut [], &motifs, &mut work, &mut hits).map_err(refused);
+        assert_eq!(no_block, Err(Refused(10, 2, 0)), "row {k}");
+    }
+}
+
 #[test]
 fn reasons_by_number() {
-    assert!(Reason::ALL.iter().map(|reason| reason.number()).eq(1..=14));
+    assert!(Reason::ALL.iter().map(|reason| reason.number()).eq(1..=15));
     let refusal = lakhido::check(l("AXC", &[0, 1, 2])).unwrap_err();
     assert_eq!(refusal.to_string(), "refused (4): molecule: not a letter at 1");
+    let batch = |motifs: &[u8]| lakhido::batch(&[0; BLOCK], &mut [0; BLOCK], motifs, &mut [], &mut []).unwrap_err().to_string();
+    let long = family(&[l("A", &[0]), l(&"A".repeat(121), &(0..121).collect::<Vec<u16>>())]);
+    assert_eq!(batch(&long), "refused (3): motif: too long, number 1 of the batch");
+    let empty = [long, vec![0; BLOCK]].concat();
+    assert_eq!(batch(&empty), "refused (15): motif: buffer not whole blocks, none, or too many, or an unsound or empty block 2");
 }

@@ -17,6 +17,8 @@ pub struct Layout {
     pub maps: usize,
 }
 
+/// A motif handed in: "motifs as molecule blocks", and "a motif block may have length 0" (02, (v) and (iii)).
+pub const MOTIF: Layout = Layout { side: strand::MOTIF, ..MOLECULE };
 pub const MOLECULE: Layout = Layout { kind: 1, side: strand::MOLECULE, most: MOLECULE_BASES, bases: 28, mates: 188, maps: 508 };
 pub const ENTRY: Layout = Layout { kind: 2, side: strand::MOTIF, most: MOTIF_BASES, bases: 20, mates: 140, maps: 380 };
 pub const SEARCHED: usize = 380;

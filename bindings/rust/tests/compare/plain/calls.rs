@@ -1,10 +1,12 @@
-//! The eight calls on lent buffers, and the order of the refusals. A call's rows are a list in their order: its refusal is the first that
+//! The nine calls on lent buffers, and the order of the refusals. A call's rows are a list in their order: its refusal is the first that
 //! applies, and the tests ask for all that apply.
 use super::block::{self, BLOCK, ENTRY, MOLECULE};
 use super::embedding;
+use super::motifs;
 use super::rows;
 use super::strand::{self, Fold, NEITHER, Refused, Strand};
 use super::windows::{self, Tightest};
+use std::collections::BTreeSet;
 
 pub const LONGEST: usize = 4096;
 
@@ -41,20 +43,20 @@ fn pair_rows<'a>(p: Strand<'a>, q: Strand<'a>) -> Vec<Row<'a>> {
     vec![strand(p, strand::MOTIF, LONGEST), strand(q, strand::MOLECULE, LONGEST)]
 }
 
-fn work_row<'a>(p: Strand<'a>, n: usize, work: usize) -> Row<'a> {
-    plain(8, move || work < work_size(p.len(), n))
+fn work_row<'a>(m: usize, n: usize, work: usize) -> Row<'a> {
+    plain(8, move || work < work_size(m, n))
 }
 
 pub fn length_rows<'a>(p: Strand<'a>, q: Strand<'a>, work: usize) -> Vec<Row<'a>> {
     let mut rows = pair_rows(p, q);
-    rows.push(work_row(p, q.len(), work));
+    rows.push(work_row(p.len(), q.len(), work));
     rows
 }
 
 pub fn show_rows<'a>(p: Strand<'a>, q: Strand<'a>, places: usize, work: usize) -> Vec<Row<'a>> {
     let mut rows = pair_rows(p, q);
     rows.push(plain(9, move || places < p.len()));
-    rows.push(work_row(p, q.len(), work));
+    rows.push(work_row(p.len(), q.len(), work));
     rows
 }
 
@@ -91,7 +93,7 @@ pub fn verify(p: Strand, q: Strand, places: &[u16]) -> Result<(bool, Fold), Refu
     Ok((embedding::verify_linear(p, q, places), strand::fold_of(q.mates)))
 }
 
-// Add, remove, query.
+// Add, remove, query, batch.
 
 /// The row 10: whole blocks, and how many.
 fn buffers<'a>(catalog: &'a [u8], cache: &'a [u8]) -> Row<'a> {
@@ -131,7 +133,18 @@ pub fn query_rows<'a>(catalog: &'a [u8], cache: &'a [u8], motif: Strand<'a>, wor
         unsound(catalog),
         strand(motif, strand::MOTIF, ENTRY.most),
         plain(9, move || hits < catalog.len() / BLOCK),
-        work_row(motif, MOLECULE.most, work),
+        work_row(motif.len(), MOLECULE.most, work),
+    ]
+}
+
+pub fn batch_rows<'a>(catalog: &'a [u8], cache: &'a [u8], motifs: &'a [u8], work: usize, hits: usize) -> Vec<Row<'a>> {
+    vec![
+        buffers(catalog, cache),
+        unsound(catalog),
+        Box::new(move || motifs::bad(motifs).into_iter().collect()),
+        Box::new(move || motifs::too_long(motifs).into_iter().collect()),
+        plain(9, move || hits < motifs::count(motifs) * (catalog.len() / BLOCK)),
+        work_row(motifs::longest(motifs), MOLECULE.most, work),
     ]
 }
 
@@ -166,19 +179,18 @@ pub fn key(motif: Strand) -> usize {
     motif.bases.iter().map(|&b| b as usize).sum::<usize>() + motif.mates.iter().map(|&k| k as usize).sum::<usize>()
 }
 
-/// Query: the count of hits and of the molecules searched.
-pub fn query(catalog: &[u8], cache: &mut [u8], motif: Strand, work: usize, hits: &mut [u16]) -> Result<(usize, usize), Refused> {
-    accepted(query_rows(catalog, cache, motif, work, hits.len()))?;
+/// What an accepted query does: it gives the count of hits and the numbers searched.
+fn queried(catalog: &[u8], cache: &mut [u8], motif: Strand, hits: &mut [u16]) -> (usize, Vec<usize>) {
     clean(cache);
     let slot = BLOCK * (key(motif) % (cache.len() / BLOCK));
     let entry = &mut cache[slot..slot + BLOCK];
     let kept = !block::empty(entry) && block::decode(&ENTRY, entry).lend() == motif;
-    let (mut searched, mut numbers) = (0, Vec::new());
+    let (mut searched, mut numbers) = (Vec::new(), Vec::new());
     for (d, b) in catalog.chunks_exact(BLOCK).enumerate().filter(|(_, b)| !block::empty(b)) {
         let hit = if kept && block::searched_bit(entry, d) {
             block::hit_bit(entry, d)
         } else {
-            searched += 1;
+            searched.push(d);
             rows::length(motif, block::decode(&MOLECULE, b).lend()) == motif.len()
         };
         numbers.push((d, hit));
@@ -186,5 +198,27 @@ pub fn query(catalog: &[u8], cache: &mut [u8], motif: Strand, work: usize, hits:
     let found = numbers.iter().filter(|(_, hit)| *hit).map(|(d, _)| *d);
     let count = hits.iter_mut().zip(found).map(|(place, d)| *place = d as u16).count();
     entry.copy_from_slice(&block::entry_block(motif, numbers.into_iter()));
-    Ok((count, searched))
+    (count, searched)
+}
+
+/// Query: the count of hits and of the molecules searched.
+pub fn query(catalog: &[u8], cache: &mut [u8], motif: Strand, work: usize, hits: &mut [u16]) -> Result<(usize, usize), Refused> {
+    accepted(query_rows(catalog, cache, motif, work, hits.len()))?;
+    let (count, searched) = queried(catalog, cache, motif, hits);
+    Ok((count, searched.len()))
+}
+
+/// Batch: for each motif the count of hits and of the molecules searched, and the number of molecules read. "Counts, hits, searched numbers and the shelf
+/// afterwards equal those of single queries in that order." "The answer also has the number of molecules read: those held numbers that at least one of these
+/// queries would search."
+pub fn batch(catalog: &[u8], cache: &mut [u8], motifs: &[u8], work: usize, hits: &mut [u16]) -> Result<(Vec<(usize, usize)>, usize), Refused> {
+    accepted(batch_rows(catalog, cache, motifs, work, hits.len()))?;
+    let blocks = catalog.len() / BLOCK;
+    let (mut found, mut read) = (Vec::new(), BTreeSet::new());
+    for (t, motif) in motifs::held(motifs).into_iter().flatten().enumerate() {
+        let (count, searched) = queried(catalog, cache, motif.lend(), &mut hits[t * blocks..(t + 1) * blocks]);
+        found.push((count, searched.len()));
+        read.extend(searched);
+    }
+    Ok((found, read.len()))
 }

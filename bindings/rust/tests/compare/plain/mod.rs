@@ -1,9 +1,10 @@
-//! Document 01 and the requests (i) to (iii) of document 02 once more, in plain Rust and from their text alone: nothing here calls the library. The tests hold
+//! Document 01 and the requests (i) to (v) of document 02 once more, in plain Rust and from their text alone: nothing here calls the library. The tests hold
 //! the library to it, and the benchmark times against it. (01 says shelf for the cache, kept block for an entry, plain machine for the reference model.)
 pub mod block;
 pub mod calls;
 pub mod embedding;
 pub mod model;
+pub mod motifs;
 pub mod rows;
 pub mod strand;
 pub mod table;

@@ -2,6 +2,7 @@
 //! arguments and the alterations, and no block and no answer.
 use super::block::{self, BLOCK, ENTRY, MOLECULE, Owned};
 use super::calls::{key, work_size};
+use super::motifs;
 use super::strand::{self, NEITHER, Refused, Strand};
 use super::table::Table;
 use std::collections::BTreeSet;
@@ -11,7 +12,7 @@ pub struct Model {
     slots: Vec<Option<(Owned, BTreeSet<usize>)>>,
 }
 
-/// What is compared of an accepted query: the hits, rising (with them their count), and the number searched.
+/// What is compared of an accepted query, and for each motif of an accepted batch: the hits, rising (with them their count), and the number searched.
 #[derive(PartialEq, Eq, Debug)]
 pub struct Found {
     pub hits: Vec<u16>,
@@ -64,21 +65,45 @@ impl Model {
 
     pub fn query(&mut self, motif: Strand, work: usize, hits: usize) -> Result<Found, Refused> {
         strand::judge(motif, strand::MOTIF, ENTRY.most).map_or(Ok(()), Err)?;
-        if hits < self.molecules.len() {
+        self.judge_slices(motif.len(), work, 1, hits)?;
+        Ok(self.queried(motif).0)
+    }
+
+    /// "Each a single call that the machine runs as these queries, the number read being compared too."
+    pub fn batch(&mut self, motifs: &[u8], work: usize, hits: usize) -> Result<(Vec<Found>, usize), Refused> {
+        motifs::bad(motifs).or_else(|| motifs::too_long(motifs)).map_or(Ok(()), Err)?;
+        self.judge_slices(motifs::longest(motifs), work, motifs::count(motifs), hits)?;
+        let (mut found, mut read) = (Vec::new(), BTreeSet::new());
+        for motif in motifs::held(motifs).into_iter().flatten() {
+            let (of_motif, searched) = self.queried(motif.lend());
+            found.push(of_motif);
+            read.extend(searched);
+        }
+        Ok((found, read.len()))
+    }
+
+    /// The row 9, then 8: for some motifs, the longest of m bases.
+    fn judge_slices(&self, m: usize, work: usize, motifs: usize, hits: usize) -> Result<(), Refused> {
+        if hits < motifs * self.molecules.len() {
             return Err(Refused(9, NEITHER, 0));
         }
-        if work < work_size(motif.len(), MOLECULE.most) {
+        if work < work_size(m, MOLECULE.most) {
             return Err(Refused(8, NEITHER, 0));
         }
+        Ok(())
+    }
+
+    /// What an accepted query answers, and the numbers that it searches.
+    fn queried(&mut self, motif: Strand) -> (Found, BTreeSet<usize>) {
         let held = self.held();
         let hits = held.iter().filter(|&&d| self.molecules[d].as_ref().is_some_and(|q| embeds(motif, q))).map(|&d| d as u16).collect();
         let slot = key(motif) % self.slots.len();
-        let searched = match &self.slots[slot] {
-            Some((kept, numbers)) if kept.lend() == motif => held.difference(numbers).count(),
-            _ => held.len(),
+        let searched: BTreeSet<usize> = match &self.slots[slot] {
+            Some((kept, numbers)) if kept.lend() == motif => held.difference(numbers).copied().collect(),
+            _ => held.clone(),
         };
         self.slots[slot] = Some((owned(motif), held));
-        Ok(Found { hits, searched })
+        (Found { hits, searched: searched.len() }, searched)
     }
 
     /// The block that the rules give to a slot.
