@@ -4,8 +4,12 @@
  * buffers that this file describes, for all inputs that keep the rules of "Buffers" (crates/capi/src/lib.rt has the contracts). This file
  * is written by hand: tools/verify-interface holds its declarations and numbers to the library's source; its text nothing checks.
  *
- * Strands. A molecule or a motif is two buffers of one length: bases as bytes ('A', 'C', 'G', 'U') and mates as 16-bit numbers. Positions
+ * Strands. A molecule or a motif is two buffers of one length: bases as bytes ('A', 'C', 'G', 'T', 'U') and mates as 16-bit numbers. Positions
  * count from 0. The mate of a base without a bond is its own position. Two mates i < j are an arc, and arcs must not cross.
+ *
+ * T and U. Two bases match when they are the same letter, or both are among 'T' and 'U': a motif embeds in a molecule whichever of the two letters
+ * each of them has. A small letter is no letter. No call turns one letter into the other: blocks keep the letter as delivered, and in the cache a motif spelled
+ * with 'T' and the same with 'U' are two motifs, with the same hits.
  *
  * The empty motif. A molecule has at least one base; a motif may have none: both its lengths are 0. The empty motif embeds in every molecule:
  * length answers 0, and so does show, which takes any `places` and leaves them as they are; verify answers 1 for no places and is refused by 9 for more;
@@ -33,7 +37,7 @@ extern "C" {
 #endif
 
 /* The version of this file and of the library. */
-#define LAKHIDO_VERSION "0.5.0"
+#define LAKHIDO_VERSION "0.6.0"
 
 /* Lengths of strands. For check, length, show, window and verify a molecule has 1 to LAKHIDO_MOST bases, a motif 0 to LAKHIDO_MOST. A molecule of
  * the catalog has 1 to LAKHIDO_MOLECULE_MOST, a motif of a query or a batch 0 to LAKHIDO_MOTIF_MOST. */
@@ -66,7 +70,7 @@ enum lakhido_refusal {
     LAKHIDO_UNEQUAL_LENGTHS = 1,  /* bases and mates differ in length */
     LAKHIDO_NO_BASES = 2,         /* no bases, of the molecule: a motif may have none */
     LAKHIDO_TOO_LONG = 3,         /* more bases than the call takes; place: in a batch the index of the lowest such motif */
-    LAKHIDO_BAD_LETTER = 4,       /* a base that is no letter; place: the lowest */
+    LAKHIDO_BAD_LETTER = 4,       /* a base that is not A, C, G, T or U; place: the lowest */
     LAKHIDO_BAD_MATE = 5,         /* a mate that is no position; place: the lowest base that has one */
     LAKHIDO_MATES_NOT_MUTUAL = 6, /* place: the lowest i whose mate's mate is not i */
     LAKHIDO_ARCS_CROSS = 7,       /* arcs (a, b) and (i, j) with a < i < b < j; place: the lowest such i */

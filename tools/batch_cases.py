@@ -1,27 +1,30 @@
 """For tests alone: the lines that batch_test reads, and what it must write. `tools/verify-cases` writes the files.
 
 The answers of the cases are written here by hand, from 02, (v): the refusals in their order; counts and searched numbers of the single queries, one
-after the other; the number read as that of a union. Those of random calls come from the reference model of `Random`, which runs a batch as its
-queries. `lakhido_model.batch` must give the same answers, and says what bytes and hits a batch leaves.
+after the other, with (vi) for two spellings of a motif; the number read as that of a union. Those of random calls come from the reference model of
+`Random`, which runs a batch as its queries. `lakhido_model.batch` must give the same answers, and says what bytes and hits a batch leaves.
 """
 import functools
 
 import catalog_lines
 import lakhido_model
 from catalog_lines import (BANK, CACHE, DIGITS, MODEL, MOTIFS, OF_BATCHES, OF_BYTES, OF_CALLS, UNTOUCHED, Random, World, begin, below, buffers, files_of,
-                           hairpins, length_of, line, motif_seed, nested, put_line, remark, set_byte, strand_in)
+                           hairpins, length_of, line, motif_of, nested, put_line, remark, set_byte, strand_in)
 from lakhido_model import BLOCK, HITS_AT, LONGEST_MOLECULE, MOLECULE, MOST_BLOCKS, MOST_MOTIFS, NO_BASES, SEARCHED_AT, Batched, encode, key, work_size
 from testing_crate import after, folded, found, refused, total, two
 
 ROOM = (MOST_MOTIFS + 1) * MOST_BLOCKS  # entries of the hits in the test program
 group = functools.partial(catalog_lines.group, told=OF_CALLS + OF_BATCHES + OF_BYTES)
 
-# The motifs of the bank in cases by hand, by their digit. Keys: 0, 65, 139, 139, 206, 282, 576, 14940. `x` is for what is no motif, and `y` stays empty.
+# The motifs of the bank in cases by hand, by their digit. Keys: 0, 65, 139, 139, 206, 282, 576, 14940; 156, 157, 170, 170, 150, 151 from `g` on, of which
+# each two differ in spelling alone. `x` is for what is no motif, and `y` stays empty.
 BY_HAND = {
     '0': ('', ''), '1': ('A', '0'), '2': ('GC', '10'), '3': ('GC', '01'), '4': ('AGC', '021'), '5': ('GGCC', '3210'), '6': ('AAUUUUU', '0123456'),
     '7': ('A', '-120'), '8': ('A', '-121'), '9': ('A', '-160'),
+    'g': ('GT', '10'), 'h': ('GU', '10'), 'i': ('TU', '10'), 'j': ('UT', '10'), 'k': ('AT', '-2'), 'l': ('AU', '-2'),
 }
 assert [key(*strand_in(*motif)) for motif in BY_HAND.values()][:8] == [0, 65, 139, 139, 206, 282, 576, 14940]
+assert [key(*strand_in(*BY_HAND[digit])) for digit in 'ghijkl'] == [156, 157, 170, 170, 150, 151]
 
 
 def no(row, side, place=0):
@@ -119,9 +122,9 @@ def sizes():
 
 # What makes the block of GGCC with two bonds unsound, with the right checksum.
 UNSOUND = ((0, 0, 'kind 0'), (0, 2, 'kind 2'), (0, 9, 'kind 9'), (1, 0, 'no bases'), (1, 3, '3 bases'), (1, 161, '161 bases'), (1, 255, '255 bases'),
-           (2, 1, 'byte 2'), (27, 1, 'byte 27'), (28, 88, 'no letter'), (31, 99, 'a small letter'), (32, 65, 'base 4'), (187, 1, 'base 159'),
-           (188, 9, 'a mate too large'), (189, 1, 'a mate too large'), (188, 1, 'not mutual'), (188, 2, 'not mutual'), (196, 1, 'mate 4'),
-           (507, 1, 'byte 507'))
+           (2, 1, 'byte 2'), (27, 1, 'byte 27'), (28, 88, 'no letter'), (30, 116, 'a small t'), (31, 99, 'a small letter'), (32, 65, 'base 4'),
+           (187, 1, 'base 159'), (188, 9, 'a mate too large'), (189, 1, 'a mate too large'), (188, 1, 'not mutual'), (188, 2, 'not mutual'),
+           (196, 1, 'mate 4'), (507, 1, 'byte 507'))
 
 
 def bad_blocks():
@@ -158,7 +161,7 @@ def long_blocks():
     """Motifs of 121 to 160 bases, at several places: the lowest is named."""
     w = one_held()
     for n in range(121, 161):
-        w.put('x', 'ACGU', '%s%d' % ('-='[n % 2], n))
+        w.put('x', 'ACGUT', '%s%d' % ('-='[n % 2], n))
         t = n % 16
         w.batch('x', no(3, 0, 0), '%d bases' % n)
         w.batch('7' * t + 'x' + '1' * (15 - t), no(3, 0, t), '%d bases at %d' % (n, t))
@@ -309,6 +312,32 @@ def no_bases(slots):
         w.batch('00', yes(0, [n, n], [0, 0]), 'one less')
     w.query('', '', found(0, 0))
     group('motifs with no bases, %d slot%s' % (slots, 's' if slots > 1 else ''))
+
+
+def spelled(slots):
+    """02, (vi): T and U match each other, and two spellings of a motif are two entries. Slots: of 1 one for all; of 2 and 3 GT and GU have their own, as AT
+    and AU, while TU and UT share one; of 64 the same."""
+    w = Batches(5, slots)
+    for d, (bases, mates, arcs, depth) in enumerate((('GAT', '210', 1, 1), ('GAU', '210', 1, 1), ('TTUU', '3210', 2, 2), ('AUAT', '0123', 0, 0))):
+        w.add(d, bases, mates, folded(arcs, depth))
+    four = 4 if slots == 1 else 0
+    w.batch('gh', yes(4, [2, 2], [4, 4]), 'both spellings search')
+    w.batch('hg', yes(four, [2, 2], [0, four]), 'the last is in its slot')
+    w.batch('ghgh', yes(four, [2] * 4, [0] + [four] * 3))
+    w.batch('ij', yes(4, [1, 1], [4, 4]), 'one key, and two motifs')
+    w.batch('jij', yes(4, [1] * 3, [0, 4, 4]))
+    w.batch('kl', yes(4, [3, 3], [4, 4]))
+    w.batch('lk', yes(four, [3, 3], [0, four]))
+    w.query('AU', '01', found(3, four), 'a single query')
+    w.query('AT', '01', found(3, four))
+    w.remove(0)
+    w.batch('kl', yes(3 if slots == 1 else 0, [2, 2], [0, 3 if slots == 1 else 0]), 'one less')
+    w.add(4, 'GCT', '210', folded(1, 1))
+    w.batch('gh', yes(4 if slots < 64 else 1, [2, 2], [4, 4] if slots < 64 else [1, 1]), 'the new one is searched')
+    w.put('x', 'GtU', '012')
+    w.batch('gx', no(15, 0, 1), 'a small t')
+    w.batch('hg', yes(four, [2, 2], [0, four]), 'a refused batch between')
+    group('T and U in batches, %d slot%s' % (slots, 's' if slots > 1 else ''))
 
 
 # ---- the number read
@@ -512,8 +541,7 @@ class History(Random, Batches):
         Random.__init__(self, b, s)
         self.first, self.motifs = first, {self.NONE: NO_BASES, self.LONGEST: ('GC' * 60, list(range(120)))}
         for k in range(MOTIFS):
-            seed = motif_seed(first, k)
-            letters, mates = nested(seed, length_of(seed, 5))
+            _, letters, mates = motif_of(first, k)
             self.motifs[DIGITS[k]] = ''.join(letters), mates
             self.put(DIGITS[k], ''.join(letters), ''.join(map(str, mates)))
         self.put(self.NONE, '', '')
@@ -597,6 +625,7 @@ def files():
         part()
     for slots in (1, 2, 3, 64):
         no_bases(slots)
+        spelled(slots)
     for part in (histories, sparse, largest, random_molecules):
         part()
     return files_of('batch_test')

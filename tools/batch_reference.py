@@ -34,6 +34,10 @@ def self_test():
         'read 2\nmotif 0 hits 2 searched 2: 0 1\nmotif 1 hits 1 searched 2: 1\nmotif 2 hits 2 searched 2: 0 1\nmotif 3 hits 2 searched 2: 0 1\n')
     assert output(paired + none + paired, catalog, 2).endswith('motif 2 hits 2 searched 0: 0 1\n')
     assert output(paired + none + paired, catalog, 1).endswith('motif 2 hits 2 searched 2: 0 1\n')
+    t, u = (bytes(encode(MOTIF, bases, [1, 0])) for bases in ('GT', 'GU'))
+    spelled = b''.join(bytes(encode(MOLECULE, bases, [2, 1, 0])) for bases in ('GAT', 'GAU'))
+    assert output(t + u, spelled) == 'read 2\nmotif 0 hits 2 searched 2: 0 1\nmotif 1 hits 2 searched 2: 0 1\n'
+    assert output(t + u + t, spelled, 2).endswith('searched 0: 0 1\n') and output(t + u + t, spelled, 1).endswith('searched 2: 0 1\n')
     assert output(none, bytes(BLOCK)) == 'read 0\nmotif 0 hits 0 searched 0:\n'
     assert output(b'', catalog) == output(none * 17, catalog) == output(none[1:], catalog) == 'refused 15 0 0\n'
     assert output(none + bytes(BLOCK), catalog) == 'refused 15 0 1\n' and output(none, catalog + none) == 'refused 11 2 3\n'

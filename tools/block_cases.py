@@ -8,9 +8,9 @@ import collections
 import itertools
 import random
 
-from lakhido_model import (BLOCK, CHECKSUM_AT, ENTRY, FORMS, HITS_AT, LETTERS, LONGEST_MOLECULE, LONGEST_MOTIF, MAP, MOLECULE, MOTIF, SEARCHED_AT, checksum,
+from lakhido_model import (BLOCK, CHECKSUM_AT, ENTRY, FORMS, HITS_AT, LONGEST_MOLECULE, LONGEST_MOTIF, MAP, MOLECULE, MOTIF, SEARCHED_AT, checksum,
                            decode, encode, forget, has_bit, holds, keeps, nested, seal, sound)
-from testing_crate import after, total
+from testing_crate import IN_ORDER, after, total
 
 BLOCKS = 3
 ROOM = 162
@@ -52,7 +52,7 @@ class Cases:
         x = seed
         for i in range(ROOM):
             x = after(x)
-            self.bases[i], self.mates[i] = ord(LETTERS[x // 16 % 4]), i
+            self.bases[i], self.mates[i] = ord(IN_ORDER[x // 16 % 5]), i
         self.n, self.m = n, m
         self.line('N', n, m, seed, name)
 
@@ -205,8 +205,8 @@ def damages(t, form):
     for i, v, name in [
         (0, 9, 'kind'), (0, 3 - form.kind, 'kind, the other'), (1, 0, 'length 0'), (1, 2, 'length, less'), (1, 4, 'length, more'),
         (1, most + 1, 'length, over the limit'),
-        (2, 1, 'first zero byte'), (start - 1, 1, 'last zero byte'), (start, 88, 'base, no letter'),
-        (start, 65 if letter != 65 else 67, 'base, another letter'),
+        (2, 1, 'first zero byte'), (start - 1, 1, 'last zero byte'), (start, 88, 'base, no letter'), (start, 116, 'base, small t'),
+        (start, 65 if letter != 65 else 67, 'base, another letter'), (start, 84, 'base, T'), (start, 85, 'base, U'),
         (start + 3, 65, 'first unused base'), (at - 1, 65, 'last unused base'), (at, 1, 'mate, not mutual'), (at, 3, 'mate, out of range'),
         (at + 1, 1, 'mate, high byte'), (at + 6, 1, 'first unused mate'), (at + 2 * most - 1, 1, 'last unused mate'),
         *((CHECKSUM_AT + i, v, 'checksum') for i, v in enumerate((0, 0, 9, 1))),
@@ -428,6 +428,55 @@ def keeping(t):
     t.new(1, 1, 5)
     t.keeps(name='empty block')
     t.end('the motif of an entry')
+
+
+def spell(t, form, spelling):
+    """These letters as the first bases of the block, with the right checksum."""
+    for i, letter in enumerate(spelling):
+        t.store(form.bases_at + i, ord(letter))
+    t.check()
+
+
+SPELLINGS = 'GTU', 'GUT', 'GUU', 'GTT', 'TTT', 'UUU'
+
+
+def spelled_blocks(t):
+    """02, (vi): T is a letter, in a molecule block, a motif block and an entry; a small t is none. The letter is decoded as it stands."""
+    for form in FORMS:
+        small(t, form)
+        for spelling in (*SPELLINGS, 'GtU', 'tUG', 'UGt', 'GuT', 'GSU', 'GVT'):
+            spell(t, form, spelling)
+            t.judge(form, name=spelling)
+            if form is MOTIF:
+                t.holds_motif(name=spelling)
+        for v in (84, 85, 116, 117):
+            t.damage(form, form.bases_at, v)
+    small(t, MOLECULE)
+    for spelling, form in itertools.product(SPELLINGS, (MOLECULE, MOTIF)):
+        spell(t, MOLECULE, spelling)
+        t.new(1, 1, 13)
+        t.decode(name=spelling, form=form)
+        assert t.bases[:3].decode() == spelling
+        t.sums(spelling)
+    t.end('T and U in a block')
+
+
+def spelled_entries(t):
+    """02, (vi): an entry keeps the motif of its own letters, and not that of another spelling."""
+    small(t, MOLECULE)
+    for kept in SPELLINGS:
+        spell(t, MOLECULE, kept)
+        t.decode(name=kept)
+        t.maps()
+        t.mark(1, 3)
+        t.write(ENTRY, name=kept)
+        t.judge(ENTRY)
+        t.sums()
+        for spelling in SPELLINGS:
+            spell(t, ENTRY, spelling)
+            t.keeps(name='%s, asked for %s' % (spelling, kept))
+        small(t, MOLECULE)
+    t.end('T and U in an entry')
 
 
 def each_byte(t, rng, form):
@@ -714,6 +763,6 @@ def files():
     kept_numbers(t)
     for form in FORMS:
         one_pass(t, form)
-    for part in (all_values, few_mates, long_bonds):
+    for part in (all_values, few_mates, long_bonds, spelled_blocks, spelled_entries):
         part(t)
     return {'crates/block_test/stdin': ''.join(t.lines), 'crates/block_test/stdout': ''.join(t.told)}

@@ -1,11 +1,11 @@
 """For tests alone: the lines that catalog_test reads, and what it must write. `tools/verify-cases` writes the files.
 
 The answers of the cases are written here by hand, from the table of refusals and its order, for an add from 02, (i), for a motif with no bases from
-02, (iii); those of random calls come from the reference model of `Random`. `Model` must give the same answers, and says what bytes and hits a
-call leaves.
+02, (iii), for two spellings of a motif from 02, (vi); those of random calls come from the reference model of `Random`. `Model` must give the same
+answers, and says what bytes and hits a call leaves.
 """
 from catalog_lines import CACHE, LARGEST, Random, World, begin, buffers, files_of, group, hairpins, set_byte
-from lakhido_model import BLOCK, CHECKSUM_AT, ENTRY, FOLDED, HITS_AT, SEARCHED_AT, key
+from lakhido_model import BLOCK, CHECKSUM_AT, ENTRY, FOLDED, HITS_AT, MOLECULE, SEARCHED_AT, key
 from testing_crate import folded, found, refused
 
 
@@ -20,6 +20,8 @@ def strands(call, side, too_long, none):
     call('X', '-%03d' % too_long, refused(3, side), 'rows 3 and 4')
     call('AXC', '012', refused(4, side, 1), 'row 4')
     call('AXC', '019', refused(4, side, 1), 'rows 4 and 5')
+    call('TUtC', '0123', refused(4, side, 2), 'row 4, a small t')
+    call('TuT', '210', refused(4, side, 1), 'row 4, a small u')
     call('A', '1', refused(5, side), 'row 5')
     call('A', 'z', refused(5, side), 'row 5, mate 65535')
     call('AC', '19', refused(5, side, 1), 'rows 5 and 6')
@@ -105,7 +107,7 @@ def unsound(w, note):
 def unsound_blocks():
     """Each rule of a molecule block broken, with the right checksum."""
     for i, v, note in ((0, 2, 'kind 2'), (1, 0, 'no bases'), (1, 161, '161 bases'), (2, 1, 'byte 2'), (27, 1, 'byte 27'), (28, 88, 'no letter'),
-                       (32, 65, 'base 4'),
+                       (31, 116, 'a small t'), (32, 65, 'base 4'),
                        (187, 1, 'base 159'), (188, 9, 'a mate too large'), (188, 1, 'not mutual'), (196, 1, 'mate 4'), (507, 1, 'byte 507')):
         w = World(2, 1)
         w.add(1, 'ACGU', '3210', folded(2, 2))
@@ -208,7 +210,7 @@ def each_unsound(changes, motif):
 
 def unsound_entries():
     each_unsound(((0, 1, 'kind 1'), (1, 0, 'no bases'), (1, 121, '121 bases'), (2, 1, 'byte 2'), (19, 1, 'byte 19'), (20, 88, 'no letter'),
-                  (22, 65, 'unused base'), (139, 65, 'unused base'),
+                  (21, 116, 'a small t'), (22, 65, 'unused base'), (139, 65, 'unused base'),
                   (140, 2, 'mate too large'), (140, 0, 'not mutual'), (144, 2, 'unused mate'), (379, 1, 'unused mate'),
                   (444, 7, 'a hit that was not searched')), ('GC', '10'))
     group('unsound entries')
@@ -310,6 +312,83 @@ def foreign_no_bases():
     group('foreign entries, no bases')
 
 
+# Motifs that differ in spelling alone, and their keys: each T is one less.
+KEYS = {'GT': 156, 'GU': 157, 'TT': 169, 'TU': 170, 'UT': 170, 'UU': 171}
+assert all(key(motif, [1, 0]) == told for motif, told in KEYS.items())
+
+
+def spelled(slots):
+    """02, (vi): T and U match each other. Blocks keep the letter, and a motif is looked up byte by byte: GT and GU are two entries, of 1 slot in one and of
+    2, 3 and 64 in two, and each searches for itself. Of 2 and 3 slots the other motifs take both."""
+    w = World(6, slots)
+    w.add(0, 'GAT', '210', folded(1, 1))
+    w.add(1, 'GAU', '210', folded(1, 1))
+    w.add(2, 'GAC', '210', folded(1, 1), 'neither')
+    w.add(3, 'TTUU', '3210', folded(2, 2))
+    w.add(4, 'GTGU', '0123', folded(0, 0), 'without a bond')
+    again, replaced = 5 if slots == 1 else 0, 0 if slots == 64 else 4
+    w.query('GT', '10', found(2, 5), 'T')
+    w.query('GU', '10', found(2, 5), 'U is searched anew')
+    w.query('GT', '10', found(2, again), 'T again')
+    w.query('GU', '10', found(2, again), 'U again')
+    w.query('GU', '10', found(2, 0))
+    for motif in ('TU', 'UT', 'TT', 'UU'):
+        w.query(motif, '10', found(1, 5), 'each spelling of four is another motif')
+    w.query('UU', '10', found(1, 0))
+    w.remove(0)
+    w.query('GT', '10', found(1, replaced), 'one less')
+    w.query('GU', '10', found(1, replaced))
+    w.add(0, 'GCT', '210', folded(1, 1))
+    w.query('GT', '10', found(2, 1 if slots > 1 else 5), 'the number used again')
+    w.query('GU', '10', found(2, 1 if slots > 1 else 5))
+    w.add(5, 'GtU', '012', refused(4, 1, 1), 'a small t')
+    w.query('Gt', '10', refused(4, 0, 1), 'a small t')
+    w.query('GU', '10', found(2, 0), 'refused calls between')
+    group('T and U, %d slot%s' % (slots, 's' if slots > 1 else ''))
+
+
+def spelled_entries():
+    """Entries whose motif is spelled otherwise: sound, and those of another motif."""
+    w = World(2, 1)
+    w.add(0, 'GAT', '210', folded(1, 1))
+    w.add(1, 'GAU', '210', folded(1, 1))
+    w.query('GU', '10', found(2, 2))
+    set_byte('F', CACHE + ENTRY.bases_at + 1, ord('T'), 'the motif GT')
+    w.query('GT', '10', found(2, 0), 'the entry is that of GT')
+    w.query('GU', '10', found(2, 2), 'and not that of GU')
+    set_byte('F', CACHE + ENTRY.bases_at + 1, ord('T'), 'the motif GT')
+    w.query('GU', '10', found(2, 2), 'another motif')
+    set_byte('S', CACHE + ENTRY.bases_at + 1, ord('T'), 'without the checksum')
+    w.query('GU', '10', found(2, 2), 'all is searched again')
+    set_byte('U', CACHE + ENTRY.bases_at + 1, ord('u'), 'a small u')
+    w.query('GU', '10', found(2, 2), 'all is searched again')
+    set_byte('F', MOLECULE.bases_at + 2, ord('U'), 'molecule 0 is GAU')
+    w.query('GU', '10', found(2, 0), 'a sound block of the catalog')
+    w.query('GT', '10', found(2, 2))
+    set_byte('U', MOLECULE.bases_at + 2, ord('t'), 'molecule 0 is GAt')
+    w.query('GT', '10', refused(11, 2, 0), 'an unsound block')
+    group('T and U in entries')
+
+
+def long_spelled():
+    """The longest, with T and with U: 160 bases in a block, 120 in a motif. The keys differ by the number of U in
+    the place of T: 120 and 60, which share a slot of two, and 1, which do not."""
+    w = World(2, 2)
+    w.add(0, 'T', '=160', folded(80, 80))
+    w.add(1, 'AU', '-160', folded(0, 0))
+    w.query('U', '=120', found(1, 2))
+    w.query('T', '=120', found(1, 2), 'the same slot')
+    w.query('U', '=120', found(1, 2), 'it was replaced')
+    w.query('AT', '-120', found(1, 2))
+    w.query('AU', '-120', found(1, 2))
+    w.query('TU', '=119', found(1, 2))
+    w.query('UT', '=119', found(1, 2))
+    w.query('TU', '-080', found(2, 2))
+    w.query('T', '-121', refused(3, 0))
+    w.query('t', '-120', refused(4, 0))
+    group('T and U, long strands')
+
+
 def other_slots():
     """The same cache as one slot and as two: an entry may lie in a slot that is not its key's. Keys: AGC 206, GC 139."""
     w = World(2, 2)
@@ -385,10 +464,10 @@ def random_molecules():
     w = Random(512, 64)
     w.random('a', 4711, 512)
     w.random('q', 1, 40)
-    w.call('Q', 0, 4, 1, 1)
+    w.call('Q', 0, 4, 1, ['A'], [0])
     w.random('H', 815, 200)
     w.random('q', 1, 20)
-    w.call('Q', 0, 4, 1, 1)
+    w.call('Q', 0, 4, 1, ['A'], [0])
     group('512 random molecules, 64 slots')
 
 
@@ -407,4 +486,8 @@ def files():
     for slots in (1, 2, 3, 64):
         no_bases(slots)
     foreign_no_bases()
+    for slots in (1, 2, 3, 64):
+        spelled(slots)
+    spelled_entries()
+    long_spelled()
     return files_of('catalog_test')

@@ -7,7 +7,7 @@ import functools
 
 import lakhido_model
 from lakhido_model import (BLOCK, CHECKSUM_AT, ENTRY, HITS_AT, LONGEST_MOLECULE, LONGEST_MOTIF, MOLECULE, MOST_BLOCKS, MOST_SLOTS, MOTIF, SEARCHED_AT, encode,
-                           key, molecule_refusal, motif_refusal, seal, set_bit, sound_block, work_size)
+                           key, molecule_refusal, motif_refusal, other_spelling, seal, set_bit, sound_block, work_size)
 from testing_crate import ROW, after, folded, found, is_refused, refused, total
 
 LARGEST = 9999999  # the field that means the largest number of all
@@ -241,7 +241,7 @@ def nested(x, n):
     """A nested strand of n bases, each bonded with an earlier one where that may be."""
     bases, mates = [], []
     for i in range(n):
-        bases.append('GGGCCCAU'[below(x, 8, 8)])
+        bases.append('GGCCAUTU'[below(x, 8, 8)])
         mates.append(i)
         j = below(x, 64, i + 1)
         if closed(mates, j, i):
@@ -251,26 +251,28 @@ def nested(x, n):
 
 
 def spoil(how, x, bases, mates):
-    """For 0, 1 and 2: a base that is no letter, any mate, a bond that may cross another."""
+    """For 0, 1 and 2: a base that is no letter (X or a small t); any mate; a bond that may cross another."""
     i, j = below(x, 4, len(bases)), below(x, 64, len(bases))
     if how == 0:
-        bases[i] = 'X'
+        bases[i] = 'Xt'[j % 2]
     if how == 1:
         mates[i] = j + i % 2
     if how == 2 and mates[i] == i and mates[j] == j:
         mates[i], mates[j] = j, i
 
 
-MOTIFS = 12  # that random calls of a seed draw from
-
-
-def motif_seed(first, k):
-    """The seed of motif k of those that belong to a seed."""
-    return after(after(k * 1000 + first % 1000))
+MOTIFS = 12  # that random calls of a seed draw from: six, and those in their other spelling
 
 
 def length_of(seed, most):
     return below(seed, 4, most) + 1
+
+
+def motif_of(first, k):
+    """Motif k of those that belong to a seed: the seed of its strand, and the strand."""
+    seed = after(after(k % 6 * 1000 + first % 1000))
+    letters, mates = nested(seed, length_of(seed, 5))
+    return seed, letters if k < 6 else list(other_spelling(''.join(letters))), mates
 
 
 class Random(World):
@@ -358,10 +360,9 @@ class Random(World):
             self.altered[k] = {i: v}
         set_byte('S', CACHE + BLOCK * k + i, v)
 
-    def call(self, kind, d, how, n, seed):
-        """A call, with one of the ways in which it may be refused: what `spoil` does, lengths that differ, no bases (a molecule; of twenty motifs one has
-        none), too many bases, buffers that are too short or not whole blocks."""
-        letters, mates = nested(seed, n)
+    def call(self, kind, d, how, seed, letters, mates):
+        """A call with this strand, and with one of the ways in which it may be refused: what `spoil` does, lengths that differ, no bases (a molecule; of
+        twenty motifs one has none), too many bases, buffers that are too short or not whole blocks."""
         spoil(how, after(seed), letters, mates)
         bases = ''.join(letters)
         if how == 3:
@@ -393,5 +394,6 @@ class Random(World):
         if kind == 'S':
             self.alter(x)
         else:
-            seed = motif_seed(first, below(x, 32, MOTIFS)) if kind == 'Q' else after(x)
-            self.call(kind, d, how, length_of(seed, 5 if kind == 'Q' else 12), seed)
+            y = after(x)
+            strand = motif_of(first, below(x, 32, MOTIFS)) if kind == 'Q' else (y, *nested(y, length_of(y, 12)))
+            self.call(kind, d, how, *strand)

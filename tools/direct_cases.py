@@ -6,8 +6,8 @@ import collections
 import itertools
 import os
 
-from lakhido_model import LEAST_MOTIF, LETTERS, LONGEST, LONGEST_MOTIF, NO_BASES, fold, is_embedding, molecule_refusal, pair_refusal, strand_refusal
-from testing_crate import after, bond
+from lakhido_model import LEAST_MOTIF, LONGEST, LONGEST_MOTIF, NO_BASES, fold, is_embedding, molecule_refusal, pair_refusal, strand_refusal
+from testing_crate import IN_ORDER, after, bond
 
 CRATES = os.path.join(os.path.dirname(os.path.abspath(__file__)), '..', 'crates')
 WIDTH = 48
@@ -89,7 +89,7 @@ def random_strand(kind, x, n):
     """Kinds 0 and 1: any mates from 0 to n, in kind 1 the digits of x in base 6. Else nested. In even kinds a base may be any byte."""
     bases, mates, begun = [], list(range(n)), []
     for i in range(n):
-        bases.append(chr(x // 2048 % 256) if kind % 2 == 0 and x // 64 % 32 == 0 else LETTERS[x // 16 % 4])
+        bases.append(chr(x // 2048 % 256) if kind % 2 == 0 and x // 64 % 32 == 0 else IN_ORDER[x // 16 % 5])
         if kind < 2:
             mates[i] = up_to(n, x)
         elif x // 1024 % 3 == 1 and begun:
@@ -148,11 +148,11 @@ def verified(p, q, places):
 
 
 def nested(x, letters, n):
-    """A nested strand of n bases of the first letters, and the next random number."""
+    """A nested strand of n bases of these letters, and the next random number."""
     bases, mates, begun = '', list(range(n)), []
     for i in range(n):
         x = after(x)
-        bases += LETTERS[x // 7 % letters]
+        bases += letters[x // 7 % len(letters)]
         x = after(x)
         if x // 5 % 4 == 0:
             begun.append(i)
@@ -161,7 +161,7 @@ def nested(x, letters, n):
     return (bases, mates), x
 
 
-def all_lists(letters, pairs=50, m=4, n=7):
+def all_lists(name, letters, pairs=50, m=4, n=7):
     """One motif of twenty has no bases, and the one list of no places."""
     x, yes, arcs, depths = 12345, 0, 0, 0
     for i in range(pairs):
@@ -171,7 +171,11 @@ def all_lists(letters, pairs=50, m=4, n=7):
         lists = (n + 1) ** places
         yes += sum(is_embedding(*p, *q, f) for f in itertools.combinations(range(n), places))
         arcs, depths = arcs + lists * more_arcs, depths + lists * more_depths
-    return 'all lists, %d letter%s: wrong 0 yes %d arcs %d depths %d\n' % (letters, 's' if letters > 1 else '', yes, arcs, depths)
+    return 'all lists, %s: wrong 0 yes %d arcs %d depths %d\n' % (name, yes, arcs, depths)
+
+
+# Of the random pairs: the name, and the letters.
+FAMILIES = ('1 letter', IN_ORDER[:1]), ('2 letters', IN_ORDER[:2]), ('5 letters', IN_ORDER[:5]), ('G, U and T', IN_ORDER[2:5])
 
 
 def embedding_test():
@@ -182,7 +186,7 @@ def embedding_test():
         out.append('%s%s\n' % (line, verified((p, numbers(pm)), (q, numbers(qm)), numbers(places))))
     long = 'A' * (LONGEST + 1), [0] * (LONGEST + 1)
     out.append('4,097 bases:%s%s%s\n' % (verified(long, ('X', [0]), []), verified(ONE, long, []), verified(NO_BASES, long, [])))
-    return ''.join(out + [all_lists(letters) for letters in (1, 2, 4)])
+    return ''.join(out + [all_lists(name, letters) for name, letters in FAMILIES])
 
 
 def files():

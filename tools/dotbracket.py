@@ -8,9 +8,10 @@ Text, for each molecule:
     >name
     GCGAAAGC
     (((..)))
-One line of bases (A, C, G, U; small letters are taken as capitals) and one line of structure: `.` for a base without a
-bond, `(` and `)` for the two ends of one. What follows a blank on the structure line, as the energy that folding programs
-write there, is left out. Blank lines and lines that begin with `#` are skipped. The line `>(empty)` alone is an empty block.
+One line of bases (A, C, G, T, U; small letters are taken as capitals) and one line of structure: `.` for a base without a
+bond, `(` and `)` for the two ends of one. T and U match each other, and each is kept as it stands. What follows a blank on
+the structure line, as the energy that folding programs write there, is left out. Blank lines and lines that begin with `#`
+are skipped. The line `>(empty)` alone is an empty block.
 Blocks hold no names: decoded molecules are named by their number.
 
 In the text of motifs a line `>name` alone is the motif with no bases, which embeds in every molecule. An empty block is no motif.
@@ -24,8 +25,8 @@ import itertools
 import random
 import sys
 
-from lakhido_model import (BLOCK, LETTERS, LONGEST_MOLECULE, LONGEST_MOTIF, MOLECULE, MOST_BLOCKS, MOST_MOTIFS, MOST_SCREENED, MOTIF, NO_BASES, decode, encode,
-                           fault, fold, random_motif, random_strand)
+from lakhido_model import (BLOCK, LETTERS, LONGEST_MOLECULE, LONGEST_MOTIF, MOLECULE, MOST_BLOCKS, MOST_MOTIFS, MOST_SCREENED, MOTIF, NO_BASES, decode, embeds,
+                           encode, fault, fold, random_motif, random_strand)
 
 EMPTY_NAME = '(empty)'
 EMPTY = None, None  # in the place of bases and mates: an empty block
@@ -96,8 +97,7 @@ def molecule(lines, header, name):
     begin, bases = len(bases) - len(bases.lstrip()), bases.strip().upper()
     for i, base in enumerate(bases):
         if base not in LETTERS:
-            hint = ' (RNA has U)' if base == 'T' else ''
-            raise Bad('%s:%d:%d: `%s` is no letter of %s%s' % (name, first, begin + i + 1, base, LETTERS, hint))
+            raise Bad('%s:%d:%d: `%s` is no letter of %s' % (name, first, begin + i + 1, base, LETTERS))
     if len(bases) > LONGEST_MOLECULE:
         raise Bad('%s:%d:%d: %d bases, and a molecule has 1 to %d' % (name, first, begin + LONGEST_MOLECULE + 1, len(bases), LONGEST_MOLECULE))
     indent, structure = len(structure) - len(structure.lstrip()), structure.split()[0]
@@ -294,6 +294,19 @@ def test_motif_buffers():
     expect_error(none + two[:-1] + b'\1', 'T: block 1, byte 508: the checksum is not', text_of_motifs)
 
 
+def test_spellings():
+    """T stays T and U stays U, in text and blocks; a small letter becomes its capital. A motif spelled with one finds what is spelled with the other."""
+    for text, bases in (('GATC', 'GATC'), ('GAUC', 'GAUC'), ('TTUU', 'TTUU'), ('gatc', 'GATC'), ('tUuT', 'TUUT')):
+        block = block_of(bases, [3, 1, 2, 0])
+        assert blocks_of('>x\n%s\n(..)\n' % text, 'T') == motif_blocks('>x\n%s\n(..)\n' % text, 'T') == [block]
+        assert text_of(block, 'B') == '>molecule 0\n%s\n(..)\n' % bases and text_of_motifs(block, 'B') == '>motif 0\n%s\n(..)\n' % bases
+    expect_error(block_of('GAt', [0, 1, 2]), 'T: block 0, byte 30: base 2 is no letter of ACGTU', text_of)
+    for catalog, motif in itertools.permutations('TU'):
+        data = motif_and_catalog('>m\nG%s\n()\n' % motif, 'M', '>a\nGA%s\n(.)\n>b\nGAC\n(.)\n' % catalog, 'C')
+        (_, *p), *molecules = from_blocks(data, 'B', screen=True)
+        assert [embeds(*p, *q) for _, *q in molecules] == [True, False]
+
+
 def self_test():
     rng = random.Random(1)
     one = block_of('A', [0])
@@ -307,8 +320,8 @@ def self_test():
     assert text_of(whole, 'B', screen=True).startswith('>motif\nA\n.\n>(empty)\n>molecule 1\n')
     assert blocks_of('# a note\n\n>x\r\n gac \r\n (.)\r\n', 'T') == [block_of('GAC', [2, 1, 0])]
     expect_error('GAC\n', 'T:1:1: a molecule begins')
-    expect_error('>x\nGAXC\n....\n', 'T:2:3: `X` is no letter')
-    expect_error('>x\nGATC\n....\n', 'T:2:3: `T` is no letter of ACGU (RNA has U)')
+    expect_error('>x\nGAXC\n....\n', 'T:2:3: `X` is no letter of ACGTU')
+    test_spellings()
     expect_error('>x\nGAC\n(.\n', 'T:3:3: 3 bases and 2 marks')
     expect_error('>x\nGAC\n(...\n', 'T:3:4: 3 bases and 4 marks')
     expect_error('>x\nGAC\n(((\n', 'T:3:3: this `(` is not closed')

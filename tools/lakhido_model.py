@@ -1,9 +1,10 @@
 #!/usr/bin/env python3
-"""Document 01, and requests (i) to (iii) and (v) of 02, in plain Python, for the scripts beside it: strands, their refusals and folds, embeddings,
+"""Document 01, and requests (i) to (iii), (v) and (vi) of 02, in plain Python, for the scripts beside it: strands, their refusals and folds, embeddings,
 windows, blocks, the calls on catalog and cache. It shares nothing with the library.
 
 A strand is its bases, a text with a character for each byte, and its mates, a list of numbers. `--self-test` holds the search to the
-definition of an embedding, the depth and the tightest window to those of 02, blocks to the rules, and batches to single queries.
+definition of an embedding, the depth and the tightest window to those of 02, blocks to the rules, batches to single queries, and strands to their other
+spellings.
 """
 import collections
 import functools
@@ -11,7 +12,7 @@ import itertools
 import random
 import sys
 
-LETTERS = 'ACGU'
+LETTERS = 'ACGTU'
 LEAST_MOTIF, LEAST_MOLECULE = 0, 1  # 02, (iii): refusal 2 remains for molecules only
 LONGEST = 4096  # of the direct calls
 LONGEST_MOLECULE, LONGEST_MOTIF = 160, 120
@@ -70,11 +71,12 @@ def pair_refusal(p, q):
     return next(((refusal[0], side, refusal[1]) for side, refusal in enumerate(sides) if refusal), None)
 
 
-# 01's small examples of these rows for a molecule: bases, mates, row, place.
+# Small examples of these rows for a molecule, 01's and one of a small letter: bases, mates, row, place.
 REFUSED = (
     ('AC', [0], 1, 0),
     ('', [], 2, 0),
     ('AXC', [0, 1, 2], 4, 1),
+    ('TAt', [0, 1, 2], 4, 2),
     ('A', [1], 5, 0),
     ('AC', [1, 1], 6, 0),
     ('ACGU', [2, 3, 0, 1], 7, 1),
@@ -153,11 +155,25 @@ def strand_of_length(rng, n):
     return ''.join(rng.choice(LETTERS) for _ in range(n)), mates
 
 
+def other_spelling(bases):
+    """T for each U, and U for each T."""
+    return bases.translate(str.maketrans('TU', 'UT'))
+
+
+def spelled_with(letter, bases):
+    """T or U, the given one, in the place of both."""
+    return bases.replace('T', letter).replace('U', letter)
+
+
 # ---- embeddings
 
+def is_t_or_u(base):
+    return base == 'T' or base == 'U'
+
+
 def matches(letter, base):
-    """Whether a letter of a motif may go to a base of a molecule."""
-    return letter == base
+    """Whether a letter of a motif may go to a base of a molecule. 02, (vi): "the same byte or both are among T and U"."""
+    return letter == base or is_t_or_u(letter) and is_t_or_u(base)
 
 
 class Rows:
@@ -250,6 +266,28 @@ SETTLED = (
     ('GGCC', [3, 2, 1, 0], 'GGCC', [0, 2, 1, 3], 0),
 )
 
+# The same for 02, (vi): T and U match each other and themselves, and no other letter.
+SPELLED = (
+    ('GT', [1, 0], 'GAU', [2, 1, 0], 2),
+    ('GU', [1, 0], 'GAT', [2, 1, 0], 2),
+    ('T', [0], 'U', [0], 1),
+    ('U', [0], 'T', [0], 1),
+    ('T', [0], 'T', [0], 1),
+    ('T', [0], 'A', [0], 0),
+    ('T', [0], 'C', [0], 0),
+    ('T', [0], 'G', [0], 0),
+    ('A', [0], 'T', [0], 0),
+    ('C', [0], 'T', [0], 0),
+    ('G', [0], 'T', [0], 0),
+    ('UT', [0, 1], 'TU', [0, 1], 2),
+    ('UT', [1, 0], 'TU', [1, 0], 2),
+    ('TU', [1, 0], 'TAU', [2, 1, 0], 2),
+    ('TT', [0, 1], 'TAU', [2, 1, 0], 1),
+    ('AT', [0, 1], 'UAAU', [3, 1, 2, 0], 2),
+    ('ATA', [2, 1, 0], 'AUTA', [3, 1, 2, 0], 3),
+    ('TAGU', [3, 1, 2, 0], 'UAGT', [3, 1, 2, 0], 4),
+)
+
 # ---- windows
 
 def cut(q, qm, start, length):
@@ -283,7 +321,7 @@ def window(p, pm, q, qm):
 
 
 # Motif, molecule, and start and length of the tightest window or None: the first of two as long; the two bases are an arc; the window cuts an arc; a
-# shorter one comes later; all of the molecule. 02, (iii): that of a motif with no bases has start 0 and length 0.
+# shorter one comes later; all of the molecule. 02, (iii): that of a motif with no bases has start 0 and length 0. 02, (vi): a U as good as a T.
 WINDOWS = (
     ('GC', [0, 1], 'GCAGC', [0, 1, 2, 3, 4], (0, 2)),
     ('GC', [0, 1], 'GAC', [2, 1, 0], None),
@@ -292,6 +330,10 @@ WINDOWS = (
     ('GC', [1, 0], 'GAC', [2, 1, 0], (0, 3)),
     (*NO_BASES, 'GAC', [2, 1, 0], (0, 0)),
     (*NO_BASES, 'A', [0], (0, 0)),
+    ('GT', [0, 1], 'GAUGT', [0, 1, 2, 3, 4], (3, 2)),
+    ('GU', [0, 1], 'GTAGU', [0, 1, 2, 3, 4], (0, 2)),
+    ('TU', [1, 0], 'TAATUT', [3, 1, 2, 0, 5, 4], (4, 2)),
+    ('TA', [0, 1], 'UAC', [2, 1, 0], (0, 2)),
 )
 
 # ---- blocks
@@ -586,8 +628,14 @@ def batch(catalog, cache, motifs, work, hits):
 # ---- self-test
 
 def few_letters(strand):
-    """The strand with A in the place of G, and C in that of U."""
-    return strand[0].replace('G', 'A').replace('U', 'C'), strand[1]
+    """The strand with A in the place of G, and U in that of C: its letters are A, T and U."""
+    return strand[0].replace('G', 'A').replace('C', 'U'), strand[1]
+
+
+def spellings(strand):
+    """The strand as it is, in the other spelling, with T alone and with U alone."""
+    bases, mates = strand
+    return [(spelled, mates) for spelled in (bases, other_spelling(bases), spelled_with('T', bases), spelled_with('U', bases))]
 
 
 def self_test_of_windows(rng):
@@ -603,6 +651,43 @@ def self_test_of_windows(rng):
         assert (told is None) == (not embeds(*p, *q)), (p, q)
         found[told is not None] += 1
     assert min(found.values()) > 800, found
+
+
+def self_test_of_spellings(rng):
+    """02, (vi): motif and molecule in any spelling give one length, one window and the same embeddings; no letter is refused for it, and no other letter
+    matches."""
+    for p, pm, q, qm, told in SPELLED:
+        assert longest(p, pm, q, qm) == told == longest_by_definition(p, pm, q, qm), (p, pm, q, qm)
+    assert [matches(a, b) for a in 'ACGTU' for b in 'ACGTU'] == [a == b or a + b in ('TU', 'UT') for a in 'ACGTU' for b in 'ACGTU']
+    assert not any(matches(a, b) for a, b in ('tT', 'Tt', 'tU', 'ut', 'Uu', 'uT'))
+    found = collections.Counter()
+    for i in range(600):
+        p, q = random_motif(rng, 5), random_strand(rng, 10)
+        if i % 2:
+            p, q = few_letters(p), few_letters(q)
+        pairs = list(itertools.product(spellings(p), spellings(q)))
+        assert len({(longest(*a, *b), window(*a, *b), pair_refusal(a, b)) for a, b in pairs}) == 1, (p, q)
+        f = sorted(rng.sample(range(len(q[0])), min(len(p[0]), len(q[0]))))
+        assert len({is_embedding(*a, *b, f) for a, b in pairs}) == 1, (p, q, f)
+        found[embeds(*p, *q), 'T' in p[0] or 'U' in p[0]] += 1
+    assert min(found[embedded, True] for embedded in (False, True)) > 40, found
+
+
+def self_test_of_spelled_entries():
+    """02, (vi): blocks keep the letter, and motifs are compared byte by byte. Two spellings of a motif are two entries with the same hits; each U in
+    the place of a T adds 1 to the key. In one slot each replaces the other."""
+    t, u = ('GT', [1, 0]), ('GU', [1, 0])
+    assert key(*u) - key(*t) == 1 and decode(MOLECULE, encode(MOLECULE, *t)) == t and decode(ENTRY, encode(ENTRY, *t)) == t
+    assert encode(MOLECULE, *t) != encode(MOLECULE, *u) and not keeps(encode(ENTRY, *t), *u) and not keeps(encode(ENTRY, *u), *t)
+    for slots, again in ((1, {0, 1}), (2, set())):
+        catalog, cache, hits = bytearray(2 * BLOCK), bytearray(slots * BLOCK), [7, 7]
+        assert add(catalog, cache, 0, 'GAT', [2, 1, 0]) is None and add(catalog, cache, 1, 'GAU', [2, 1, 0]) is None
+        assert catalog[30] == 84 and catalog[BLOCK + 30] == 85
+        for motif, searched in ((t, {0, 1}), (t, set()), (u, {0, 1}), (u, set()), (t, again), (u, again)):
+            assert query(catalog, cache, *motif, work_size(2), hits) == (None, 2, searched) and hits == [0, 1]
+        assert [decode(ENTRY, block) for block in blocks_in(cache)] == ([u] if slots == 1 else [u, t] if key(*u) % 2 == 0 else [t, u])
+        assert batch(catalog, cache, encode(MOTIF, *u) + encode(MOTIF, *t), work_size(2), [7] * 4) == (
+            None, 2 if slots == 1 else 0, [2, 2], [0, len(again)])
 
 
 def self_test_of_no_bases(q, qm):
@@ -728,6 +813,8 @@ def self_test():
         lengths[told == len(p[0])] += 1
     assert min(lengths.values()) > 800, lengths
     self_test_of_windows(rng)
+    self_test_of_spellings(rng)
+    self_test_of_spelled_entries()
     for bases, mates, row, place in REFUSED:
         assert molecule_refusal(bases, mates) == (row, place) and (row < 5 or not nested(mates))
         assert motif_refusal(bases, mates) == (None if row == 2 else (row, place))

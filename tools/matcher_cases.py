@@ -6,8 +6,8 @@ import functools
 import itertools
 
 import lakhido_model
-from lakhido_model import FOLDED, LONGEST, SETTLED, molecule_refusal, motif_refusal, work_size
-from testing_crate import SHAPES, WORK_ROOM, Cases, by_rule, written, written_as
+from lakhido_model import FOLDED, LONGEST, SETTLED, SPELLED, molecule_refusal, motif_refusal, work_size
+from testing_crate import MIXED, OTHER, SHAPES, WORK_ROOM, Cases, by_rule, written, written_as
 
 CASES = Cases('matcher_test', ('calls', 'refused', 'whole motif', 'no prefix', 'arcs', 'depths'))
 COUNTS, put, group = CASES.counts, CASES.put, CASES.group
@@ -54,7 +54,7 @@ EMPTY_MOTIF = written('', '')
 BAD = {
     1: written('AC', '0'),
     2: EMPTY_MOTIF,
-    3: by_rule(0, LONGEST + 1, 1, 4),
+    3: by_rule(0, LONGEST + 1, 1, 5),
     4: written('AXC', '012'),
     5: written('A', '1'),
     6: written('AC', '11'),
@@ -63,9 +63,9 @@ BAD = {
 # Two rows apply to each. Rows 2 and 3 exclude each other, and rows 2 and 4.
 BOTH = {
     '1 and 2': written('', '0'),
-    '1 and 3': by_rule(0, LONGEST + 1, 1, 4, LONGEST),
+    '1 and 3': by_rule(0, LONGEST + 1, 1, 5, LONGEST),
     '1 and 4': written('AXC', '01'),
-    '3 and 4': by_rule(0, LONGEST + 1, 1, 5),
+    '3 and 4': by_rule(0, LONGEST + 1, 1, 6),
     '4 and 5': written('AXC', '912'),
     '5 and 6': written('ACG', '113'),
     '6 and 7': written('ACGUAC', '230155'),
@@ -74,6 +74,8 @@ BOTH = {
 
 # Motifs of which either slice alone is empty.
 LENGTHS_DIFFER = (written('', '0'), 'no bases, one mate'), (written('A', ''), 'one base, no mates')
+# Strands with a base that is no letter.
+NO_LETTER = tuple((written(bases, '012'), bases) for bases in ('tAC', 'TUt', 'uTU', 'UTa', 'TNU', 'TUV'))
 
 
 def line(calls, p, q, places, work, row, side, n, name):
@@ -134,7 +136,7 @@ def folds():
         assert fold_of(q) == tuple(other)
         exact(p, q, 'P %d %d, Q %d %d' % (*told, *other))
     for shape in range(6):
-        exact(written('GC', '10'), by_rule(shape, LONGEST, 18, 4), 'an arc in ' + SHAPES[shape])
+        exact(written('GC', '10'), by_rule(shape, LONGEST, 18, 5), 'an arc in ' + SHAPES[shape])
     group('arcs and depths')
 
 
@@ -153,6 +155,10 @@ def refusals():
             case(s, good, places, work, 'motif %s' % rows)
             case(good, s, places, work, 'molecule %s' % rows)
         group('two rows of one strand, ' + name)
+        for s, bases in NO_LETTER:
+            case(s, good, places, work, 'motif ' + bases)
+            case(good, s, places, work, 'molecule ' + bases)
+        group('no letters, ' + name)
 
 
 def rooms():
@@ -178,7 +184,7 @@ def no_bases():
     """It embeds in every molecule, with length 0: show has nothing to write, whatever places it gets."""
     for n, shapes in ((1, (0,)), (2, (0, 1)), (9, range(6)), (160, range(6)), (1000, (4,)), (LONGEST, range(6))):
         for shape in shapes:
-            q = by_rule(shape, n, 19, 4)
+            q = by_rule(shape, n, 19, 5)
             for places in (0, 1, LONGEST + 4):
                 case(EMPTY_MOTIF, q, places, room(EMPTY_MOTIF, q), '%d places, %s' % (places, SHAPES[shape]))
             case(EMPTY_MOTIF, q, 2, room(EMPTY_MOTIF, q) - 1, 'row 8, ' + SHAPES[shape])
@@ -191,12 +197,12 @@ def no_bases():
 
 
 def random_pairs():
-    for letters in (1, 2, 4):
+    for letters in (1, 2, 5, MIXED):
         for a, b in itertools.product(range(6), range(6)):
             rounds(60, (a, 6, 100, letters), (b, 9, 5000, letters), '%s in %s' % (SHAPES[a], SHAPES[b]))
         group('random pairs of 6 and 9, letters %d' % letters)
     for m, n in ((0, 1), (0, 12), (1, 1), (1, 12), (3, 7), (5, 12), (9, 9), (10, 6), (8, 12)):
-        for letters in (1, 2):
+        for letters in (1, 2, MIXED):
             rounds(100, (4, m, 300, letters), (5, n, 7000, letters), '%d in %d, letters %d' % (m, n, letters))
     group('random pairs of other lengths')
 
@@ -204,15 +210,15 @@ def random_pairs():
 def long_pairs():
     for m, n in ((120, 160), (400, 1000)):
         for a, b in itertools.product(range(6), range(6)):
-            for letters in ((1, 2) if m == 120 else (1,)):
+            for letters in ((1, 2, MIXED) if m == 120 else (1, MIXED)):
                 exact(by_rule(a, m, 11, letters), by_rule(b, n, 12, letters), '%s in %s' % (SHAPES[a], SHAPES[b]))
         group('pairs of %d and %d' % (m, n))
     for a in range(6):
-        s = by_rule(a, 1000, 13, 4)
+        s = by_rule(a, 1000, 13, 5)
         exact(s, s, SHAPES[a] + ' in itself')
     group('strands of 1000 in themselves')
     for a in range(6):
-        s = by_rule(a, LONGEST, 14, 4)
+        s = by_rule(a, LONGEST, 14, 5)
         exact(s, s, SHAPES[a] + ' in itself')
     group('strands of 4096 in themselves')
     for a in range(6):
@@ -221,7 +227,38 @@ def long_pairs():
     group('1000 and 1 in 4096')
 
 
+def both_spellings(letters):
+    """The letters of motif and molecule for each of four spellings of a pair."""
+    return itertools.product((letters, OTHER[letters]), repeat=2)
+
+
+def spellings():
+    """02, (vi): T and U match each other. A pair has one length in all of its spellings, and an embedding for each."""
+    for p, pm, q, qm, length in SPELLED:
+        motif, molecule = written_as(p, pm), written_as(q, qm)
+        assert longest(motif, molecule) == length
+        exact(motif, molecule, '%s in %s' % (p, q))
+    group('T and U')
+    for a, b in itertools.product(range(6), range(6)):
+        for of_motif, of_molecule in both_spellings(5):
+            rounds(15, (a, 6, 100, of_motif), (b, 9, 5000, of_molecule), '%s in %s' % (SHAPES[a], SHAPES[b]))
+    group('random pairs of 6 and 9, four spellings')
+    for m, n, letters in ((12, 160, 5), (120, 160, 4)):
+        for a, b in itertools.product(range(6), range(6)):
+            pairs = [(by_rule(a, m, 11, of_motif), by_rule(b, n, 12, of_molecule)) for of_motif, of_molecule in both_spellings(letters)]
+            assert len({longest(*pair) for pair in pairs}) == 1
+            for pair in pairs:
+                exact(*pair, '%s in %s' % (SHAPES[a], SHAPES[b]))
+        group('pairs of %d and %d, four spellings' % (m, n))
+    for a in range(6):
+        s, t = by_rule(a, LONGEST, 14, 5), by_rule(a, LONGEST, 14, OTHER[5])
+        for p, q in ((s, t), (t, s)):
+            assert longest(p, q) == LONGEST
+            exact(p, q, SHAPES[a] + ' in itself')
+    group('strands of 4096 in their other spelling')
+
+
 def files():
-    for part in (settled, folds, refusals, rooms, no_bases, random_pairs, long_pairs):
+    for part in (settled, folds, refusals, rooms, no_bases, random_pairs, long_pairs, spellings):
         part()
     return CASES.files()

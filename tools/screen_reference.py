@@ -38,6 +38,10 @@ def self_test():
     none = bytes(encode(MOTIF, *NO_BASES))
     assert output(none + one + hole + long) == 'hits 2 searched 2\n0\n2\n' and output(none + hole) == 'hits 0 searched 0\n'
     assert output(none + one + none) == output(one + one + none) == 'refused 11 2 1\n' and output(hole + none) == 'bad motif\n'
+    t, u = (bytes(encode(MOLECULE, bases, [1, 0])) for bases in ('GT', 'GU'))
+    assert output(t + u + one + t) == output(u + u + one + t) == 'hits 2 searched 3\n0\n2\n'
+    small = bytes(encode(MOLECULE, 'Gt', [1, 0]))
+    assert output(small + t) == 'bad motif\n' and output(t + u + small) == 'refused 11 2 1\n'
     assert output(none[:-4] + bytes(4) + one) == output(b'\x02' + none[1:] + one) == 'bad motif\n'
 
 

@@ -5,7 +5,7 @@ import os
 import random
 
 from dotbracket import block_of, motif_and_catalog, read_text
-from lakhido_model import BLOCK, MOST_SCREENED, few_letters, random_motif, random_strand
+from lakhido_model import BLOCK, MOST_SCREENED, few_letters, random_motif, random_strand, spellings
 from screen_reference import output
 
 MOST = (1 + MOST_SCREENED) * BLOCK
@@ -127,6 +127,28 @@ def bonds(cases, rng):
         cases.screen(4 * BLOCK)
 
 
+def spelled(cases, rng):
+    """02, (vi): T and U match each other, so a motif has the same hits in all its spellings; a small t is no letter, in a motif and in a molecule."""
+    for d, (bases, mates) in enumerate((('GAT', [2, 1, 0]), ('GAU', [2, 1, 0]), ('GAC', [2, 1, 0]), ('TTU', [0, 1, 2])), 1):
+        cases.block(d, block_of(bases, mates))
+    for motif in (('GT', [1, 0]), ('GU', [1, 0]), ('TT', [0, 1]), ('UT', [0, 1]), ('T', [0]), ('U', [0]), ('AT', [0, 1]), ('Gt', [1, 0]), ('Gu', [1, 0])):
+        cases.block(0, block_of(*motif))
+        cases.screen(5 * BLOCK)
+    cases.block(0, block_of('GT', [1, 0]))
+    for bases in ('GAt', 'GAu', 'TAT'):
+        cases.block(2, block_of(bases, [2, 1, 0]))
+        cases.screen(5 * BLOCK)
+    for _ in range(4):
+        for d in range(1, 4):
+            cases.block(d, block_of(*few_letters(random_strand(rng, 14))))
+        told = set()
+        for motif in spellings(few_letters(random_motif(rng, 4))):
+            cases.block(0, block_of(*motif))
+            cases.screen(4 * BLOCK)
+            told.add(cases.told[-1])
+        assert len(told) == 1, told
+
+
 def unsound_places(cases, rng):
     """64 molecules; each in turn unsound, by a byte of its own; then two, of which the lower counts."""
     cases.same_bases(0, 2)
@@ -176,6 +198,7 @@ def files():
     example(cases, small)
     example(cases, trna)
     bonds(cases, rng)
+    spelled(cases, rng)
     unsound_places(cases, rng)
     text = ''.join(cases.lines)
     assert len(text) <= 65536, len(text)  # what the program reads

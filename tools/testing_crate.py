@@ -3,8 +3,7 @@ lines and counts of matcher_test and window_test.
 """
 import collections
 
-from lakhido_model import LETTERS
-
+IN_ORDER = 'ACGUTX'  # the letters by their numbers, and what is none
 ROW, TWO = 100000, 100000000
 WORK_ROOM = 294980  # more entries of work than any pair asks for
 SHAPES = ('no arcs', 'stem', 'comb', 'balanced', 'fold', 'stems', 'hairpins')
@@ -113,9 +112,15 @@ def written_as(bases, mates):
     return written(bases, ''.join(map(str, mates)))
 
 
+# The letters that a rule draws from: the first of all; the same with T for U and U for T; three of which two match each other.
+ALPHABETS = {**{k: IN_ORDER[:k] for k in range(1, 7)}, 7: 'ACGT', 8: 'ACGTU', 9: 'GUT'}
+OTHER = {4: 7, 5: 8}  # the same letters in the other spelling
+MIXED = 9  # G, U and T
+
+
 def by_rule(shape, n, seed, letters, mates=None):
-    count = n if mates is None else mates
-    bases = ''.join((LETTERS + 'X')[(i if seed == IN_TURN else number(seed, i)) % letters] for i in range(n))
+    count, alphabet = n if mates is None else mates, ALPHABETS[letters]
+    bases = ''.join(alphabet[(i if seed == IN_TURN else number(seed, i)) % len(alphabet)] for i in range(n))
     return Strand(bases, fold_by_rule(shape, seed, count), '%d %6d %6d %6d %d' % (shape, n, count, seed, letters))
 
 

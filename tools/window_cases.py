@@ -7,9 +7,9 @@ import functools
 import itertools
 
 import lakhido_model
-from lakhido_model import LONGEST, SETTLED, WINDOWS
-from matcher_cases import BAD, BOTH, LENGTHS_DIFFER, EMPTY_MOTIF, fold_of, refused, room
-from testing_crate import HAIRPINS, IN_TURN, SHAPES, WORK_ROOM, Cases, by_rule, written, written_as
+from lakhido_model import LONGEST, SETTLED, SPELLED, WINDOWS
+from matcher_cases import BAD, BOTH, EMPTY_MOTIF, LENGTHS_DIFFER, NO_LETTER, both_spellings, fold_of, refused, room
+from testing_crate import HAIRPINS, IN_TURN, MIXED, OTHER, SHAPES, WORK_ROOM, Cases, by_rule, written, written_as
 
 CASES = Cases('window_test', ('calls', 'refused', 'found', 'nowhere', 'starts', 'lengths', 'arcs', 'depths'))
 COUNTS, put, group = CASES.counts, CASES.put, CASES.group
@@ -111,6 +111,10 @@ def refusals():
             case(s, good, work, 'motif %s' % rows)
             case(good, s, work, 'molecule %s' % rows)
         group('two rows of one strand, ' + name)
+        for s, bases in NO_LETTER:
+            case(s, good, work, 'motif ' + bases)
+            case(good, s, work, 'molecule ' + bases)
+        group('no letters, ' + name)
 
 
 def work_sizes():
@@ -123,12 +127,12 @@ def work_sizes():
 
 
 def random_pairs():
-    for letters in (1, 2, 4):
+    for letters in (1, 2, 5, MIXED):
         for a, b in itertools.product(range(6), range(6)):
             rounds(30, (a, 4, 100, letters), (b, 12, 5000, letters), '%s in %s' % (SHAPES[a], SHAPES[b]))
         group('random pairs of 4 and 12, letters %d' % letters)
     for m, n in ((0, 1), (0, 12), (1, 1), (1, 12), (2, 9), (3, 7), (5, 10), (5, 12), (5, 5), (5, 3)):
-        for letters in (1, 2, 3, 4):
+        for letters in (1, 2, 5, MIXED):
             rounds(40, (4, m, 300, letters), (5, n, 7000, letters), '%d in %d, letters %d' % (m, n, letters))
             rounds(40, (0, m, 400, letters), (4, n, 8000, letters), '%d in %d, letters %d' % (m, n, letters))
     group('random pairs of other lengths')
@@ -137,7 +141,7 @@ def random_pairs():
 def with_property(holds, name, least):
     """Pairs that have it, of each two shapes and some lengths: of the seeds that are tried the first. There are so many of them at least."""
     before = COUNTS['calls']
-    for m, n, letters in ((3, 9, 2), (6, 40, 1), (8, 200, 4), (20, 400, 2)):
+    for m, n, letters in ((3, 9, 2), (3, 9, MIXED), (6, 40, 1), (8, 200, 5), (20, 400, MIXED)):
         for a, b in itertools.product(range(6), range(6)):
             pairs = ((by_rule(a, m, 20 + i, letters), by_rule(b, n, 900 + i, letters)) for i in range(SEEDS))
             pair = next((pair for pair in pairs if holds(*pair)), None)
@@ -154,16 +158,16 @@ def found_or_not(a, b, m, n, letters, seeds):
 
 
 def long_pairs():
-    for m, n, letters, seeds in ((5, 1500, 4, 6), (20, 1500, 2, 6), (60, 1500, 1, 3), (300, 1500, 1, 1)):
+    for m, n, letters, seeds in ((5, 1500, 5, 6), (20, 1500, MIXED, 6), (60, 1500, 1, 3), (300, 1500, 1, 1)):
         for a, b in itertools.product(range(6), range(6)):
             found_or_not(a, b, m, n, letters, seeds)
         group('pairs of %d and %d, letters %d' % (m, n, letters))
     for a in range(6):
-        found_or_not(a, 0, 60, 1500, 4, 1)
-        found_or_not(0, a, 60, 1500, 4, 1)
-        found_or_not(a, a, 12, LONGEST, 2, 3)
+        found_or_not(a, 0, 60, 1500, 5, 1)
+        found_or_not(0, a, 60, 1500, 5, 1)
+        found_or_not(a, a, 12, LONGEST, MIXED, 3)
         found_or_not(a, 4, 200, LONGEST, 1, 1)
-        found_or_not(0, a, 200, LONGEST, 4, 1)
+        found_or_not(0, a, 200, LONGEST, 5, 1)
     group('long pairs, most without arcs')
 
 
@@ -171,7 +175,7 @@ def ends():
     """The motif is the molecule itself; or both are of one letter, and the motif has one base more; or the motif has one base, or none."""
     for n, shapes in ((1, (0,)), (2, (0, 1)), (9, range(6)), (1000, range(6)), (LONGEST, (0, 5))):
         for a in shapes:
-            s = by_rule(a, n, 14, 4)
+            s = by_rule(a, n, 14, 5)
             exact(s, s, SHAPES[a] + ' in itself')
     group('strands in themselves')
     for n, shapes in ((2, (0, 1)), (9, range(6)), (1000, range(6)), (LONGEST, (4,))):
@@ -182,11 +186,12 @@ def ends():
         for a in range(6):
             for base in 'AC':
                 exact(written(base, '0'), by_rule(a, n, 17, 2), '%s in %s' % (base, SHAPES[a]))
-            exact(written('U', '0'), by_rule(a, n, 17, 3), 'U in ' + SHAPES[a])
+            for base, letters in (('U', 3), ('T', 3), ('T', 4), ('U', 7)):
+                exact(written(base, '0'), by_rule(a, n, 17, letters), '%s in %s' % (base, SHAPES[a]))
     group('motifs of one base')
     for n in (1, 2, 9, 160, 1500, LONGEST):
         for a in range(6):
-            exact(EMPTY_MOTIF, by_rule(a, n, 17, 4), 'none in ' + SHAPES[a])
+            exact(EMPTY_MOTIF, by_rule(a, n, 17, 5), 'none in ' + SHAPES[a])
     for p, name in LENGTHS_DIFFER:
         exact(p, written('GAC', '210'), name)
     group('motifs with no bases')
@@ -200,11 +205,37 @@ def periodic():
     group('one letter in molecules that repeat')
 
 
+def spellings():
+    """02, (vi): T and U match each other. A pair has one tightest window in all of its spellings."""
+    for p, pm, q, qm, length in SPELLED:
+        motif, molecule = written_as(p, pm), written_as(q, qm)
+        assert is_found(motif, molecule) == (length == len(p))
+        exact(motif, molecule, '%s in %s' % (p, q))
+    group('T and U')
+    for a, b in itertools.product(range(6), range(6)):
+        for of_motif, of_molecule in both_spellings(5):
+            rounds(10, (a, 4, 100, of_motif), (b, 12, 5000, of_molecule), '%s in %s' % (SHAPES[a], SHAPES[b]))
+    group('random pairs of 4 and 12, four spellings')
+    for m, n, letters in ((5, 160, 5), (20, 400, 4)):
+        for a, b in itertools.product(range(6), range(6)):
+            pairs = [(by_rule(a, m, 33, of_motif), by_rule(b, n, 34, of_molecule)) for of_motif, of_molecule in both_spellings(letters)]
+            assert len({window(*pair) for pair in pairs}) == 1
+            for pair in pairs:
+                exact(*pair, '%s in %s' % (SHAPES[a], SHAPES[b]))
+        group('pairs of %d and %d, four spellings' % (m, n))
+    for a in range(6):
+        s, t = by_rule(a, 1000, 14, 5), by_rule(a, 1000, 14, OTHER[5])
+        for p, q in ((s, t), (t, s)):
+            assert window(p, q) == (0, 1000)
+            exact(p, q, SHAPES[a] + ' in itself')
+    group('strands of 1000 in their other spelling')
+
+
 def files():
     for part in (settled, refusals, work_sizes, random_pairs):
         part()
     with_property(cuts_an_arc, 'windows that cut an arc', 50)
     with_property(is_tied, 'later windows as short', 50)
-    for part in (ends, long_pairs, periodic):
+    for part in (ends, long_pairs, periodic, spellings):
         part()
     return CASES.files()

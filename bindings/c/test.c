@@ -89,6 +89,8 @@ static void strands(void) {
     REFUSED(lakhido_check(BASES("AC"), MATES(0)), LAKHIDO_UNEQUAL_LENGTHS, LAKHIDO_MOLECULE, 0);
     REFUSED(lakhido_check(NONE, NONE), LAKHIDO_NO_BASES, LAKHIDO_MOLECULE, 0);
     REFUSED(lakhido_check(BASES("AXC"), MATES(0, 1, 2)), LAKHIDO_BAD_LETTER, LAKHIDO_MOLECULE, 1);
+    FOLDED(lakhido_check(BASES("ACGTU"), MATES(0, 1, 2, 4, 3)), 0, 1, 1);
+    REFUSED(lakhido_check(BASES("ATtU"), MATES(0, 1, 2, 3)), LAKHIDO_BAD_LETTER, LAKHIDO_MOLECULE, 2);
     REFUSED(lakhido_check(BASES("A"), MATES(1)), LAKHIDO_BAD_MATE, LAKHIDO_MOLECULE, 0);
     REFUSED(lakhido_check(BASES("AC"), MATES(1, 1)), LAKHIDO_MATES_NOT_MUTUAL, LAKHIDO_MOLECULE, 0);
     REFUSED(lakhido_check(BASES("ACGU"), MATES(2, 3, 0, 1)), LAKHIDO_ARCS_CROSS, LAKHIDO_MOLECULE, 1);
@@ -310,6 +312,35 @@ static void refused_batches(void) {
     HOLDS(!memcmp(cache, before, sizeof cache) && lists[0] == 65535 && lists[3] == 65535);
 }
 
+/* T and U match each other and no other letter; blocks keep the letter; two spellings of a motif are two entries, which take the one slot from each other. */
+static void t_and_u(void) {
+    FOLDED(lakhido_length(BASES("GT"), MATES(1, 0), BASES("GAU"), MATES(2, 1, 0), WORK(2, 3)), 2, 1, 1);
+    FOLDED(lakhido_length(BASES("T"), MATES(0), BASES("U"), MATES(0), WORK(1, 1)), 1, 0, 0);
+    FOLDED(lakhido_length(BASES("U"), MATES(0), BASES("T"), MATES(0), WORK(1, 1)), 1, 0, 0);
+    FOLDED(lakhido_length(BASES("T"), MATES(0), BASES("T"), MATES(0), WORK(1, 1)), 1, 0, 0);
+    FOLDED(lakhido_length(BASES("T"), MATES(0), BASES("ACG"), MATES(0, 1, 2), WORK(1, 3)), 0, 0, 0);
+    FOLDED(lakhido_show(BASES("GU"), MATES(1, 0), BASES("GAT"), MATES(2, 1, 0), places, 2, WORK(2, 3)), 2, 1, 1);
+    HOLDS(places[0] == 0 && places[1] == 2);
+    FOLDED(lakhido_verify(BASES("GU"), MATES(1, 0), BASES("GAT"), MATES(2, 1, 0), MATES(0, 2)), 1, 1, 1);
+    FOLDED(lakhido_verify(BASES("GU"), MATES(1, 0), BASES("GAC"), MATES(2, 1, 0), MATES(0, 2)), 0, 1, 1);
+    FOUND(lakhido_window(BASES("UA"), MATES(0, 1), BASES("UCTA"), MATES(0, 1, 2, 3), WORK(2, 4)), 2, 2, 0, 0);
+    REFUSED(lakhido_length(BASES("t"), MATES(0), BASES("T"), MATES(0), WORK(1, 1)), LAKHIDO_BAD_LETTER, LAKHIDO_MOTIF, 0);
+
+    memset(catalog, 0, sizeof catalog);
+    memset(cache, 0, sizeof cache);
+    FOLDED(lakhido_add(CATALOG, CACHE, 0, BASES("GAT"), MATES(2, 1, 0)), 0, 1, 1);
+    FOLDED(lakhido_add(CATALOG, CACHE, 1, BASES("GAU"), MATES(2, 1, 0)), 0, 1, 1);
+    HOLDS(catalog[30] == 'T' && catalog[LAKHIDO_BLOCK + 30] == 'U');
+    ACCEPTED(lakhido_query(CATALOG, CACHE, BASES("GT"), MATES(1, 0), QUERY_WORK, hits, 3), 2, 2);
+    HOLDS(hits[0] == 0 && hits[1] == 1 && cache[21] == 'T');
+    ACCEPTED(lakhido_query(CATALOG, CACHE, BASES("GT"), MATES(1, 0), QUERY_WORK, hits, 3), 2, 0);
+    ACCEPTED(lakhido_query(CATALOG, CACHE, BASES("GU"), MATES(1, 0), QUERY_WORK, hits, 3), 2, 2);
+    HOLDS(cache[21] == 'U');
+    put_motif(0, BASES("GU"), MATES(1, 0));
+    put_motif(1, BASES("GT"), MATES(1, 0));
+    BATCHED(lakhido_batch(CATALOG, CACHE, MOTIFS(2), QUERY_WORK, lists, 4), 2, (2, 2), (0, 2));
+}
+
 int main(void) {
     strands();
     direct_calls();
@@ -322,6 +353,7 @@ int main(void) {
     batches();
     most_motifs();
     refused_batches();
+    t_and_u();
     if (!failed) puts("ok");
     return failed;
 }

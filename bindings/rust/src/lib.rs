@@ -1,9 +1,10 @@
 //! Safe calls of Lakhido: motif search and an answer cache for folded RNA. The library is written and proved in Rattle; this crate hands it slices and
 //! gives back a [`Result`]. It has no dependencies.
 //!
-//! A molecule or a motif is a [`Strand`]: bases as bytes (`A`, `C`, `G`, `U`) and, for each base, the position of its mate, its own where it has
-//! no bond. Arcs are nested. An embedding gives the motif's positions rising positions of the molecule with the same bases, and two positions of the motif
-//! are an arc exactly when their places are. A molecule has at least one base; a motif may have none, and that empty motif embeds in every molecule, with
+//! A molecule or a motif is a [`Strand`]: bases as bytes (`A`, `C`, `G`, `T`, `U`) and, for each base, the position of its mate, its own where it has
+//! no bond. Arcs are nested. An embedding gives the motif's positions rising positions of the molecule with bases that match, and two positions of the motif
+//! are an arc exactly when their places are. Two bases match when they are the same letter, or both are among `T` and `U`; either is kept as it was
+//! delivered. A molecule has at least one base; a motif may have none, and that empty motif embeds in every molecule, with
 //! length 0, no places, and a window with start 0 and length 0.
 //!
 //! No call asks anything of its caller: every input is answered or refused, and a refused call changes no byte of any buffer. No call allocates;
@@ -59,6 +60,12 @@
 //! assert_eq!(batch.read, 2);
 //! assert_eq!((hits[0], hits[2], hits[3]), (1, 0, 1));
 //!
+//! // T and U match each other, so both spellings of a motif have the same hits. In the cache they are two motifs.
+//! for bases in [b"AU", b"AT"] {
+//!     let found = lakhido::query(&catalog, &mut cache, Strand::new(bases, &[0, 1]), &mut work, &mut hits)?;
+//!     assert_eq!((found.count, hits[0], found.searched), (1, 0, 2));
+//! }
+//!
 //! // A refusal says which rule, on which side, at which place.
 //! let refusal = lakhido::check(Strand::new(b"AXC", &[0, 1, 2])).unwrap_err();
 //! assert_eq!((refusal.reason, refusal.side, refusal.place), (Reason::BadLetter, Side::Molecule, 1));
@@ -110,7 +117,7 @@ pub const fn query_work_size(m: usize) -> usize {
 /// A borrowed molecule or motif. It may break any rule: the calls check it.
 #[derive(Clone, Copy, PartialEq, Eq, Debug)]
 pub struct Strand<'a> {
-    /// The letters.
+    /// The letters: `A`, `C`, `G`, `T` and `U`.
     pub bases: &'a [u8],
     /// For each base the position of its mate, its own where it has no bond.
     pub mates: &'a [u16],
@@ -290,7 +297,7 @@ pub fn remove(catalog: &mut [u8], cache: &mut [u8], number: usize) -> Result<(),
 /// byte in each block between one accepted call and the next.
 ///
 /// A cache block, or slot, keeps the answers of one motif; motifs whose key (sum of bytes and mates) is equal mod the number of blocks share one, and the
-/// later takes its place.
+/// later takes its place. Motifs are compared byte by byte: a spelling with `T` and one with `U` are two motifs here, with the same hits.
 ///
 /// `work` has at least [`query_work_size`] entries; what it holds before is of no matter, and what it holds after an accepted call is free.
 ///

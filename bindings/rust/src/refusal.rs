@@ -12,7 +12,7 @@ pub enum Reason {
     NoBases = 2,
     /// 3: more bases than the call takes. In a batch the place is the index of the lowest such motif.
     TooLong = 3,
-    /// 4: a base that is not A, C, G or U. The place is the lowest.
+    /// 4: a base that is not A, C, G, T or U. The place is the lowest.
     BadLetter = 4,
     /// 5: a mate that is no position. The place is the lowest base that has one.
     BadMate = 5,

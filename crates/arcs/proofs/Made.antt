@@ -8,7 +8,7 @@ use native.Mathlib.Decide.{decLt}
 use native.Mathlib.Omega.{arith}
 use lib.ListN.{length}
 use Rattle.lists.specs.Vocabulary.{nth}
-use Rattle.strand.specs.Strands.{isLetter}
+use Rattle.letters.specs.Letters.{isLetter}
 use Rattle.refusals.specs.Rules.{moleculeSide}
 use Rattle.lists.proofs.ListLaws.{every-at}
 use Rattle.embedding.specs.Row.{Closed, Split, IsRow, Bounds, unitAt, arcAt}

@@ -5,7 +5,8 @@ use mathlib.Core.Bool.{true}
 use mathlib.Core.List.{List}
 use lib.ListN.{length}
 use Rattle.lists.specs.Vocabulary.{nth, all}
-use Rattle.strand.specs.Strands.{Nested, isLetter}
+use Rattle.letters.specs.Letters.{isLetter}
+use Rattle.strand.specs.Strands.{Nested}
 use Rattle.refusals.specs.Rules.{moleculeSide}
 use Rattle.embedding.specs.Embedding.{lettersFit}
 use Rattle.embedding.specs.Row.{IsRow, Bounds}

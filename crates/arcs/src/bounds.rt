@@ -6,11 +6,11 @@ ghost use Prim.Native.Nat.{ℕ, _+_, _*_, _≤_, _<_};
 ghost use lib.Dec.{ltb};
 ghost use lib.ListN.{length};
 ghost use Rattle.lists.specs.Vocabulary.{nth, choose};
-ghost use Rattle.strand.specs.Strands.{lettersMatch};
+ghost use Rattle.letters.specs.Letters.{lettersMatch};
 ghost use Rattle.rows.specs.Rows.{Tables, boundAt};
 ghost use Rattle.arcs.specs.Arcs.{Bounded, AllStarts};
 
-// The bound after a base: one more where the base has the letter of the position that the bound is.
+// The bound after a base: one more where the position that the bound is matches the base.
 fn next(p: &[u8], bound: usize, base: u8) -> usize
     requires { ⌜ length (now p) ≤ 4096 ⌝ }
     ensures { λ r. ⌜ r ≡ choose (ltb bound (length (now (p .entry)))) (choose (lettersMatch (nth (now (p .entry)) bound) base) (bound + 1) bound) bound ⌝ }
@@ -18,7 +18,7 @@ fn next(p: &[u8], bound: usize, base: u8) -> usize
     if p.len() <= bound {
         return bound;
     }
-    if strand::letters_match(p[bound], base) {
+    if letters::joined_match(p[bound], base) {
         return bound + 1;
     }
     bound

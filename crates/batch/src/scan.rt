@@ -181,7 +181,7 @@ fn search_motif(
     }
 }
 
-// Search for every motif, one after the other: the processor learns the branches of each.
+// Search for every motif, one after the other, each in all the molecules that it has to be searched in.
 fn search_motifs(
     catalog: &[u8],
     bonds: &[u16],

@@ -1,6 +1,6 @@
 -- What is decoded from an encoded block is what was encoded, and an encoded block is sound.
 use mathlib.Core.Path.{_≡_, refl, sym, ap, ap₂, _∙_}
-use mathlib.Core.Bool.{true, false}
+use mathlib.Core.Bool.{true}
 use mathlib.Core.List.{List, [], _∷_, _++_, append-assoc}
 use Prim.Native.Nat.{ℕ, zero, suc, _+_, _-_, _*_, _/_, _%_, _<_, _≤_}
 use native.Mathlib.Omega.{arith}
@@ -10,10 +10,12 @@ use lib.ListN.{List·getD-eq-default, length, take, drop, replicate, length-appe
 use lib.Seq.{take-at, drop-at, ext-getD, getD-append-add}
 use lib.Dec.{lit<}
 use lib.Pow.{shr-shr}
-use borrow.Author.Tests.{eq-eqb, ne-eqb}
+use borrow.Author.Tests.{eq-eqb}
 use Rattle.lists.specs.Vocabulary.{nth, all, between}
-use Rattle.strand.specs.Strands.{strandOf, isLetter, isNested, Proper}
-use Rattle.lists.proofs.ListLaws.{length-tab, nth-tab, every-at, never, zeros-zero}
+use Rattle.letters.specs.Letters.{isLetter}
+use Rattle.letters.proofs.LetterLaws.{letter-byte}
+use Rattle.strand.specs.Strands.{strandOf, isNested, Proper}
+use Rattle.lists.proofs.ListLaws.{length-tab, nth-tab, every-at, zeros-zero}
 use Rattle.strand.proofs.VerdictLaws.{nested-test}
 use Rattle.octets.specs.Octets.{Bytes, isZero, word16, word32, bytes32, words, bytesOf}
 use Rattle.block.specs.Content.{sumTo, checksumOf, checksumOk, withChecksum, Kind, matesAt, lengthIn, matesIn, strandIn, padded, headOf, contentOf}
@@ -196,17 +198,10 @@ module _ (k : Kind) (own bases mates t : List ℕ) (ho : 2 + length own ≡ k .b
 
 -- ---- bytes
 
-letter-small : (side x : ℕ) → isLetter side x ≡ true → x < 256
-unfolding isLetter
-letter-small side x e = elim (decLt x 256) [ yes h ↦ h | no h ↦ never (sym (other h) ∙ e) ]
-  where
-    other : (x < 256 → ⊥) → isLetter side x ≡ false
-    other h = simp (ne-eqb x 65 (λ q. omega arith), ne-eqb x 67 (λ q. omega arith), ne-eqb x 71 (λ q. omega arith), ne-eqb x 85 (λ q. omega arith))
-
 small-letters : (side : ℕ) (l : List ℕ) → all (isLetter side) l ≡ true → Bytes l
 small-letters side l e i =
     elim (decLt i (length l)) [
-      | yes h ↦ letter-small side (nth l i) (every-at (λ j. isLetter side (nth l j)) (length l) i e h)
+      | yes h ↦ letter-byte side (nth l i) (every-at (λ j. isLetter side (nth l j)) (length l) i e h)
       | no h ↦ rw (List·getD-eq-default l 0 {n = i} (omega arith)) (lit< tt)
     ]
 

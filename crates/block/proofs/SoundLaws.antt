@@ -9,7 +9,8 @@ use lib.ListN.{length, drop, length-take, length-drop}
 use lib.Dec.{eqb}
 use borrow.Author.Tests.{eq-eqb, ne-eqb, lt-leb, le-leb, eqb-true, not-true}
 use Rattle.lists.specs.Vocabulary.{nth, every, all, between}
-use Rattle.strand.specs.Strands.{isLetter, isNested}
+use Rattle.letters.specs.Letters.{isLetter}
+use Rattle.strand.specs.Strands.{isNested}
 use Rattle.lists.proofs.ListLaws.{every-at, every-true, and-left, and-right, never, is-true, both-ways, zeros-not}
 use Rattle.octets.specs.Octets.{isZero, words, word32, bitOf, mapBit}
 use Rattle.block.specs.Content.{sumTo, checksumOf, checksumOk, Kind, moleculeKind, entryKind, matesAt, isEmpty, lengthIn, matesIn}

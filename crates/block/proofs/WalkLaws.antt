@@ -15,7 +15,7 @@ use Rattle.lists.specs.Vocabulary.{nth, every, all, between, choose}
 use Rattle.lists.proofs.ListLaws.{Tells, never, both-ways, every-at, every-true, zeros-at, nth-tab, length-tab, same-eq, same-all}
 use Rattle.strand.specs.Strands.{Inside, isNested}
 use Rattle.strand.proofs.VerdictLaws.{nested-yes}
-use Rattle.strand.proofs.LetterLaws.{least-none, least-next, least-end}
+use Rattle.letters.proofs.LetterLaws.{least-none, least-next, least-end}
 use Rattle.octets.specs.Octets.{Bytes, isZero, word16, words}
 use Rattle.block.specs.Content.{sumTo}
 use Rattle.block.specs.Walk.{lowSum, OneByte}

@@ -5,7 +5,8 @@ use mathlib.Core.Bool.{Bool, not, _&&_, _||_}
 use lib.ListN.{length, take, drop, replicate}
 use lib.Dec.{eqb, leb}
 use Rattle.lists.specs.Vocabulary.{nth, between, every, all, choose}
-use Rattle.strand.specs.Strands.{isLetter, isNested}
+use Rattle.letters.specs.Letters.{isLetter}
+use Rattle.strand.specs.Strands.{isNested}
 use Rattle.octets.specs.Octets.{isZero, mapBit, clearMap, mapBits}
 use Rattle.block.specs.Content.{blockSize, checksumOk, rechecked, Kind, moleculeKind, entryKind, matesAt, searchedAt, hitAt, isEmpty, lengthIn}
 use Rattle.block.specs.Content.{matesIn}

@@ -104,7 +104,7 @@ searchedIn s d = mapBit s searchedAt d
 unfoldable pub hitIn : List ℕ → ℕ → Bool
 hitIn s d = mapBit s hitAt d
 
--- The entry keeps this very motif: same bases, same mates. An empty block keeps none, not the one with no bases either.
+-- The entry keeps this very motif, byte by byte: same bases, same mates. An empty block keeps none, not the one with no bases either.
 unfoldable pub keepsMotif : List ℕ → Strand → Bool
 keepsMotif s q = not (isEmpty s) && sameStrand (motifIn s) q
 

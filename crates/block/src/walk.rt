@@ -2,7 +2,7 @@
 // the sum over all bytes passed, its own too, and whether its bytes keep their rule. In no loop does a branch depend on a byte, so the processor takes
 // several bytes at a time.
 use crate::layout;
-use strand::letters;
+use letters;
 use strand::levels;
 ghost use mathlib.Core.Path.{_≡_};
 ghost use mathlib.Core.Bool.{true};
@@ -10,7 +10,8 @@ ghost use Prim.Native.Nat.{_+_, _*_, _%_, _≤_, _<_};
 ghost use lib.ListN.{length, drop};
 ghost use Rattle.lists.specs.Vocabulary.{all, between, choose, nth};
 ghost use Rattle.lists.proofs.ListLaws.{Tells};
-ghost use Rattle.strand.specs.Strands.{isLetter, isNested, Inside};
+ghost use Rattle.letters.specs.Letters.{isLetter};
+ghost use Rattle.strand.specs.Strands.{isNested, Inside};
 ghost use Rattle.octets.specs.Octets.{isZero, words};
 ghost use Rattle.block.specs.Content.{blockSize, checksumAt, blockBases, searchedAt, sumTo};
 ghost use Rattle.block.specs.Block.{hitsOk};

@@ -16,7 +16,7 @@ pub fn fill(bytes: &mut [u8], words: &mut [u16], seed: usize) {
     let mut i = 0;
     while i < 162 {
         x = next(x);
-        set_byte(bytes, 48 + i, letter(x / 16 % 4));
+        set_byte(bytes, 48 + i, letter(x / 16 % 5));
         set_entry(words, i, i);
         i += 1;
     }

@@ -1,5 +1,6 @@
 -- The three demands hold: assembled from the claims of the crates.
-use Rattle.strand.specs.Strands.{lettersMatch}
+use Rattle.letters.specs.Letters.{lettersMatch}
+use Rattle.letters.proofs.Claims as letters
 use Rattle.strand.proofs.Claims as strand
 use Rattle.embedding.proofs.Claims as embedding
 use Rattle.embedding.specs.Longest.{embeds}
@@ -52,6 +53,13 @@ right-answer =
       empty-motif-matched = matcher.claims .empty-motif-matched;
       empty-motif-verified = embedding.claims .empty-motif-verified;
       empty-motif-windowed = window.claims .empty-motif-windowed;
+      letter = letters.claims .letter-says;
+      match = letters.claims .match-says;
+      check-respelled = strand.claims .check-respelled;
+      length-respelled = matcher.claims .length-respelled;
+      show-respelled = matcher.claims .show-respelled;
+      verify-respelled = embedding.claims .verify-respelled;
+      window-respelled = window.claims .window-respelled;
       add = calls.claims embeds .add-says;
       batch = batches.claims embeds .batch-accepted;
       batch-of-one = batches.claims embeds .batch-of-one;
@@ -67,6 +75,8 @@ every-history =
       refusals = history.claims .refusals;
       some-run = history.claims .some-run;
       empty-motif = λ B S es log ran ok. history.claims .empty-motif B S es log (history.claims .runs B S es log ran ok);
+      spellings = λ B S B′ S′ es es′ log log′ ran ok ran′ ok′.
+          history.claims .spellings (history.claims .runs B S es log ran ok) (history.claims .runs B′ S′ es′ log′ ran′ ok′);
     }
 
 pub demands : Demands

@@ -11,7 +11,9 @@ use lib.ListN.{length as len}
 use Rattle.lists.specs.Vocabulary.{nth}
 use Rattle.refusals.specs.Rules.{Refuses, RefusesBy, BatchNumbered, Keeps}
 use Rattle.refusals.specs.declared.Verdict.the-variants.{Accepted}
-use Rattle.strand.specs.Strands.{Strand, Inside, lettersMatch, checkVerdict, checkAnswer, CheckAccepts, CheckSays}
+use Rattle.letters.specs.Letters.{lettersMatch, ReadAlike}
+use Rattle.letters.specs.Statements.{LetterSays, MatchSays}
+use Rattle.strand.specs.Strands.{Strand, Inside, checkVerdict, checkAnswer, CheckAccepts, CheckSays}
 use Rattle.strand.specs.declared.Checked.the-variants as checks
 use Rattle.embedding.specs.Embedding.{EmbedsIn}
 use Rattle.embedding.specs.Windows.{WindowsSay}
@@ -33,7 +35,7 @@ use Rattle.calls.specs.Batch.{batchVerdict, batchOutcome}
 use Rattle.calls.specs.BatchStatements.{BatchAccepts, BatchLeaves, IsQuery, SlotsShared, MotifsRefuse, BatchOrder}
 use Rattle.history.specs.Model.{Event, Line}
 use Rattle.history.specs.History.{zeroed, Ran, admitted, SomeRun, SameRefusals, Decides, RunTheorem}
-use Rattle.history.specs.Statements.{EmptyMotifListsHeld}
+use Rattle.history.specs.Statements.{EmptyMotifListsHeld, SpellingsHitAlike}
 
 -- Demand 1, any input: whichever buffers a caller hands over, a call gives an answer or a numbered refusal, and a refusal changes no byte.
 pub record AnyInput : Type 0 where
@@ -111,6 +113,15 @@ pub record RightAnswer : Type 0 where
       → blockCount motifs ≡ 1 → IsQuery embeds catalog motifs work cache hits (batchOutcome embeds catalog motifs work cache hits)
   pub batch-shares : (catalog cache motifs : List ℕ) (work : ℕ) (hits : List ℕ) → batchVerdict catalog cache motifs work (len hits) ≡ Accepted
       → SlotsShared embeds catalog motifs work cache hits
+  -- 2.11: what a letter is, and when two bases match; two spellings of a motif, and two of a molecule, get the same answers of check and of the direct calls
+  pub letter : (side b : ℕ) → LetterSays side b
+  pub match : (x y : ℕ) → MatchSays x y
+  pub check-respelled : (q q′ qm : List ℕ) → ReadAlike q q′ → checkAnswer q qm ≡ checkAnswer q′ qm
+  pub length-respelled : (p pm q qm p′ q′ : List ℕ) (work : ℕ) → ReadAlike p p′ → ReadAlike q q′ → lengthAnswer p pm q qm work ≡ lengthAnswer p′ pm q′ qm work
+  pub show-respelled : (p pm q qm p′ q′ : List ℕ) (places work : ℕ) → ReadAlike p p′ → ReadAlike q q′
+      → showAnswer p pm q qm places work ≡ showAnswer p′ pm q′ qm places work
+  pub verify-respelled : (p pm q qm p′ q′ v : List ℕ) → ReadAlike p p′ → ReadAlike q q′ → verifyAnswer p pm q qm v ≡ verifyAnswer p′ pm q′ qm v
+  pub window-respelled : (p pm q qm p′ q′ : List ℕ) (work : ℕ) → ReadAlike p p′ → ReadAlike q q′ → windowAnswer p pm q qm work ≡ windowAnswer p′ pm q′ qm work
 
 -- Demand 3, every history of add, remove, query and batch.
 pub record EveryHistory : Type 0 where
@@ -126,6 +137,10 @@ pub record EveryHistory : Type 0 where
   pub some-run : SomeRun embeds
   -- 3.5: in the runs of 3.2 each accepted query of the motif with no bases, by itself or in a batch, lists just the numbers then held
   pub empty-motif : (B S : ℕ) (es : List Event) (log : List Line) → Ran embeds (zeroed B S) es log → admitted embeds B S es ≡ true → EmptyMotifListsHeld log
+  -- 3.6: two queries of such runs, by themselves or in batches, whose motifs are two spellings, with the same molecules held in whichever spelling, list the
+  -- same hits
+  pub spellings : (B S B′ S′ : ℕ) (es es′ : List Event) (log log′ : List Line) → Ran embeds (zeroed B S) es log → admitted embeds B S es ≡ true
+      → Ran embeds (zeroed B′ S′) es′ log′ → admitted embeds B′ S′ es′ ≡ true → SpellingsHitAlike log log′
 
 pub record Demands : Type 0 where
   pub any-input : AnyInput

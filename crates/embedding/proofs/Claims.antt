@@ -15,7 +15,8 @@ use Rattle.refusals.specs.declared.Verdict.{Verdict}
 use Rattle.refusals.specs.declared.Verdict.the-variants as verdict
 use Rattle.refusals.specs.Rules.{noSide, wrongSlice, refuseIf, first}
 use Rattle.refusals.proofs.RuleLaws.{by-accepted, by-refused}
-use Rattle.strand.specs.Strands.{Strand, emptyMotif, lettersMatch, checkVerdict, Inside}
+use Rattle.letters.specs.Letters.{lettersMatch}
+use Rattle.strand.specs.Strands.{Strand, emptyMotif, checkVerdict, Inside}
 use Rattle.strand.proofs.Claims as strand
 use Rattle.embedding.specs.Embedding.{ClosedPrefix, IsLongest}
 use Rattle.embedding.specs.Longest.{closedTo, placesOk, longest, verified, verifyVerdict, EmptyMotifVerified, embeds}
@@ -25,6 +26,7 @@ use Rattle.embedding.proofs.Answers.{not-true-is}
 use Rattle.embedding.proofs.VerifyLaws.{answer-refused, answer-yes, verify-says, verify-accepts, verify-refuses}
 use Rattle.embedding.proofs.Computed.{closed-iff, longest-best, verified-iff}
 use Rattle.embedding.proofs.Tightest.{windows-say}
+use Rattle.embedding.proofs.Spellings.{same-found, not-told-apart, embed-alike, verify-alike}
 
 -- A closed prefix in 01's words and by its mates.
 closed-mates : {mate : ℕ → ℕ} {m : ℕ} → Inside mate m → (k : ℕ) → k ≤ m → ClosedPrefix mate m k → Closed mate 0 k
@@ -120,4 +122,8 @@ claims =
       empty-motif = empty-motif;
       empty-motif-verified = empty-motif-verified;
       empty-motif-test = empty-motif-test;
+      same-found = λ rule p q p′ q′ pm qm N. same-found rule N pm qm;
+      spellings = λ p q p′ q′ P Q. not-told-apart P Q;
+      embed-alike = embed-alike;
+      verify-respelled = λ p pm q qm p′ q′ v P Q. verify-alike P Q pm qm v;
     }

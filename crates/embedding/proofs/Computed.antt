@@ -10,7 +10,8 @@ use lib.ListN.{length}
 use borrow.Author.Tests.{lt-ltb, ltb-true, eqb-true, eq-eqb}
 use Rattle.lists.specs.Vocabulary.{nth, every, someList, tab}
 use Rattle.embedding.specs.Embedding.{fits, Emb, Embeds}
-use Rattle.strand.specs.Strands.{Strand, Inside, lettersMatch}
+use Rattle.letters.specs.Letters.{lettersMatch}
+use Rattle.strand.specs.Strands.{Strand, Inside}
 use Rattle.embedding.specs.Longest.{placesOk, closedTo, prefixOk, longest, verified, embeds}
 use Rattle.embedding.specs.Row.{Closed, Best}
 use Rattle.lists.proofs.ListLaws.{and-true, every-at, every-true, length-tab, nth-tab}

@@ -12,5 +12,6 @@ pub mod Computed
 pub mod WindowLaws
 pub mod Tightest
 mod VerifyLaws
+pub mod Spellings
 pub mod Claims
 mod Placing

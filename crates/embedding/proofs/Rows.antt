@@ -47,7 +47,7 @@ module _ {fit : ℕ → ℕ → Bool} {pm qm : ℕ → ℕ} {z : ℕ} where
         let B = A .best j g h in
         combine (omega arith) (omega arith) before-right B (unit-best (f j) r (B .reach .upto))
 
-    -- The entry for j. Where the left end has the letter of j, the inner row has an entry for j + 1.
+    -- The entry for j. Where j matches the left end, the inner row has an entry for j + 1.
     module _ (j : ℕ) (g : lo ≤ j) (h : j ≤ hi) (next : j < z → fit j l ≡ true → suc j ≤ hi) where
       B : Best fit pm qm z j (unitAt (λ x. fit x r) pm z (f j)) (suc l) (suc r)
       B = inner-right j g h

@@ -12,7 +12,8 @@ use Rattle.refusals.specs.declared.Verdict.the-variants as verdict
 use Rattle.lists.specs.Vocabulary.{nth, choose}
 use Rattle.strand.specs.declared.Fold.{Fold}
 use Rattle.strand.specs.Folds.{foldOf, IsFold}
-use Rattle.strand.specs.Strands.{lettersMatch, Inside, Nested, greatestLength, pairVerdict}
+use Rattle.letters.specs.Letters.{lettersMatch}
+use Rattle.strand.specs.Strands.{Inside, Nested, greatestLength, pairVerdict}
 use Rattle.refusals.specs.Rules.{noSide, refusal, Refuses}
 use Rattle.lists.proofs.ListLaws.{not-not, choose-yes, choose-no}
 use Rattle.refusals.proofs.RuleLaws.{first-one, first-pass, first-skip, first-stop, rule-yes, rule-no, rule-pass, by-refused, by-accepted}

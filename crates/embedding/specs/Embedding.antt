@@ -7,13 +7,14 @@ use mathlib.Core.Logic.{_↔_}
 use mathlib.Core.List.{List}
 use lib.ListN.{length}
 use Rattle.lists.specs.Vocabulary.{nth}
-use Rattle.strand.specs.Strands.{Strand, lettersMatch}
+use Rattle.letters.specs.Letters.{lettersMatch}
+use Rattle.strand.specs.Strands.{Strand}
 
 -- 01, bases: position x of P may go to position u of Q where the rule, motif letter first, passes on their letters.
 abbrev pub fits : (ℕ → ℕ → Bool) → List ℕ → List ℕ → ℕ → ℕ → Bool
 fits rule pb qb x u = rule (nth pb x) (nth qb u)
 
--- 01, bases: the two bases are equal, which means the same byte.
+-- 01, bases, by the rule of 02, (vi): the two bases are the same byte, or both are among T and U.
 abbrev pub lettersFit : List ℕ → List ℕ → ℕ → ℕ → Bool
 lettersFit pb qb = fits lettersMatch pb qb
 

@@ -5,7 +5,7 @@ use mathlib.Core.Bool.{Bool, true, _&&_, _||_}
 use mathlib.Core.List.{List, [], _∷_}
 use lib.Dec.{eqb}
 use lib.ListN.{length}
-use Rattle.strand.specs.Strands.{lettersMatch}
+use Rattle.letters.specs.Letters.{lettersMatch}
 use Rattle.lists.specs.Vocabulary.{choose, some, every, someList, largest}
 use Rattle.embedding.specs.Longest.{placesOk, closedTo, prefixOk, longest, verified}
 

@@ -13,7 +13,8 @@ use Rattle.refusals.specs.declared.Verdict.the-variants.{Accepted}
 use Rattle.refusals.specs.Rules.{noSide, wrongSlice, refuseIf, first, byVerdict}
 use Rattle.strand.specs.declared.Fold.{Fold}
 use Rattle.strand.specs.Folds.{foldOf, IsFold}
-use Rattle.strand.specs.Strands.{Strand, lettersMatch, checkVerdict, pairVerdict, Pair}
+use Rattle.letters.specs.Letters.{lettersMatch}
+use Rattle.strand.specs.Strands.{Strand, checkVerdict, pairVerdict, Pair}
 use Rattle.embedding.specs.declared.Verified.{Verified}
 use Rattle.embedding.specs.declared.Verified.the-variants.{Yes, No, Refused}
 

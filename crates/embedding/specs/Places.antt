@@ -6,7 +6,7 @@ use mathlib.Core.List.{List}
 use mathlib.Core.Logic.{_↔_}
 use lib.ListN.{length}
 use Rattle.lists.specs.Vocabulary.{nth}
-use Rattle.strand.specs.Strands.{lettersMatch}
+use Rattle.letters.specs.Letters.{lettersMatch}
 
 -- The places rise, and are below n.
 pub record Ordered (v : List ℕ) (n : ℕ) : Type 0 where

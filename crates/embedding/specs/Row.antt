@@ -37,21 +37,21 @@ pub record Bounds (fit : ℕ → ℕ → Bool) (z s e : ℕ) (b : ℕ → ℕ) :
   pub rise : (i : ℕ) → s ≤ i → i < e → b i ≤ b (suc i)
   pub step : (i j : ℕ) → s ≤ i → i < e → j < z → j ≤ b i → fit j i ≡ true → j < b (suc i)
 
--- The row of one unbonded base: it takes position k if k is no left end and `has` its letter.
+-- The row of one unbonded base: it takes position k if k is no left end and `has` says that it matches k.
 unfoldable pub unitAt : (ℕ → Bool) → (ℕ → ℕ) → ℕ → ℕ → ℕ
 unitAt has pm z k = choose (ltb k z) (choose (leb (pm k) k) (choose (has k) (suc k) k) k) k
 
--- What an arc of Q takes from j with its left end, by values: whether j has the letter of the left end, whether the mate k of j has that of the right
--- end, and the inner row's entry `next` for j + 1. It is j alone and on to `next`; or the arc of P from j, if it ends before z and all between its
+-- What an arc of Q takes from j with its left end, by values: whether j matches the left end, whether the mate k of j matches the right end,
+-- and the inner row's entry `next` for j + 1. It is j alone and on to `next`; or the arc of P from j, if it ends before z and all between its
 -- ends is taken; or nothing.
 unfoldable pub overBy : Bool → Bool → ℕ → ℕ → ℕ → ℕ → ℕ
 overBy left right k z next j = choose left (choose (leb k j) next (choose (ltb k z) (choose right (choose (leb k next) (suc k) 0) 0) 0)) 0
 
--- The same in a segment that ends at z; `left` and `right` say which positions have the letters of the ends.
+-- The same in a segment that ends at z; `left` and `right` say which positions match the ends.
 unfoldable pub overAt : (ℕ → Bool) → (ℕ → Bool) → (ℕ → ℕ) → ℕ → ℕ → ℕ → ℕ
 overAt left right pm z next j = choose (ltb j z) (overBy (left j) (right (pm j)) (pm j) z next j) 0
 
 -- The entry for j of an arc of Q, from its inner row's entries `here` for j and `next` for j + 1; `left` and `right` say which positions
--- have the letters of its ends.
+-- match its ends.
 abbrev pub arcAt : (ℕ → Bool) → (ℕ → Bool) → (ℕ → ℕ) → ℕ → ℕ → ℕ → ℕ → ℕ
 arcAt left right pm z here next j = max (unitAt right pm z here) (overAt left right pm z next j)

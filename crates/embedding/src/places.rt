@@ -38,7 +38,7 @@ fn same_letters(p: &[u8], q: &[u8], places: &[u16]) -> bool
     let mut i = 0;
     while i < places.len() {
         let x = places[i] as usize;
-        if !strand::letters_match(p[i], q[x]) {
+        if !letters::letters_match(p[i], q[x]) {
             return false;
         }
         i += 1;

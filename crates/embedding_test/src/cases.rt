@@ -45,7 +45,7 @@ fn cases(text: &[u8]) {
 }
 
 fn read() {
-    let mut text = io::buffer();
+    let mut text = io::large_buffer();
     let n = io::read_full(STDIN_FILENO, &mut text);
     cases(&text[..n]);
 }

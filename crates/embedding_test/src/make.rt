@@ -31,7 +31,15 @@ fn fold(mates: &mut [u16], stack: &mut [u16], depth: usize, i: usize, d: usize) 
     depth + 1
 }
 
-// A random nested strand of the first `kinds` letters: writes bases and mates, and gives the next random number.
+// One of the first letters, as many as `kinds` says and one more; for 5 one of G, U and T.
+fn base(kinds: usize, x: usize) -> usize {
+    if kinds == 5 {
+        return letter(2 + x % 3);
+    }
+    letter(x % (kinds % 5 + 1))
+}
+
+// A random nested strand of the letters that `kinds` says: writes bases and mates, and gives the next random number.
 pub fn nested(
     seed: usize,
     kinds: usize,
@@ -44,7 +52,7 @@ pub fn nested(
     let mut i = 0;
     while i < mates.len() {
         x = next(x);
-        set_byte(bases, i, letter(x / 7 % (kinds % 4 + 1)));
+        set_byte(bases, i, base(kinds, x / 7));
         x = next(x);
         depth = fold(mates, stack, depth, i, x / 5 % 4);
         i += 1;

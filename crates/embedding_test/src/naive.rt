@@ -1,7 +1,9 @@
 // The definition of an embedding, written out.
+use testing::brute::bases_match;
+use testing::slices::byte_at;
 use testing::slices::entry_at;
 
-// The definition at the positions x and y: the place of y lies in the molecule and its base is the same; and where x lies before y, the
+// The definition at the positions x and y: the place of y lies in the molecule and its base matches; and where x lies before y, the
 // places rise, and x and y are an arc exactly when their places are.
 fn pair_fits(
     p: &[u8],
@@ -20,7 +22,7 @@ fn pair_fits(
     if q.len() <= v {
         return false;
     }
-    if p[y] != q[v] {
+    if !bases_match(byte_at(p, y), byte_at(q, v)) {
         return false;
     }
     if y <= x {

@@ -180,9 +180,10 @@ fn tell(name: &[u8], t: Tally) {
     say(b"\n");
 }
 
-// Of 1, 2 and 4 letters.
+// Of 1, 2 and 5 letters, and of three of which two match each other.
 pub fn run() {
     tell(b"all lists, 1 letter: wrong", pairs(50, 0));
     tell(b"all lists, 2 letters: wrong", pairs(50, 1));
-    tell(b"all lists, 4 letters: wrong", pairs(50, 3));
+    tell(b"all lists, 5 letters: wrong", pairs(50, 4));
+    tell(b"all lists, G, U and T: wrong", pairs(50, 5));
 }

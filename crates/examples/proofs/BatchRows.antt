@@ -12,7 +12,8 @@ use lib.Seq.{ext-getD, getD-append-add, take-at}
 use Rattle.lists.specs.Vocabulary.{nth, choose, every, some, lowestFrom, lowest, largest, select, tab, someList, total, sameList, putAt}
 use Rattle.lists.proofs.Stretches.{length-stretch, nth-stretch}
 use Rattle.lists.proofs.ListLaws.{lowest-all, lowest-found}
-use Rattle.strand.specs.Strands.{Strand, sameStrand, key, lettersMatch, isLetter, notLetter, mateOutside, notMutual, crosses, crossedAt, strandVerdict}
+use Rattle.letters.specs.Letters.{lettersMatch, isLetter, notLetter}
+use Rattle.strand.specs.Strands.{Strand, sameStrand, key, mateOutside, notMutual, crosses, crossedAt, strandVerdict}
 use Rattle.refusals.specs.Rules.{motifSide, noSide, badMotifs, wrongSlice, refusal, first, refuseIf, refuseAtLowest, byVerdict, workRule}
 use Rattle.refusals.proofs.RuleLaws.{first-skip, first-stop}
 use Rattle.refusals.specs.declared.Verdict.the-variants.{Accepted}

@@ -1,20 +1,24 @@
 -- The rows of blocks byte by byte: their checksums in one walk, the rest by computing.
 use mathlib.Core.Path.{_≡_, refl}
-use mathlib.Core.List.{[], _++_}
+use mathlib.Core.List.{[], _∷_, _++_}
 use Rattle.lists.specs.Vocabulary.{choose, tab}
 use Rattle.octets.specs.Octets.{bytesOf, mapBytes, bitSum}
 use Rattle.block.specs.Content.{moleculeKind, entryKind, contentOf, strandBlock, entryWith, encodeMolecule, encodeEntry}
 use Rattle.block.proofs.SumLaws.{weighed}
 use Rattle.block.proofs.PartLaws.{check-walk}
 use Rattle.history.specs.Examples.{bonded}
-use Rattle.strand.specs.Strands.{emptyMotif}
+use Rattle.strand.specs.Strands.{strandOf, emptyMotif}
 use Rattle.block.specs.Motif.{encodeMotif}
 use Rattle.block.proofs.Claims as block
-use Rattle.examples.specs.Table.{a, bytesOfA, bytesOfGC, wasSearched, wasHit, bytesOfEntry, bytesOfEmptyMotif, bytesOfEmptyMotifEntry}
+use Rattle.examples.specs.Table.{a, bytesOfA, bytesOfT, bytesOfGC, wasSearched, wasHit, bytesOfEntry, bytesOfEmptyMotif, bytesOfEmptyMotifEntry}
 
 pub a-bytes : encodeMolecule a ≡ bytesOfA
 unfolding bytesOfA encodeMolecule strandBlock contentOf bytesOf weighed
 a-bytes = check-walk (contentOf moleculeKind [] (a .bases) (a .mates)) refl
+
+pub t-bytes : encodeMolecule (strandOf (84 ∷ []) (0 ∷ [])) ≡ bytesOfT
+unfolding bytesOfT encodeMolecule strandBlock contentOf bytesOf weighed
+t-bytes = check-walk (contentOf moleculeKind [] (84 ∷ []) (0 ∷ [])) refl
 
 pub gc-bytes : encodeMolecule bonded ≡ bytesOfGC
 unfolding bytesOfGC encodeMolecule strandBlock contentOf bytesOf weighed

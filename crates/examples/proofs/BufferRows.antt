@@ -9,7 +9,8 @@ use lib.ListN.{length, replicate, set, length-replicate, length-set}
 use lib.Seq.{length-sets, getD-set-same}
 use Rattle.lists.specs.Vocabulary.{nth, choose, some, lowestFrom, lowest}
 use Rattle.refusals.specs.Rules.{noSide, refusal, first, refuseIf, refuseAtLowest}
-use Rattle.strand.specs.Strands.{isLetter, notLetter, mateOutside, notMutual, crosses, crossedAt, strandVerdict}
+use Rattle.letters.specs.Letters.{isLetter, notLetter}
+use Rattle.strand.specs.Strands.{mateOutside, notMutual, crosses, crossedAt, strandVerdict}
 use Rattle.refusals.specs.declared.Verdict.the-variants.{Accepted}
 use Rattle.lists.proofs.ListLaws.{lowest-all, lowest-found}
 use Rattle.octets.specs.Octets.{bytes32}

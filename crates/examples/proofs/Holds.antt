@@ -2,7 +2,8 @@
 use mathlib.Core.Path.{refl}
 use mathlib.Core.List.{List, [], _∷_, _++_}
 use Rattle.lists.specs.Vocabulary.{choose, every, some, lowestFrom, lowest, largest, select, tab, someList, total, putAt}
-use Rattle.strand.specs.Strands.{lettersMatch, isLetter, notLetter, mateOutside, notMutual, crosses, crossedAt, strandVerdict, checkVerdict, checkAnswer}
+use Rattle.letters.specs.Letters.{lettersMatch, isLetter, notLetter}
+use Rattle.strand.specs.Strands.{mateOutside, notMutual, crosses, crossedAt, strandVerdict, checkVerdict, checkAnswer}
 use Rattle.strand.specs.Strands.{pairVerdict, key}
 use Rattle.strand.specs.Folds.{begins, arcCount, liesInside, isChain, depthOf}
 use Rattle.refusals.specs.Rules.{first, refuseIf, refuseAtLowest, byVerdict}
@@ -18,13 +19,13 @@ use Rattle.calls.specs.Calls.{refusedBy}
 use Rattle.history.specs.Model.{add, remove, batch, endsPeriod, start, heldIn, modelVerdict, modelAnswer, modelNext, modelResult, modelAfter, modelLog}
 use Rattle.history.specs.History.{atMostOnce, admittedFrom, admitted}
 use Rattle.history.specs.Examples.{Story, resultsOf, ByModel, AllByModel, stories, bonded, ask, settledStory, reusedStory}
-use Rattle.history.specs.Examples.{sharedSlotStory, emptyMotifStory, batchStory, longMotif as long}
+use Rattle.history.specs.Examples.{sharedSlotStory, emptyMotifStory, spellingsStory, oneSlotSpellings, batchStory, longMotif as long}
 use Rattle.history.proofs.Computed as computed
 use Rattle.history.proofs.Stories.{by-runs}
 use Rattle.examples.specs.Table.{Row, story, screenText, VerifiedAt, Holds, AllHold, a, screenInput, screenPrints, longMotif, fewHits, numberTwo}
 use Rattle.examples.specs.Table.{addedTwice, removedEmpty, emptyAdded, refusals, settledRows, also, folds, windows, emptyMotifs, togetherStory}
-use Rattle.examples.specs.Table.{batches, table, TableHolds}
-use Rattle.examples.proofs.BlockRows.{a-bytes, gc-bytes, entry-bytes, empty-motif-bytes, empty-motif-entry-bytes}
+use Rattle.examples.specs.Table.{batches, spellings, table, TableHolds}
+use Rattle.examples.proofs.BlockRows.{a-bytes, t-bytes, gc-bytes, entry-bytes, empty-motif-bytes, empty-motif-entry-bytes}
 use Rattle.examples.proofs.BufferRows.{uneven-refused, unsound-refused}
 use Rattle.examples.proofs.ScreenRow.{screen-prints, empty-motif-prints, empty-block-prints}
 use Rattle.examples.proofs.BatchRows.{no-block, seventeen-blocks, byte-more, empty-second, unsound-third, long-second, few-hits, little-work, together}
@@ -93,11 +94,13 @@ settled-hold =
     & tt
 
 -- The table's stories among those of crate history.
-own-stories : ByModel settledStory × ByModel reusedStory × ByModel sharedSlotStory × ByModel emptyMotifStory × ByModel batchStory
+own-stories : ByModel settledStory × ByModel reusedStory × ByModel sharedSlotStory × ByModel emptyMotifStory × ByModel batchStory × ByModel spellingsStory
+    × ByModel oneSlotSpellings
 unfolding AllByModel stories
 own-stories =
     let altered-and-on = computed.settled .1 .1 .1 in
-    (computed.settled .0, computed.settled .1 .0, computed.settled .1 .1 .0, altered-and-on .1 .0, altered-and-on .1 .1 .0)
+    let spelled-and-on = altered-and-on .1 .1 in
+    (computed.settled .0, computed.settled .1 .0, computed.settled .1 .1 .0, altered-and-on .1 .0, spelled-and-on .1 .1 .0, spelled-and-on .0, spelled-and-on .1 .0)
 
 also-hold : AllHold also
 unfolding also AllHold Holds
@@ -167,6 +170,29 @@ batches-hold =
     & by-model batchStory (own-stories .4)
     & tt
 
+spellings-hold : AllHold spellings
+unfolding spellings AllHold Holds exampleOk verified VerifiedAt windowAnswer windowOf tightestLength firstStart someCarries carries windowMate
+    checkVerdict checkAnswer motifVerdict matcher.lengthVerdict matcher.lengthAnswer matcher.showVerdict matcher.showAnswer verify.verifyVerdict byVerdict
+    pairVerdict strandVerdict first refuseIf refuseAtLowest choose every some someList lowestFrom lowest tab isLetter notLetter mateOutside notMutual crosses
+    crossedAt lettersMatch longest largest prefixOk closedTo placesOk select begins arcCount liesInside isChain depthOf key total
+spellings-hold =
+    (refl, refl, refl, refl)
+    & (refl, refl, refl, refl)
+    & (refl, refl, refl, refl)
+    & (refl, refl, refl, refl)
+    & (refl, refl, refl, tt)
+    & (refl, refl, refl, tt)
+    & refl
+    & refl
+    & (refl, refl)
+    & (refl, refl)
+    & refl
+    & refl
+    & by-model spellingsStory (own-stories .5)
+    & by-model oneSlotSpellings (own-stories .6)
+    & t-bytes
+    & tt
+
 both : (rs ss : List Row) → AllHold rs → AllHold ss → AllHold (rs ++ ss)
 unfolding AllHold
 both [] ss h k = k
@@ -181,4 +207,4 @@ unfolding table
 holds =
     let front = both refusals _ refusals-hold screen-hold in
     let requests = both _ windows (both _ folds (both _ also front also-hold) folds-hold) windows-hold in
-    both _ batches (both _ emptyMotifs requests empty-motifs-hold) batches-hold
+    both _ spellings (both _ batches (both _ emptyMotifs requests empty-motifs-hold) batches-hold) spellings-hold

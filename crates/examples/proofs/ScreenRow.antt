@@ -11,7 +11,8 @@ use borrow.Author.Tests.{le-leb}
 use lib.ListN.{length, take, drop, replicate, length-append, length-replicate}
 use lib.Seq.{take-at, drop-at, take-all}
 use Rattle.lists.specs.Vocabulary.{choose, every, some, lowestFrom, lowest, largest, select, someList, total, sameList, putAt}
-use Rattle.strand.specs.Strands.{Strand, emptyMotif, Proper, sameStrand, key, lettersMatch, isLetter, notLetter, mateOutside, notMutual, crosses, crossedAt}
+use Rattle.letters.specs.Letters.{lettersMatch, isLetter, notLetter}
+use Rattle.strand.specs.Strands.{Strand, emptyMotif, Proper, sameStrand, key, mateOutside, notMutual, crosses, crossedAt}
 use Rattle.strand.specs.Strands.{strandVerdict, leastMotif}
 use Rattle.refusals.specs.Rules.{motifSide, noSide, notWholeBlocks, numberTooLarge, alreadyHeld, first, refuseIf, refuseAtLowest, byVerdict}
 use Rattle.refusals.specs.declared.Verdict.the-variants.{Accepted}

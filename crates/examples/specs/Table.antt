@@ -1,7 +1,7 @@
 -- All of 01's examples, in its order: the small examples of the table of refusals, row 8's with 136 entries, the printed example of the
 -- screen program, the nine rows of the table of settled examples, the check 1888, three blocks byte by byte, the keys 139, the story with
 -- B = 2 and S = 1, the last of the plausible and false ways, a number used again (the others are in rows 6, 3, 7 and in the story), and a
--- story with S = 2. Behind them rows for 02, (i) to (iii) and (v). Each is a row of `table`; that they all hold is `TableHolds`, and `holds`, in
+-- story with S = 2. Behind them rows for 02, (i) to (iii), (v) and (vi). Each is a row of `table`; that they all hold is `TableHolds`, and `holds`, in
 -- proofs/Holds, proves it by the definitions that the contracts of the calls cite.
 use Prim.Native.Nat.{ℕ}
 use mathlib.Core.Path.{_≡_}
@@ -35,6 +35,7 @@ use Rattle.calls.specs.Calls.{Result, refused, done, found, foundAll}
 use Rattle.history.specs.Model.{Call, add, remove, query, batch, Event, call, Line, gave}
 use Rattle.history.specs.History.{Buffers, zeroed, Ran}
 use Rattle.history.specs.Examples.{Story, ByModel, ByRuns, gac, ggc, bonded, unbonded, ask, settledStory, reusedStory, sharedSlotStory, emptyMotifStory}
+use Rattle.history.specs.Examples.{spellingsStory, oneSlotSpellings}
 use Rattle.history.specs.Examples.{longMotif as long, handedIn, oneHandedIn, foundOf, batchStory}
 use Rattle.screening.specs.Screen.{screenOutput}
 
@@ -117,7 +118,7 @@ directRefusal number = record { number = number; side = noSide; place = 0 }
 abbrev pub notMatched : ℕ → Matched
 notMatched number = matched.Refused (directRefusal number)
 
--- A 65, C 67, G 71, U 85, X 88
+-- A 65, C 67, G 71, T 84, U 85, X 88, small t 116
 abbrev pub a : Strand
 a = strandOf (65 ∷ []) (0 ∷ [])
 
@@ -162,7 +163,7 @@ screenInput = encodeMolecule a ++ (encodeMolecule a ++ emptyBlock)
 abbrev pub screenPrints : List ℕ
 screenPrints = 104 ∷ 105 ∷ 116 ∷ 115 ∷ 32 ∷ 49 ∷ 32 ∷ 115 ∷ 101 ∷ 97 ∷ 114 ∷ 99 ∷ 104 ∷ 101 ∷ 100 ∷ 32 ∷ 49 ∷ 10 ∷ 48 ∷ 10 ∷ []
 
--- Three blocks byte by byte, written from 01's sentences, which the comments quote, and by no definition of the library.
+-- Four blocks byte by byte, written from 01's sentences, which the comments quote, and by no definition of the library.
 abbrev zeros : ℕ → List ℕ
 zeros n = replicate n 0
 
@@ -177,6 +178,10 @@ bytesOfA =
     ++ (0 ∷ 0 ∷ zeros 318)
     -- "bytes 508 to 511, little-endian"
     ++ (96 ∷ 7 ∷ 0 ∷ 0 ∷ [])
+
+-- The block of T, 0: the same but for the base and the checksum, 1 + 2 + 29 × 84 = 2439 = 135 + 256 × 9.
+unfoldable pub bytesOfT : List ℕ
+bytesOfT = (1 ∷ 1 ∷ zeros 26) ++ (84 ∷ zeros 159) ++ (0 ∷ 0 ∷ zeros 318) ++ (135 ∷ 9 ∷ 0 ∷ 0 ∷ [])
 
 -- The block of GC, 1 0. Its checksum is 4263 = 167 + 256 × 16.
 unfoldable pub bytesOfGC : List ℕ
@@ -436,9 +441,41 @@ batches =
     ∷ story batchStory
     ∷ []
 
+-- A motif and a molecule, L, and places of the whole motif where it embeds.
+abbrev spelling : Strand → Strand → ℕ → List ℕ → Row
+spelling p q best places =
+    settledRow (record { pb = p .bases; pm = p .mates; qb = q .bases; qm = q .mates; best = best; places = places })
+
+-- 02, (vi): T reads as U.
+unfoldable pub spellings : List Row
+spellings =
+    -- "Two bases now match when they are the same byte or both are among T and U.": GT 1 0 in GAU 2 1 0, T in U, U in T, T in T
+    spelling (strandOf (71 ∷ 84 ∷ []) (1 ∷ 0 ∷ [])) (strandOf (71 ∷ 65 ∷ 85 ∷ []) (2 ∷ 1 ∷ 0 ∷ [])) 2 (0 ∷ 2 ∷ [])
+    ∷ spelling (strandOf (84 ∷ []) (0 ∷ [])) (strandOf (85 ∷ []) (0 ∷ [])) 1 (0 ∷ [])
+    ∷ spelling (strandOf (85 ∷ []) (0 ∷ [])) (strandOf (84 ∷ []) (0 ∷ [])) 1 (0 ∷ [])
+    ∷ spelling (strandOf (84 ∷ []) (0 ∷ [])) (strandOf (84 ∷ []) (0 ∷ [])) 1 (0 ∷ [])
+    -- T is no other letter: T in A, C in T
+    ∷ spelling (strandOf (84 ∷ []) (0 ∷ [])) a 0 []
+    ∷ spelling (strandOf (67 ∷ []) (0 ∷ [])) (strandOf (84 ∷ []) (0 ∷ [])) 0 []
+    -- the tightest window of AGAUA, 0 3 2 1 4, for GT 1 0
+    ∷ windowCall (strandOf (71 ∷ 84 ∷ []) (1 ∷ 0 ∷ [])) (strandOf (65 ∷ 71 ∷ 65 ∷ 85 ∷ 65 ∷ []) (0 ∷ 3 ∷ 2 ∷ 1 ∷ 4 ∷ [])) 400
+    (windowed.At 1 3 (fold 1 1))
+    -- "T (byte 84) becomes a letter.": X and small letters are none
+    ∷ foldRow (strandOf (65 ∷ 84 ∷ []) (1 ∷ 0 ∷ [])) 1 1
+    ∷ refusedStrand (strandOf (65 ∷ 88 ∷ 67 ∷ []) (0 ∷ 1 ∷ 2 ∷ [])) 4 1
+    ∷ refusedStrand (strandOf (65 ∷ 84 ∷ 116 ∷ []) (0 ∷ 1 ∷ 2 ∷ [])) 4 2
+    -- "the shelf still compares motifs byte by byte": two keys, two entries, the same hits
+    ∷ keyRow (strandOf (71 ∷ 84 ∷ []) (1 ∷ 0 ∷ [])) 156
+    ∷ keyRow (strandOf (71 ∷ 85 ∷ []) (1 ∷ 0 ∷ [])) 157
+    ∷ story spellingsStory
+    ∷ story oneSlotSpellings
+    -- "Blocks keep the letter as delivered"
+    ∷ blockBytes (encodeMolecule (strandOf (84 ∷ []) (0 ∷ []))) bytesOfT
+    ∷ []
+
 -- All rows.
 unfoldable pub table : List Row
-table = refusals ++ (screenText screenInput screenPrints ∷ settledRows examples) ++ also ++ folds ++ windows ++ emptyMotifs ++ batches
+table = refusals ++ (screenText screenInput screenPrints ∷ settledRows examples) ++ also ++ folds ++ windows ++ emptyMotifs ++ batches ++ spellings
 
 -- The claim: every row of the table holds.
 abbrev pub TableHolds : Type 0

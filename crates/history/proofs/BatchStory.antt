@@ -8,7 +8,8 @@ use lib.Dec.{ltb}
 use lib.ListN.{length}
 use Rattle.lists.specs.Vocabulary.{choose, every, some, lowestFrom, lowest, largest, select, tab, someList, total, sameList, putAt}
 use Rattle.lists.proofs.ListLaws.{choose-yes, choose-no}
-use Rattle.strand.specs.Strands.{Strand, emptyMotif, sameStrand, key, lettersMatch, isLetter, notLetter, mateOutside, notMutual, crosses, crossedAt}
+use Rattle.letters.specs.Letters.{lettersMatch, isLetter, notLetter}
+use Rattle.strand.specs.Strands.{Strand, emptyMotif, sameStrand, key, mateOutside, notMutual, crosses, crossedAt}
 use Rattle.strand.specs.Strands.{strandVerdict}
 use Rattle.refusals.specs.Rules.{motifSide, noSide, tooLong, wrongSlice, badMotifs, refusal, first, refuseIf, refuseAtLowest, byVerdict, workRule}
 use Rattle.refusals.proofs.RuleLaws.{first-skip, first-stop, first-without}

@@ -1,7 +1,7 @@
 -- What is claimed of histories holds: the record of `specs/Statements` from the theorems.
 use Prim.Native.Nat.{ℕ}
 use mathlib.Core.List.{List}
-use Rattle.strand.specs.Strands.{lettersMatch}
+use Rattle.letters.specs.Letters.{lettersMatch}
 use Rattle.embedding.specs.Embedding.{EmbedsIn}
 use Rattle.embedding.specs.Longest.{embeds}
 use Rattle.embedding.proofs.Claims as embedding
@@ -10,6 +10,7 @@ use Rattle.history.specs.History.{RightLog}
 use Rattle.history.specs.Statements.{EmptyMotifListsHeld, Claims}
 use Rattle.history.proofs.Theorem as theorem
 use Rattle.history.proofs.Right.{query-right, batch-right}
+use Rattle.history.proofs.Spellings.{spellings}
 use Rattle.history.proofs.Computed as computed
 use Rattle.history.proofs.Stories as stories
 
@@ -31,6 +32,7 @@ claims =
       queries = λ B S es log r. query-right r;
       batches = λ B S es log r. batch-right r;
       empty-motif = lists-held;
+      spellings = spellings;
       not-whole = theorem.not-whole;
       by-model = computed.settled;
       by-runs = stories.settled-runs;

@@ -3,7 +3,8 @@ use mathlib.Core.Path.{_≡_, refl}
 use mathlib.Core.Bool.{false}
 use mathlib.Core.List.{[], _∷_}
 use Rattle.lists.specs.Vocabulary.{choose, every, some, lowestFrom, lowest, largest, select, tab, someList, total, sameList, putAt}
-use Rattle.strand.specs.Strands.{sameStrand, key, lettersMatch, isLetter, notLetter, mateOutside, notMutual, crosses, crossedAt, strandVerdict}
+use Rattle.letters.specs.Letters.{lettersMatch, isLetter, notLetter}
+use Rattle.strand.specs.Strands.{sameStrand, key, mateOutside, notMutual, crosses, crossedAt, strandVerdict}
 use Rattle.refusals.specs.Rules.{first, refuseIf, refuseAtLowest, byVerdict}
 use Rattle.embedding.specs.Longest.{longest, prefixOk, closedTo, placesOk, embeds}
 use Rattle.octets.specs.Octets.{bytesOf, without, mapBytes, bitSum}
@@ -14,7 +15,7 @@ use Rattle.history.specs.Model.{endsPeriod, start, heldIn, knownIn, drop
 use Rattle.history.specs.Model.{modelAnswer, modelNext, modelResult, modelAfter, slotBlock, modelAlter, modelLog}
 use Rattle.history.specs.History.{atMostOnce, admittedFrom, admitted}
 use Rattle.history.specs.Examples.{resultsOf, ByModel, AllByModel, bonded, unbonded, settledStory, reusedStory, sharedSlotStory, alteredStory}
-use Rattle.history.specs.Examples.{emptyMotifStory, stories, alteredOnce, alteredTwice, refusedBetween}
+use Rattle.history.specs.Examples.{emptyMotifStory, spellingsStory, oneSlotSpellings, stories, alteredOnce, alteredTwice, refusedBetween}
 use Rattle.history.proofs.BatchStory.{batches}
 
 -- The keys are equal.
@@ -24,13 +25,13 @@ keys = (refl, refl)
 
 -- The stories hold on the model.
 pub settled : AllByModel stories
-unfolding stories AllByModel settledStory reusedStory sharedSlotStory alteredStory emptyMotifStory admitted admittedFrom atMostOnce modelLog resultsOf
-    embeds longest largest prefixOk closedTo placesOk lettersMatch choose every some lowestFrom lowest select someList tab total sameList
+unfolding stories AllByModel settledStory reusedStory sharedSlotStory alteredStory emptyMotifStory spellingsStory oneSlotSpellings admitted admittedFrom
+    atMostOnce modelLog resultsOf embeds longest largest prefixOk closedTo placesOk lettersMatch choose every some lowestFrom lowest select someList tab total sameList
     sameStrand key first refuseIf refuseAtLowest strandVerdict isLetter notLetter mateOutside notMutual crosses crossedAt moleculeVerdict
     motifVerdict workVerdict slotOf refusedBy byVerdict endsPeriod start putAt isHeld heldIn knownIn dropped inRange modelVerdict
     embedsAt hitList searches searchList asked modelAnswer modelNext modelResult modelAfter slotBlock modelAlter emptyBlock encodeEntry entryWith
     withChecksum contentOf bytesOf mapBytes bitSum without
-settled = ((refl, refl), ((refl, refl), ((refl, refl), ((refl, refl), ((refl, refl), (batches, tt))))))
+settled = ((refl, refl), ((refl, refl), ((refl, refl), ((refl, refl), ((refl, refl), ((refl, refl), ((refl, refl), (batches, tt))))))))
 
 -- With one alteration, with two, and with a refused call between.
 pub computed : ByModel alteredOnce × (admitted embeds 1 1 alteredTwice ≡ false) × (admitted embeds 1 1 refusedBetween ≡ false)

@@ -11,6 +11,7 @@ mod AlterFollows
 mod SameLog
 mod NotWhole
 mod Right
+mod Spellings
 pub mod Runs
 pub mod Theorem
 pub mod HandedIn

@@ -2,7 +2,8 @@
 use mathlib.Core.Bool.{Bool}
 use mathlib.Core.List.{List}
 use borrow.Author.Tests.{eqb-true, eq-eqb}
-use Rattle.strand.specs.Strands.{Strand, lettersMatch, leastMotif}
+use Rattle.letters.specs.Letters.{lettersMatch}
+use Rattle.strand.specs.Strands.{Strand, leastMotif}
 use Rattle.refusals.specs.Rules.{motifSide}
 use Rattle.strand.proofs.VerdictLaws.{accepted-proper}
 use Rattle.embedding.proofs.Computed.{whole-iff}

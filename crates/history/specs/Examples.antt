@@ -1,5 +1,5 @@
 -- Example histories: 01's story, a number used again, one with two slots, one with alterations and refused calls between, one of the motif with no bases,
--- one with batches, and some that are not admitted.
+-- two with spellings, one with batches, and some that are not admitted.
 use Prim.Native.Nat.{ℕ}
 use mathlib.Core.Path.{_≡_}
 use mathlib.Core.List.{List, [], _∷_, _++_}
@@ -37,7 +37,7 @@ ByModel t =
 abbrev pub ByRuns : Story → Type 0
 ByRuns t = (log : List Line) → Ran embeds (zeroed (t .blocks) (t .slots)) (t .events) log → resultsOf log ≡ t .results
 
--- G 71, A 65, C 67
+-- G 71, A 65, C 67, T 84, U 85
 abbrev pub gac : Strand
 gac = strandOf (71 ∷ 65 ∷ 67 ∷ []) (2 ∷ 1 ∷ 0 ∷ [])
 
@@ -278,9 +278,86 @@ batchStory =
           ∷ [];
     }
 
+-- 02, (vi), with B = 2, S = 2: GAU and GAT with an arc are held as delivered, and GU and GT with an arc have the hits of one another. Their keys, 157 and 156,
+-- lead to slots 1 and 0, and each motif searches once.
+abbrev gau : Strand
+gau = strandOf (71 ∷ 65 ∷ 85 ∷ []) (2 ∷ 1 ∷ 0 ∷ [])
+
+abbrev gat : Strand
+gat = strandOf (71 ∷ 65 ∷ 84 ∷ []) (2 ∷ 1 ∷ 0 ∷ [])
+
+abbrev gu : Strand
+gu = strandOf (71 ∷ 85 ∷ []) (1 ∷ 0 ∷ [])
+
+abbrev gt : Strand
+gt = strandOf (71 ∷ 84 ∷ []) (1 ∷ 0 ∷ [])
+
+unfoldable pub spellingsStory : Story
+spellingsStory =
+    record {
+      blocks = 2;
+      slots = 2;
+      events =
+          call (add 0 gau)
+          ∷ call (add 1 gat)
+          ∷ call (ask gu)
+          ∷ call (ask gt)
+          ∷ call (ask gu)
+          ∷ call (ask gt)
+          ∷ call (remove 0)
+          ∷ call (ask gt)
+          ∷ [];
+      results =
+          done
+          ∷ done
+          ∷ found 2 (0 ∷ 1 ∷ []) 2
+          ∷ found 2 (0 ∷ 1 ∷ []) 2
+          ∷ found 2 (0 ∷ 1 ∷ []) 0
+          ∷ found 2 (0 ∷ 1 ∷ []) 0
+          ∷ done
+          ∷ found 1 (1 ∷ []) 0
+          ∷ [];
+    }
+
+-- "the shelf still compares motifs byte by byte": with S = 1 the two spellings take the one slot from each other, and an entry of the other spelling is not
+-- trusted; nor is it where the keys are equal too, as those of TU and UT.
+abbrev pairOf : ℕ → ℕ → Strand
+pairOf x y = strandOf (x ∷ y ∷ []) (1 ∷ 0 ∷ [])
+
+unfoldable pub oneSlotSpellings : Story
+oneSlotSpellings =
+    record {
+      blocks = 2;
+      slots = 1;
+      events =
+          call (add 0 gau)
+          ∷ call (add 1 gat)
+          ∷ call (ask gu)
+          ∷ call (ask gt)
+          ∷ call (ask gt)
+          ∷ call (ask gu)
+          ∷ call (remove 0)
+          ∷ call (ask gu)
+          ∷ call (ask (pairOf 84 85))
+          ∷ call (ask (pairOf 85 84))
+          ∷ [];
+      results =
+          done
+          ∷ done
+          ∷ found 2 (0 ∷ 1 ∷ []) 2
+          ∷ found 2 (0 ∷ 1 ∷ []) 2
+          ∷ found 2 (0 ∷ 1 ∷ []) 0
+          ∷ found 2 (0 ∷ 1 ∷ []) 2
+          ∷ done
+          ∷ found 1 (1 ∷ []) 0
+          ∷ found 0 [] 1
+          ∷ found 0 [] 1
+          ∷ [];
+    }
+
 -- All of them.
 unfoldable pub stories : List Story
-stories = settledStory ∷ reusedStory ∷ sharedSlotStory ∷ alteredStory ∷ emptyMotifStory ∷ batchStory ∷ []
+stories = settledStory ∷ reusedStory ∷ sharedSlotStory ∷ alteredStory ∷ emptyMotifStory ∷ spellingsStory ∷ oneSlotSpellings ∷ batchStory ∷ []
 
 -- Every story of a list: by the model, and by every run.
 unfoldable pub AllByModel : List Story → Type 0

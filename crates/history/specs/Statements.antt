@@ -5,7 +5,7 @@ use mathlib.Core.Path.{_≡_}
 use mathlib.Core.Logic.{_⊎_, _↔_}
 use mathlib.Core.List.{List, [], _∷_, _++_}
 use lib.ListN.{length}
-use Rattle.strand.specs.Strands.{Strand, emptyMotif}
+use Rattle.strand.specs.Strands.{Strand, emptyMotif, Respelled}
 use Rattle.refusals.specs.Rules.{noSide, notWholeBlocks}
 use Rattle.embedding.specs.Embedding.{EmbedsIn}
 use Rattle.embedding.specs.Longest.{embeds}
@@ -44,6 +44,17 @@ abbrev pub EmptyMotifListsHeld : List Line → Type 0
 EmptyMotifListsHeld log =
     (before : List Line) (a : Ask) → Stands log before a → a .motif ≡ emptyMotif → (d : ℕ) → Among d (a .hits) ↔ ((q : Strand) × Held d q before)
 
+-- After two logs the same numbers are held, and each has the same molecule, in the same or in another spelling.
+pub record HeldAlike (log log′ : List Line) : Type 0 where
+  pub there : (d : ℕ) (q : Strand) → Held d q log → (q′ : Strand) × Held d q′ log′ × Respelled q q′
+  pub back : (d : ℕ) (q′ : Strand) → Held d q′ log′ → (q : Strand) × Held d q log × Respelled q q′
+
+-- 02, (vi): "T reads as U". Two spellings of a motif have the same hits, with the same molecules held in whichever spelling; in one history or in two.
+abbrev pub SpellingsHitAlike : List Line → List Line → Type 0
+SpellingsHitAlike log log′ =
+    (before before′ : List Line) (a a′ : Ask) → Stands log before a → Stands log′ before′ a′ → Respelled (a .motif) (a′ .motif) → HeldAlike before before′
+    → a .hits ≡ a′ .hits
+
 -- Buffers of which one is not whole blocks; a log whose every call is refused by rule 10.
 abbrev pub NotWhole : Buffers → Type 0
 NotWhole β = (length (β .catalog) % blockSize ≡ 0 → ⊥) ⊎ (length (β .cache) % blockSize ≡ 0 → ⊥)
@@ -67,6 +78,9 @@ pub record Claims : Type 0 where
   pub batches : (B S : ℕ) (es : List Event) (log : List Line) → RightLog EmbedsIn embeds B S es log → BatchesRight EmbedsIn log
   -- and every accepted query of the motif with no bases lists all that is held
   pub empty-motif : (B S : ℕ) (es : List Event) (log : List Line) → RightLog EmbedsIn embeds B S es log → EmptyMotifListsHeld log
+  -- and two spellings of a motif have the same hits
+  pub spellings : {B S B′ S′ : ℕ} {es es′ : List Event} {log log′ : List Line}
+      → RightLog EmbedsIn embeds B S es log → RightLog EmbedsIn embeds B′ S′ es′ log′ → SpellingsHitAlike log log′
   -- buffers that are not whole blocks: every call of every list is refused by rule 10
   pub not-whole : (es : List Event) (β : Buffers) (log : List Line) → NotWhole β → Ran embeds β es log → AllRefused log
   -- the hypotheses can be met: the stories are admitted, alterations among them, and come to their results by the model and by every run

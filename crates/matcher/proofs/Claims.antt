@@ -17,10 +17,13 @@ use Rattle.strand.proofs.VerdictLaws.{pair-proper, proper-pair, pair-numbered}
 use Rattle.lists.specs.Vocabulary.{nth}
 use Rattle.strand.specs.declared.Fold.{Fold}
 use Rattle.strand.specs.Folds.{foldOf, IsFold}
-use Rattle.strand.specs.Strands.{strandOf, lettersMatch, checkVerdict, pairVerdict}
+use Rattle.letters.specs.Letters.{lettersMatch, ReadAlike}
+use Rattle.strand.specs.Strands.{strandOf, checkVerdict, pairVerdict}
+use Rattle.strand.proofs.Spellings.{alike-pair}
 use Rattle.strand.proofs.Claims as strand
 use Rattle.embedding.specs.Longest.{longest}
 use Rattle.embedding.specs.Embedding.{IsLongest, EmbedsIn}
+use Rattle.embedding.proofs.Spellings.{spelled-found}
 use Rattle.embedding.proofs.Claims as embedding
 use Rattle.matcher.specs.declared.Matched.the-variants.{Prefix, Refused}
 use Rattle.matcher.specs.Answers.{lengthVerdict, lengthAnswer, showVerdict, showAnswer, emptyMotifVerdict, PrefixSays, WholeSays, PlacesShown}
@@ -116,6 +119,21 @@ module _ (q qm : List ℕ) (work : ℕ) where
   empty-motif-matched : EmptyMotifMatched q qm work
   empty-motif-matched = record { length-verdict = empty-rules; show-verdict = empty-shown; length-0 = length-0; show-0 = show-0; places-kept = places-kept }
 
+-- ---- two spellings: the rules and the longest prefix are the same
+
+module _ {p q p′ q′ : List ℕ} (P : ReadAlike p p′) (Q : ReadAlike q q′) (pm qm : List ℕ) where
+  pub alike-rules : (work : ℕ) → lengthVerdict p pm q qm work ≡ lengthVerdict p′ pm q′ qm work
+  unfolding lengthVerdict
+  alike-rules work = rw (alike-pair P Q pm qm, P .many, Q .many) refl
+
+  alike-length : (work : ℕ) → lengthAnswer p pm q qm work ≡ lengthAnswer p′ pm q′ qm work
+  unfolding lengthAnswer
+  alike-length work = rw (alike-rules work, spelled-found P Q pm qm .same-longest) refl
+
+  alike-show : (places work : ℕ) → showAnswer p pm q qm places work ≡ showAnswer p′ pm q′ qm places work
+  unfolding showAnswer showVerdict
+  alike-show places work = rw (alike-pair P Q pm qm, spelled-found P Q pm qm .same-longest, P .many, Q .many) refl
+
 pub claims : Claims
 unfolding lengthAnswer showAnswer
 claims =
@@ -135,6 +153,8 @@ claims =
         (λ h. sym (show-accepts p pm q qm work places (proper-pair p pm q qm (h .0)) (h .1) (h .2))),
       );
       empty-motif-matched = empty-motif-matched;
+      length-respelled = λ p pm q qm p′ q′ work P Q. alike-length P Q pm qm work;
+      show-respelled = λ p pm q qm p′ q′ places work P Q. alike-show P Q pm qm places work;
       show-refuses = λ p pm q qm places work.
           prefix-refuses p pm q qm (showVerdict p pm q qm places work) (λ e. show-rules p pm q qm work places e .0) (show-numbered p pm q qm places work);
     }

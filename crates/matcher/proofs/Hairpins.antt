@@ -41,7 +41,7 @@ pub loop-step : (p pm q : List ℕ) {qm : List ℕ} {from lo hi : ℕ} (k i : �
 loop-step p pm q k i U a b B =
     rw (add-one i) (combine a (omega arith) (λ u x y z. absurd (omega (arith, U .alone u x (omega arith)))) B (unit-best k i (B .reach .upto)))
 
--- The arc (l, r), which is come to with `from`. What lies inside takes the motif from `from` to `here`, and, where the left end has the letter of `from`,
+-- The arc (l, r), which is come to with `from`. What lies inside takes the motif from `from` to `here`, and, where `from` matches the left end,
 -- from the next position to `next`.
 module _ {p pm q qm : List ℕ} {from l r : ℕ} (here next : ℕ) (S : Setting p pm q qm from (length p)) (lr : l < r) (rn : r < length q) (arc : nth qm l ≡ r)
     (H : Best (lettersFit p q) (nth pm) (nth qm) (length p) from here (l + 1) r)

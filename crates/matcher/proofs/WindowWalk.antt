@@ -12,7 +12,8 @@ use lib.ListN.{length}
 use borrow.Author.Tests.{eqb-true, eq-eqb, leb-true, leb-false}
 use Rattle.lists.specs.Vocabulary.{nth}
 use Rattle.lists.proofs.ListLaws.{Tells, both-ways, is-true}
-use Rattle.strand.specs.Strands.{strandOf, lettersMatch, Inside, Nested}
+use Rattle.letters.specs.Letters.{lettersMatch}
+use Rattle.strand.specs.Strands.{strandOf, Inside, Nested}
 use Rattle.embedding.specs.Embedding.{lettersFit}
 use Rattle.embedding.specs.Row.{Split, Reach, Best, Bounds, unitAt}
 use Rattle.embedding.specs.Longest.{longest, embeds}

@@ -10,7 +10,8 @@ use Rattle.refusals.specs.declared.Verdict.the-variants as verdict
 use Rattle.lists.specs.Vocabulary.{nth}
 use Rattle.strand.specs.declared.Fold.{Fold}
 use Rattle.strand.specs.Folds.{foldOf, IsFold}
-use Rattle.strand.specs.Strands.{strandOf, lettersMatch, checkVerdict, pairVerdict, Pair}
+use Rattle.letters.specs.Letters.{lettersMatch}
+use Rattle.strand.specs.Strands.{strandOf, checkVerdict, pairVerdict, Pair}
 use Rattle.refusals.specs.Rules.{noSide, wrongSlice, refuseIf, first, byVerdict, workSize, workRule}
 use Rattle.embedding.specs.Embedding.{lettersFit, Emb, IsLongest, EmbedsIn}
 use Rattle.embedding.specs.Longest.{longest}

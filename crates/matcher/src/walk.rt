@@ -8,7 +8,8 @@ ghost use Prim.Native.Nat.{ℕ, _+_, _*_, _≤_, _<_};
 ghost use lib.ListN.{length};
 ghost use Rattle.lists.specs.Vocabulary.{nth};
 ghost use Rattle.lists.proofs.ListLaws.{Tells};
-ghost use Rattle.strand.specs.Strands.{lettersMatch, strandOf, Nested, Proper, leastMotif, leastMolecule, greatestLength};
+ghost use Rattle.letters.specs.Letters.{lettersMatch};
+ghost use Rattle.strand.specs.Strands.{strandOf, Nested, Proper, leastMotif, leastMolecule, greatestLength};
 ghost use Rattle.refusals.specs.Rules.{motifSide, moleculeSide, workSize};
 ghost use Rattle.embedding.specs.Row.{Best};
 ghost use Rattle.embedding.specs.Embedding.{lettersFit};
@@ -94,8 +95,8 @@ fn loop_end(p: &[u8], pm: &[u16], q: &[u8], qm: &[u16], from: usize, lo: usize, 
     end
 }
 
-// How far the unbonded bases inside the arc l, r take the motif from the position behind `from` on, if the arc's left end has the letter of `from`; else the
-// answer is not read.
+// How far the unbonded bases inside the arc l, r take the motif from the position behind `from` on, if `from` matches the arc's left end; else the answer is
+// not read.
 fn next_end(p: &[u8], pm: &[u16], q: &[u8], qm: &[u16], from: usize, l: usize, r: usize) -> usize
     requires { ⌜ (length (now pm) ≡ length (now p)) × (from < length (now p)) ⌝ }
     requires { ⌜ (l < r) × (r < length (now q)) ⌝ }
@@ -105,7 +106,7 @@ fn next_end(p: &[u8], pm: &[u16], q: &[u8], qm: &[u16], from: usize, l: usize, r
         → Best (lettersFit (now (p .entry)) (now (q .entry))) (nth (now (pm .entry))) (nth (now (qm .entry))) (length (now (p .entry))) (from + 1) k
         (l + 1) r) ⌝ }
 {
-    if !strand::letters_match(p[from], q[l]) {
+    if !letters::letters_match(p[from], q[l]) {
         return from;
     }
     loop_end(p, pm, q, qm, from + 1, l + 1, r)

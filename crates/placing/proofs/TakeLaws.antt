@@ -1,16 +1,18 @@
 -- An arc of the molecule takes the motif as far as can be, and places of what goes inside the arc, with its ends, are places of the whole.
-use Prim.Native.Nat.{ℕ, suc, _+_, _≤_, _<_, max}
-use mathlib.Core.Path.{_≡_, refl, sym, ap, _∙_}
+use Prim.Native.Nat.{ℕ, suc, _+_, _/_, _%_, _≤_, _<_, max}
+use mathlib.Core.Path.{_≡_, refl, sym, ap, ap₂, _∙_}
 use mathlib.Core.Bool.{Bool, true, false}
 use mathlib.Core.List.{List}
 use mathlib.Core.Logic.{_⊎_, ⊎-elim}
 use native.Mathlib.Numerals.{add-one}
 use native.Mathlib.Decide.{decLt}
 use native.Mathlib.Omega.{arith}
+use lib.Dec.{eqb}
 use lib.ListN.{length, set, length-set}
 use lib.Seq.{getD-set-same, getD-set-other}
 use Rattle.lists.specs.Vocabulary.{nth}
-use Rattle.strand.specs.Strands.{lettersMatch}
+use Rattle.letters.specs.Classes.{letterClass}
+use Rattle.rows.proofs.TableLaws.{own-match, mate-match}
 use Rattle.embedding.specs.Embedding.{Emb, lettersFit}
 use Rattle.embedding.specs.Row.{Closed, Split, Best, IsRow, unitAt, overAt, arcAt, overBy}
 use Rattle.embedding.proofs.Splitting.{restrict, agree, join}
@@ -45,11 +47,11 @@ module _ (left right : ℕ → Bool) (pm : ℕ → ℕ) (z j here next u o : ℕ
     go true t (yes x) true y (no w) =
         upon t (omega arith) x y (omega arith) (omega (arith, over-arc left right pm z next j a t (omega arith) x y (omega arith)))
 
--- What the arc takes with its left end, from the letters of the mates.
-pub over-known : {p pm tables : List ℕ} (x y z next j o : ℕ) → j < z → z ≤ length p → Tables p pm tables
-    → o ≡ overBy (lettersMatch (nth p j) x) (lettersMatch (nth tables j) y) (nth pm j) z next j → o ≡ overAt (matches p x) (matches p y) (nth pm) z next j
-over-known {p} {pm} x y z next j o a b P e =
-    e ∙ ap (λ (d : ℕ). overBy (lettersMatch (nth p j) x) (lettersMatch d y) (nth pm j) z next j) (P .letter j (omega arith))
+-- What the arc takes with its left end, from the classes of the letters: cx and cy are those of its bases.
+pub over-known : {p pm tables : List ℕ} (x y cx cy z next j o : ℕ) → j < z → z ≤ length p → Tables p pm tables → cx ≡ letterClass x → cy ≡ letterClass y
+    → o ≡ overBy (eqb (nth tables j / 256) cx) (eqb (nth tables j % 256) cy) (nth pm j) z next j → o ≡ overAt (matches p x) (matches p y) (nth pm) z next j
+over-known {p} {pm} x y cx cy z next j o a b T ex ey e =
+    e ∙ ap₂ (λ (c d : Bool). overBy c d (nth pm j) z next j) (own-match T j x cx (omega arith) ex) (mate-match T j y cy (omega arith) ey)
     ∙ by-over (matches p x) (matches p y) (nth pm) z next j a
 
 -- The position after the span inside is one of the segment.

@@ -37,8 +37,17 @@ fn choose_take(
 {
     let both = row::unit(p, pm, here as usize, to, y);
     let end = to as u16;
-    let d = tables[from];
-    let over = row::over_entry(p[from], x, pm[from], from as u16, end, d, y as u16, next) as usize;
+    let left = letters::letter_class(x) as u16;
+    let right = letters::letter_class(y) as u16;
+    let over = row::over_entry(
+        tables[from],
+        left,
+        right,
+        pm[from],
+        from as u16,
+        end,
+        next,
+    ) as usize;
     if over <= both {
         return ArcTake {
             from: from,

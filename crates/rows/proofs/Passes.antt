@@ -17,11 +17,11 @@ use Rattle.embedding.proofs.Entries.{unit-end, unit-in, by-over}
 -- An entry beside the row, in the loop that has come to j.
 module _ (left right : ℕ → Bool) (pm : ℕ → ℕ) (z at : ℕ) (row₀ row : List ℕ) (from j r : ℕ) where
   pub over-step : Written (λ k. overAt left right pm z (nth row₀ (k - at + 1)) (k - at)) row₀ row (at + from) (at + j) → j < z → z < at
-      → (d : Bool) → d ≡ right (pm j) → r ≡ overBy (left j) d (pm j) z (nth row (j + 1)) j
+      → (c d : Bool) → c ≡ left j → d ≡ right (pm j) → r ≡ overBy c d (pm j) z (nth row (j + 1)) j
       → r ≡ overAt left right pm z (nth row₀ (at + j - at + 1)) (at + j - at)
-  over-step W a b d t e =
+  over-step W a b c d s t e =
       let i : at + j - at ≡ j = omega arith in
-      rw i (e ∙ ap (λ (x : Bool). overBy (left j) x (pm j) z (nth row (j + 1)) j) t
+      rw i (e ∙ ap₂ (λ (x y : Bool). overBy x y (pm j) z (nth row (j + 1)) j) s t
       ∙ rw (W .under (j + 1) (omega arith)) (by-over left right pm z (nth row₀ (j + 1)) j a))
 
 module _ (has : ℕ → Bool) (pm : ℕ → ℕ) (z at j r : ℕ) where
@@ -60,12 +60,12 @@ raise-step f at z row₀ row from j s r W d e = e ∙ rw (d, W .past j (omega ar
 -- A round of the loop that closes an arc in one pass.
 module _ (left right : ℕ → Bool) (pm : ℕ → ℕ) (z : ℕ) (steps row₀ row : List ℕ) (from j : ℕ)
     (W : Written (λ i. max (min (nth steps (nth row₀ i)) z) (overAt left right pm z (nth row₀ (i + 1)) i)) row₀ row from j) where
-  pub short-step : (s o r : ℕ) (d : Bool) → j < z → s ≡ min (nth steps (nth row j)) z → d ≡ right (pm j)
-      → o ≡ overBy (left j) d (pm j) z (nth row (j + 1)) j → r ≡ max s o
+  pub short-step : (s o r : ℕ) (c d : Bool) → j < z → s ≡ min (nth steps (nth row j)) z → c ≡ left j → d ≡ right (pm j)
+      → o ≡ overBy c d (pm j) z (nth row (j + 1)) j → r ≡ max s o
       → r ≡ max (min (nth steps (nth row₀ j)) z) (overAt left right pm z (nth row₀ (j + 1)) j)
-  short-step s o r d a e t f g =
+  short-step s o r c d a e l t f g =
       g ∙ ap₂ max (e ∙ ap (λ (k : ℕ). min (nth steps k) z) (W .past j (omega arith)))
-      (f ∙ ap (λ (x : Bool). overBy (left j) x (pm j) z (nth row (j + 1)) j) t
+      (f ∙ ap₂ (λ (x y : Bool). overBy x y (pm j) z (nth row (j + 1)) j) l t
       ∙ rw (W .past (j + 1) (omega arith)) (by-over left right pm z (nth row₀ (j + 1)) j a))
 
 pub cut-step : (f : ℕ → ℕ) (at z : ℕ) (row₀ row : List ℕ) (from j r : ℕ) → Written f row₀ row (at + from) (at + j) → j < at → r ≡ min (nth row j) z

@@ -3,12 +3,12 @@
 // compiler makes vector code of them.
 use crate::tables;
 ghost use mathlib.Core.Path.{_≡_};
-ghost use Prim.Native.Nat.{ℕ, _+_, _-_, _*_, _≤_, _<_, min, max};
+ghost use Prim.Native.Nat.{ℕ, _+_, _-_, _*_, _/_, _%_, _≤_, _<_, min, max};
 ghost use lib.ListN.{length};
 ghost use lib.Dec.{eqb};
 ghost use Rattle.lists.specs.Vocabulary.{nth, choose};
 ghost use mathlib.Core.Bool.{true};
-ghost use Rattle.strand.specs.Strands.{isLetter, lettersMatch};
+ghost use Rattle.letters.specs.Letters.{isLetter};
 ghost use Rattle.refusals.specs.Rules.{moleculeSide};
 ghost use Rattle.embedding.specs.Row.{unitAt, overAt, arcAt, overBy};
 ghost use Rattle.rows.specs.Rows.{Segment, Written, Remade, Tables, Steps, matches};
@@ -167,7 +167,7 @@ pub fn unit(p: &[u8], pm: &[u16], from: usize, to: usize, y: u8) -> usize
     if from < pm[from] as usize {
         return from;
     }
-    if strand::letters_match(p[from], y) {
+    if letters::letters_match(p[from], y) {
         return from + 1;
     }
     from
@@ -189,7 +189,7 @@ pub fn arc_entry(
     ensures { λ r. ⌜ r ≡ arcAt (matches (now (p .entry)) x) (matches (now (p .entry)) y) (nth (now (pm .entry))) to here next from ⌝ }
 {
     let both = unit(p, pm, here as usize, to, y) as u16;
-    if !strand::letters_match(p[from], x) {
+    if !letters::letters_match(p[from], x) {
         return both;
     }
     let k = pm[from];
@@ -199,7 +199,7 @@ pub fn arc_entry(
     if to as u16 <= k {
         return both;
     }
-    if !strand::letters_match(p[k as usize], y) {
+    if !letters::letters_match(p[k as usize], y) {
         return both;
     }
     if next < k {
@@ -208,12 +208,12 @@ pub fn arc_entry(
     larger(both, k + 1)
 }
 
-// What an arc with the bases x and y takes from j with its left end: c and k are the base and the mate of j, d the base of k, and `next` the inner row's
-// entry for j + 1.
-pub fn over_entry(c: u8, x: u8, k: u16, j: u16, to: u16, d: u16, y: u16, next: u16) -> u16
-    ensures { λ r. ⌜ r ≡ overBy (lettersMatch c x) (lettersMatch d y) k to next j ⌝ }
+// What an arc takes from j with its left end: `pair` has the class of the base of j and, below it, that of its mate k; x and y are the classes of the arc's
+// bases, and `next` is the inner row's entry for j + 1.
+pub fn over_entry(pair: u16, x: u16, y: u16, k: u16, j: u16, to: u16, next: u16) -> u16
+    ensures { λ r. ⌜ r ≡ overBy (eqb (pair / 256) x) (eqb (pair % 256) y) k to next j ⌝ }
 {
-    if !strand::letters_match(c, x) {
+    if pair / 256 != x {
         return 0;
     }
     if k <= j {
@@ -222,7 +222,7 @@ pub fn over_entry(c: u8, x: u8, k: u16, j: u16, to: u16, d: u16, y: u16, next: u
     if to <= k {
         return 0;
     }
-    if !strand::wide_letters_match(d, y) {
+    if pair % 256 != y {
         return 0;
     }
     if next < k {
@@ -250,16 +250,17 @@ fn over(
     ensures { λ _. ⌜ Written (λ k. overAt (matches (now (p .entry)) x) (matches (now (p .entry)) y) (nth (now (pm .entry))) to
         (nth (now (row .entry)) (k - at + 1)) (k - at)) (now (row .entry)) (now (row .exit)) (at + from) (at + end) ⌝ }
 {
+    let left = letters::letter_class(x) as u16;
+    let right = letters::letter_class(y) as u16;
     let mut j = from;
     while j < end {
         row[at + j] = over_entry(
-            p[j],
-            x,
+            tables[j],
+            left,
+            right,
             pm[j],
             j as u16,
             to as u16,
-            tables[j],
-            y as u16,
             row[j + 1],
         );
         j += 1;
@@ -331,6 +332,8 @@ fn close_short(
         (overAt (matches (now (p .entry)) x) (matches (now (p .entry)) y) (nth (now (pm .entry))) to (nth (now (row .entry)) (j + 1)) j))
         (now (row .entry)) (now (row .exit)) from end ⌝ }
 {
+    let left = letters::letter_class(x) as u16;
+    let right = letters::letter_class(y) as u16;
     let mut j = from;
     while j < end {
         let k = row[j] as usize;
@@ -338,13 +341,12 @@ fn close_short(
         row[j] = larger(
             both,
             over_entry(
-                p[j],
-                x,
+                tables[j],
+                left,
+                right,
                 pm[j],
                 j as u16,
                 to as u16,
-                tables[j],
-                y as u16,
                 row[j + 1],
             ),
         );

@@ -1,15 +1,17 @@
-// The tables of a motif, which are made once for all rows: the letters of its mates, and the row of an unbonded base for each letter. After them lie the
-// bounds of a molecule, one for each of its bases and one behind them.
+// The tables of a motif, which are made once for all rows: the classes of its letters and of those of its mates, and the row of an unbonded base for each
+// class of letters. After them lie the bounds of a molecule, one for each of its bases and one behind them.
 ghost use mathlib.Core.Path.{_≡_};
-ghost use Prim.Native.Nat.{_+_, _-_, _*_, _≤_, _<_};
+ghost use Prim.Native.Nat.{ℕ, _+_, _-_, _*_, _≤_, _<_};
 ghost use lib.ListN.{length};
 ghost use lib.Dec.{leb};
 ghost use Rattle.lists.specs.Vocabulary.{nth, choose};
-ghost use Rattle.strand.specs.Strands.{Nested, lettersMatch};
+ghost use Rattle.letters.specs.Letters.{lettersMatch};
+ghost use Rattle.letters.specs.Classes.{letterClass};
+ghost use Rattle.strand.specs.Strands.{Nested};
 ghost use Rattle.embedding.specs.Row.{unitAt};
-ghost use Rattle.rows.specs.Rows.{Written, Tables, stepsAt, matches, lastAt};
+ghost use Rattle.rows.specs.Rows.{Written, Tables, classesAt, stepsAt, matches, lastAt};
 
-// The rows of the tables: the letters of the mates, and one for each letter.
+// The rows of the tables: the classes of the letters, and one for each class.
 pub const ROWS: usize = 5;
 
 // Short strands: a motif and a molecule that are no longer than those of a query.
@@ -31,18 +33,27 @@ pub(crate) fn steps_at(m: usize, b: u8) -> usize
     (m + 1) * (1 + (b / 2 % 4) as usize)
 }
 
-// Where the base b takes the motif from j on, c and k being the base and the mate of j: j + 1 or j.
+// 1 if the mate k of j is not behind it, else 0.
+fn not_behind(k: u16, j: u16) -> u16
+    ensures { λ r. ⌜ r ≡ choose (leb k j) 1 0 ⌝ }
+{
+    if k <= j { 1 } else { 0 }
+}
+
+// 1 if the base c of the motif matches b, else 0.
+fn takes(c: u8, b: u8) -> u16
+    ensures { λ r. ⌜ r ≡ choose (lettersMatch c b) 1 0 ⌝ }
+{
+    if letters::letters_match(c, b) { 1 } else { 0 }
+}
+
+// Where the base b takes the motif from j on, c and k being the base and the mate of j: j + 1 or j. No branch depends on a value, so the compiler loads both
+// in each turn of a loop and makes vector code of it.
 fn unit_entry(c: u8, b: u8, k: u16, j: u16) -> u16
     requires { ⌜ j < 4096 ⌝ }
     ensures { λ r. ⌜ r ≡ choose (leb k j) (choose (lettersMatch c b) (j + 1) j) j ⌝ }
 {
-    if j < k {
-        return j;
-    }
-    if strand::letters_match(c, b) {
-        return j + 1;
-    }
-    j
+    j + not_behind(k, j) * takes(c, b)
 }
 
 // Writes the row of the unbonded base b from `at` on.
@@ -60,15 +71,29 @@ fn put_steps(p: &[u8], pm: &[u16], b: u8, at: usize, tables: &mut [u16])
     tables[at + p.len()] = p.len() as u16;
 }
 
-// Writes the letters of the mates.
-fn put_letters(p: &[u8], pm: &[u16], tables: &mut [u16])
-    requires { ⌜ (length (now pm) ≡ length (now p)) × (length (now p) ≤ length (now tables)) ⌝ }
-    requires { ⌜ Nested (nth (now pm)) (length (now p)) ⌝ }
-    ensures { λ _. ⌜ Written (λ j. nth (now (p .entry)) (nth (now (pm .entry)) j)) (now (tables .entry)) (now (tables .exit)) 0 (length (now (p .entry))) ⌝ }
+// Writes the classes of the letters, 256 times each.
+fn put_classes(p: &[u8], tables: &mut [u16])
+    requires { ⌜ length (now p) ≤ length (now tables) ⌝ }
+    ensures { λ _. ⌜ Written (λ j. letterClass (nth (now (p .entry)) j) * 256) (now (tables .entry)) (now (tables .exit)) 0 (length (now (p .entry))) ⌝ }
 {
     let mut j = 0;
     while j < p.len() {
-        tables[j] = p[pm[j] as usize] as u16;
+        tables[j] = letters::letter_class(p[j]) as u16 * 256;
+        j += 1;
+    }
+}
+
+// Adds to each position the class of its mate's letter, which stands at the mate.
+fn add_mates(p: &[u8], pm: &[u16], tables: &mut [u16])
+    requires { ⌜ (length (now pm) ≡ length (now p)) × (length (now p) ≤ length (now tables)) ⌝ }
+    requires { ⌜ Nested (nth (now pm)) (length (now p)) ⌝ }
+    requires { ⌜ ((j : ℕ) → nth (now p) j < 256) ⌝ }
+    requires { ⌜ ((j : ℕ) → j < length (now p) → nth (now tables) j ≡ letterClass (nth (now p) j) * 256) ⌝ }
+    ensures { λ _. ⌜ Written (classesAt (now (p .entry)) (now (pm .entry))) (now (tables .entry)) (now (tables .exit)) 0 (length (now (p .entry))) ⌝ }
+{
+    let mut j = 0;
+    while j < pm.len() {
+        tables[j] = tables[j] + tables[pm[j] as usize] / 256;
         j += 1;
     }
 }
@@ -92,7 +117,8 @@ pub fn fill(p: &[u8], pm: &[u16], tables: &mut [u16])
     requires { ⌜ 5 * (length (now p) + 1) ≤ length (now tables) ⌝ }
     ensures { λ _. ⌜ Tables (now (p .entry)) (now (pm .entry)) (now (tables .exit)) ⌝ }
 {
-    put_letters(p, pm, tables);
+    put_classes(p, tables);
+    add_mates(p, pm, tables);
     put_base(p, pm, b'A', tables);
     put_base(p, pm, b'C', tables);
     put_base(p, pm, b'G', tables);

@@ -9,7 +9,8 @@ use lib.Dec.{eqb, ltb}
 use borrow.Author.Tests.{eq-eqb, ne-eqb, lt-ltb, le-ltb, ltb-true}
 use Rattle.refusals.specs.declared.Verdict.the-variants.{Accepted}
 use Rattle.lists.specs.Vocabulary.{nth, some, lowest}
-use Rattle.strand.specs.Strands.{notLetter, mateOutside, notMutual, crossedAt, Inside, Paired, strandVerdict}
+use Rattle.letters.specs.Letters.{notLetter}
+use Rattle.strand.specs.Strands.{mateOutside, notMutual, crossedAt, Inside, Paired, strandVerdict}
 use Rattle.refusals.specs.Rules.{unequalLengths, noBases, tooLong, badLetter, badMate, matesNotMutual, arcsCross, refusal, refuseIf, refuseAtLowest, first}
 use Rattle.refusals.proofs.RuleLaws.{rule-yes, rule-no, rule-at-yes, rule-at-no}
 use Rattle.lists.proofs.ListLaws.{some-none, lowest-all, lowest-before, some-lowest}

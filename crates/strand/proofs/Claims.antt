@@ -1,7 +1,7 @@
 -- The claims of specs/Statements hold.
 use Prim.Native.Nat.{ℕ}
 use mathlib.Core.Path.{_≡_, refl, sym, ap, _∙_}
-use mathlib.Core.Bool.{Bool}
+use mathlib.Core.Bool.{Bool, true}
 use mathlib.Core.List.{List}
 use native.Mathlib.Omega.{arith}
 use Rattle.lists.specs.Vocabulary.{total}
@@ -13,11 +13,18 @@ use Rattle.refusals.proofs.Refusing.{refuses-by}
 use Rattle.strand.specs.declared.Fold.{Fold}
 use Rattle.strand.specs.declared.Checked.the-variants as checked
 use Rattle.strand.specs.Folds.{foldOf}
-use Rattle.strand.specs.Strands.{key, leastMolecule, greatestLength, checkVerdict, checkAnswer, CheckAccepts, CheckSays}
+use Rattle.strand.specs.Strands.{Strand, sameStrand, key, leastMolecule, greatestLength, checkVerdict, checkAnswer, CheckAccepts, CheckSays}
 use Rattle.strand.specs.Statements.{NestedSays, StrandSays, LowestSays, EmptyMotifSays, FoldSays, Claims}
 use Rattle.lists.proofs.ListLaws.{lowest-before, lowest-upto, lowest-passes}
 use Rattle.strand.proofs.FoldLaws.{arcs-most, depth-most, fold-is, fold-only, depth-none}
 use Rattle.strand.proofs.VerdictLaws.{nested-yes, nested-test, accepted-proper, proper-accepted, check-numbered, empty-passes, empty-pair}
+use Rattle.strand.proofs.VerdictLaws.{same-strand-eq}
+use Rattle.lists.proofs.ListLaws.{same-refl}
+use Rattle.strand.proofs.Spellings.{alike-verdict, alike-check}
+
+same-strand-refl : (p : Strand) → sameStrand p p ≡ true
+unfolding sameStrand
+same-strand-refl p = rw (same-refl (p .bases)) (same-refl (p .mates))
 
 nested-says : (mates : List ℕ) → NestedSays mates
 nested-says mates = (nested-yes mates, nested-test mates)
@@ -73,5 +80,8 @@ claims =
       check-refuses = check-refuses;
       empty-motif-says = empty-motif-says;
       fold-says = fold-says;
+      same-says = λ p q. (same-strand-eq p q, (λ e. rw e (same-strand-refl q)));
+      respelled-verdict = λ a b mates R side least greatest. alike-verdict R side least greatest mates;
+      check-respelled = λ a b mates R. alike-check R mates;
       lowest-says = lowest-says;
     }

@@ -1,8 +1,8 @@
 mod NestingLaws
 mod KeyLaws
 mod CheckLaws
-pub mod LetterLaws
 pub mod VerdictLaws
+pub mod Spellings
 pub mod FoldLaws
 mod FoldWalk
 pub mod LevelLaws

@@ -8,14 +8,15 @@ use lib.ListN.{length}
 use borrow.Author.Tests.{eq-eqb, ltb-true, ltb-false, eqb-true, lt-leb}
 use Rattle.refusals.specs.declared.Verdict.the-variants.{Accepted}
 use Rattle.lists.specs.Vocabulary.{nth, some, every, sameList}
-use Rattle.strand.specs.Strands.{Strand, sameStrand, notLetter, mateOutside, notMutual, crossedAt, isNested, Nested, Proper, strandVerdict}
+use Rattle.letters.specs.Letters.{notLetter}
+use Rattle.strand.specs.Strands.{Strand, sameStrand, mateOutside, notMutual, crossedAt, isNested, Nested, Proper, strandVerdict}
 use Rattle.strand.specs.Strands.{checkVerdict, pairVerdict, Pair, leastMotif, leastMolecule, greatestLength}
 use Rattle.refusals.specs.Rules.{unequalLengths, noBases, tooLong, badLetter, badMate, matesNotMutual, arcsCross, motifSide, moleculeSide, first, Numbered}
 use Rattle.refusals.proofs.Refusing.{Numbering, strand-number, when-numbered, if-numbered, lowest-numbered, none-numbered, first-numbered}
 use Rattle.refusals.proofs.RuleLaws.{first-one, first-pass, rule-pass, rule-at-pass}
 use Rattle.lists.proofs.ListLaws.{and-true, not-not, true-not, every-true, some-no, some-none, lowest-all, same-eq}
 use Rattle.strand.proofs.NestingLaws.{uncrossed-apart, apart-uncrossed, inside-of, paired-of}
-use Rattle.strand.proofs.LetterLaws.{letter-at, none-other}
+use Rattle.letters.proofs.LetterLaws.{letter-at, none-other}
 use Rattle.strand.proofs.CheckLaws.{accepted-strand}
 
 -- ---- the mates: tests and propositions

@@ -8,11 +8,12 @@ use lib.ListN.{length}
 use Rattle.refusals.specs.declared.Verdict.the-variants.{Accepted}
 use Rattle.lists.specs.Vocabulary.{nth, lowest}
 use Rattle.refusals.specs.Rules.{motifSide, Refuses}
+use Rattle.letters.specs.Letters.{ReadAlike}
 use Rattle.strand.specs.declared.Fold.{Fold}
 use Rattle.strand.specs.declared.Checked.the-variants as checked
 use Rattle.strand.specs.Folds.{arcCount, depthOf, foldOf, IsArcCount, IsDepth, IsFold}
 use Rattle.strand.specs.Strands.{isNested, Nested, Proper, strandVerdict, checkVerdict, checkAnswer, CheckAccepts, CheckSays}
-use Rattle.strand.specs.Strands.{emptyMotif, leastMotif, pairVerdict, key}
+use Rattle.strand.specs.Strands.{Strand, sameStrand, emptyMotif, leastMotif, pairVerdict, key}
 
 -- 01, Molecule and motif: the test of the mates passes exactly when they are in range and mutual and no two arcs cross.
 abbrev pub NestedSays : List ℕ → Type 0
@@ -35,6 +36,11 @@ pub record EmptyMotifSays : Type 0 where
   pub pair : (q qm : List ℕ) → pairVerdict [] [] q qm ≡ checkVerdict q qm
   pub key-0 : key emptyMotif ≡ 0
 
+-- 02, (vi): rules 1 to 7 take two spellings of the same bases alike: both are accepted, or both are refused with the same number, side and place.
+abbrev pub RespelledVerdict : List ℕ → List ℕ → List ℕ → Type 0
+RespelledVerdict a b mates =
+    ReadAlike a b → (side least greatest : ℕ) → strandVerdict side least greatest a mates ≡ strandVerdict side least greatest b mates
+
 -- 02, (i), for all mates, nested or not: `arcCount` and `depthOf` are the number of arcs and the depth as the propositions say them, and no other fold is; the
 -- depth is "0 without arcs".
 pub record FoldSays (mates : List ℕ) : Type 0 where
@@ -52,4 +58,8 @@ pub record Claims : Type 0 where
   pub check-refuses : (bases mates : List ℕ) → Refuses (checkVerdict bases mates) checked.Refused (checkAnswer bases mates)
   pub empty-motif-says : EmptyMotifSays
   pub fold-says : (mates : List ℕ) → FoldSays mates
+  -- 02, (vi): "the shelf still compares motifs byte by byte": two motifs are the same for it exactly when all their bytes and mates are
+  pub same-says : (p q : Strand) → (sameStrand p q ≡ true) ↔ (p ≡ q)
+  pub respelled-verdict : (a b mates : List ℕ) → RespelledVerdict a b mates
+  pub check-respelled : (a b mates : List ℕ) → ReadAlike a b → checkAnswer a mates ≡ checkAnswer b mates
   pub lowest-says : (n : ℕ) (test : ℕ → Bool) → LowestSays n test

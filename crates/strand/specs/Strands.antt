@@ -1,12 +1,13 @@
--- Strands: what molecules and motifs are made of, when one is nested and when proper, what it is refused for; the letter rule, and the key of a motif.
+-- Strands: what molecules and motifs are made of, when one is nested and when proper, what it is refused for; the key of a motif.
 use Prim.Native.Nat.{ℕ, _+_, _≤_, _<_}
 use mathlib.Core.Path.{_≡_}
 use mathlib.Core.Logic.{_↔_}
-use mathlib.Core.Bool.{Bool, true, not, _&&_, _||_}
+use mathlib.Core.Bool.{Bool, true, not, _&&_}
 use mathlib.Core.List.{List, [], _∷_}
 use lib.Dec.{ltb, leb, eqb}
 use lib.ListN.{length}
 use Rattle.lists.specs.Vocabulary.{nth, some, all, sameList, total}
+use Rattle.letters.specs.Letters.{isLetter, notLetter, ReadAlike}
 use Rattle.refusals.specs.declared.Verdict.{Verdict}
 use Rattle.refusals.specs.declared.Verdict.the-variants.{Accepted}
 use Rattle.refusals.specs.Rules.{motifSide, moleculeSide, unequalLengths, noBases, tooLong, badLetter, badMate, matesNotMutual, arcsCross, refuseIf}
@@ -28,25 +29,19 @@ strandOf bs ms = record { bases = bs; mates = ms }
 abbrev pub emptyMotif : Strand
 emptyMotif = strandOf [] []
 
--- The same bases and the same mates.
+-- The same bases, byte by byte, and the same mates: T and U are two letters here.
 unfoldable pub sameStrand : Strand → Strand → Bool
 sameStrand p q = sameList (p .bases) (q .bases) && sameList (p .mates) (q .mates)
+
+-- 02, (vi), "T reads as U": two spellings of a strand. Where a letter differs they are two motifs for the cache; rules 1 to 7 and every search take them
+-- alike.
+pub record Respelled (p q : Strand) : Type 0 where
+  pub bases : ReadAlike (p .bases) (q .bases)
+  pub mates : q .mates ≡ p .mates
 
 -- The key of a motif: the sum of its base bytes and its mates.
 unfoldable pub key : Strand → ℕ
 key p = total (p .bases) + total (p .mates)
-
--- A letter is A, C, G or U. 01 has one alphabet for both sides: the side is not read.
-unfoldable pub isLetter : ℕ → ℕ → Bool
-isLetter side b = eqb b 65 || eqb b 67 || eqb b 71 || eqb b 85
-
--- The letter rule: a base of the motif matches a base of the molecule when they are the same byte.
-unfoldable pub lettersMatch : ℕ → ℕ → Bool
-lettersMatch p q = eqb p q
-
--- The base at i is no letter.
-unfoldable pub notLetter : ℕ → List ℕ → ℕ → Bool
-notLetter side bases i = not (isLetter side (nth bases i))
 
 -- The mate of i is at or above the length.
 unfoldable pub mateOutside : List ℕ → ℕ → Bool

@@ -1,7 +1,6 @@
 // Strands: bases and mates, borrowed as two slices of one length. The check of a strand, with refusals 1 to 7; its fold.
 pub mod depth;
 pub mod key;
-pub mod letters;
 pub mod levels;
 mod nesting;
 
@@ -10,7 +9,7 @@ use refusals::Verdict;
 use refusals::numbers;
 use refusals::refuse;
 ghost use mathlib.Core.Path.{_≡_};
-ghost use Rattle.strand.specs.Strands.{lettersMatch, strandVerdict, checkAnswer, pairVerdict};
+ghost use Rattle.strand.specs.Strands.{strandVerdict, checkAnswer, pairVerdict};
 
 // The least lengths of a motif and of a molecule, and the greatest length in the direct calls (specs/Strands has the same names).
 pub const LEAST_MOTIF: usize = 0;
@@ -30,20 +29,6 @@ pub struct Fold {
 pub enum Checked {
     Nested(Fold),
     Refused(Refusal),
-}
-
-// Whether a base of the motif matches a base of the molecule, as 16 bits: the one place in the code that knows the letter rule.
-pub fn wide_letters_match(p: u16, q: u16) -> bool
-    ensures { λ r. ⌜ r ≡ lettersMatch p q ⌝ }
-{
-    p == q
-}
-
-// The same for bytes.
-pub fn letters_match(p: u8, q: u8) -> bool
-    ensures { λ r. ⌜ r ≡ lettersMatch p q ⌝ }
-{
-    wide_letters_match(p as u16, q as u16)
 }
 
 // The check of a strand of one side, its length from least to greatest. The place of a crossing, which takes quadratic time, is looked for

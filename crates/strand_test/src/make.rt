@@ -66,7 +66,7 @@ fn base(kind: usize, x: usize) -> usize {
             return x / 2048 % 256;
         }
     }
-    letter(x / 16 % 4)
+    letter(x / 16 % 5)
 }
 
 // Gives i no bond or one with the last open position, or opens it, and gives how many are open.

@@ -5,7 +5,7 @@ use testing::slices::entry_at;
 
 fn letter(b: u8) -> bool {
     match b {
-        b'A' | b'C' | b'G' | b'U' => true,
+        b'A' | b'C' | b'G' | b'T' | b'U' => true,
         _ => false,
     }
 }

@@ -28,9 +28,27 @@ fn arcs_fit(a: usize, b: usize, at: &[u16], i: usize) -> bool {
     true
 }
 
-// Position i may go to v after the places of those before it: the same base, and arcs that fit.
+fn is_t_or_u(b: usize) -> bool {
+    match b {
+        84 | 85 => true,
+        _ => false,
+    }
+}
+
+// 02, (vi): "the same byte or both are among T and U".
+pub fn bases_match(a: usize, b: usize) -> bool {
+    if a == b {
+        return true;
+    }
+    if is_t_or_u(a) {
+        return is_t_or_u(b);
+    }
+    false
+}
+
+// Position i may go to v after the places of those before it: a base that matches, and arcs that fit.
 fn fits(p: &[u8], pm: &[u16], q: &[u8], qm: &[u16], at: &[u16], i: usize, v: usize) -> bool {
-    if byte_at(p, i) != byte_at(q, v) {
+    if !bases_match(byte_at(p, i), byte_at(q, v)) {
         return false;
     }
     arcs_fit(entry_at(pm, i), entry_at(qm, v), at, i)

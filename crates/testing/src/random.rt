@@ -5,13 +5,14 @@ pub fn next(x: usize) -> usize {
     x % 2147483647 * 48271 % 2147483647
 }
 
-// Letter c of ACGU, and X from 4 on.
+// Letter c of ACGUT, and X from 5 on.
 pub fn letter(c: usize) -> usize {
     match c {
         0 => 65,
         1 => 67,
         2 => 71,
         3 => 85,
+        4 => 84,
         _ => 88,
     }
 }

@@ -1,5 +1,6 @@
 // The strand that a field of an input line says, in 24 columns: ten of bases, a blank and ten of mates (a letter there means 65535), or a rule: a shape,
-// how many bases, how many mates, a seed, how many letters (of ACGUX). The bases of seed 0 are the letters in turn.
+// how many bases, how many mates, a seed, which letters: 1 to 6 are the first of ACGUTX; 7 and 8 spell T where 4 and 5 spell U, and U where they spell T;
+// 9 is G, U and T. The bases of seed 0 are the letters in turn.
 use super::input::digit_at;
 use super::input::filled;
 use super::input::number;
@@ -21,14 +22,33 @@ fn random(seed: usize, i: usize) -> usize {
     (y ^ (y / 8192)) % 4294967296
 }
 
-fn base(seed: usize, letters: usize, i: usize) -> usize {
+// The number of the letter with T for U and U for T.
+fn other(c: usize) -> usize {
+    match c {
+        3 => 4,
+        4 => 3,
+        _ => c,
+    }
+}
+
+// The number of a letter among those of a rule, by a random number.
+fn among(letters: usize, x: usize) -> usize {
     if letters == 0 {
-        return 65;
+        return 0;
     }
+    match letters {
+        7 => other(x % 4),
+        8 => other(x % 5),
+        9 => 2 + x % 3,
+        _ => x % letters,
+    }
+}
+
+fn base(seed: usize, letters: usize, i: usize) -> usize {
     if seed == 0 {
-        return letter(i % letters);
+        return letter(among(letters, i));
     }
-    letter(random(seed, i) % letters)
+    letter(among(letters, random(seed, i)))
 }
 
 // The reach of hairpins one behind the other, each of eight bases, the outer three of them on each side bonded.

@@ -14,7 +14,8 @@ use Rattle.refusals.specs.Rules.{workSize}
 use Rattle.refusals.proofs.RuleLaws.{by-refused, by-accepted}
 use Rattle.strand.specs.declared.Fold.{Fold}
 use Rattle.strand.specs.Folds.{foldOf}
-use Rattle.strand.specs.Strands.{Nested, Pair, greatestLength, lettersMatch}
+use Rattle.letters.specs.Letters.{lettersMatch}
+use Rattle.strand.specs.Strands.{Nested, Pair, greatestLength}
 use Rattle.strand.proofs.VerdictLaws.{proper-mates}
 use Rattle.embedding.specs.Windows.{tightestLength, firstStart, IsTightest}
 use Rattle.embedding.proofs.Claims as embedding

@@ -11,7 +11,8 @@ use lib.ListN.{length}
 use borrow.Author.Tests.{ltb-true, ltb-false}
 use Rattle.lists.specs.Vocabulary.{nth}
 use Rattle.lists.proofs.ListLaws.{Tells}
-use Rattle.strand.specs.Strands.{Inside, lettersMatch}
+use Rattle.letters.specs.Letters.{lettersMatch}
+use Rattle.strand.specs.Strands.{Inside}
 use Rattle.embedding.specs.Embedding.{lettersFit}
 use Rattle.embedding.specs.Windows.{Carries, IsTightest}
 use Rattle.embedding.proofs.Answers.{clash}

@@ -15,11 +15,13 @@ use Rattle.refusals.proofs.Refusing.{refuses-by}
 use Rattle.refusals.specs.Rules.{Refuses}
 use Rattle.strand.specs.declared.Fold.{Fold}
 use Rattle.strand.specs.Folds.{foldOf, IsFold}
-use Rattle.strand.specs.Strands.{strandOf, lettersMatch}
+use Rattle.letters.specs.Letters.{lettersMatch, ReadAlike}
+use Rattle.strand.specs.Strands.{strandOf}
 use Rattle.strand.proofs.FoldLaws.{fold-is, fold-only}
 use Rattle.embedding.specs.Embedding.{EmbedsIn}
 use Rattle.embedding.specs.Windows.{tightestLength, IsTightest, WindowsSay}
 use Rattle.embedding.proofs.Answers.{by-test}
+use Rattle.embedding.proofs.Spellings.{spelled-found}
 use Rattle.embedding.proofs.Claims as embedding
 use Rattle.matcher.specs.Answers.{lengthVerdict, emptyMotifVerdict}
 use Rattle.matcher.proofs.Claims as matcher
@@ -120,5 +122,19 @@ empty-motif-windowed q qm work = go (v [] [] q qm work) refl
     go verdict.Accepted e =
         sym (answer-at [] [] q qm work e 0 0 (foldOf qm) (says [] [] q qm work e .empty refl) refl) ∙ sym (by-accepted _ _ _ (sym rules ∙ e))
 
+-- Two spellings: the rules are those of length, and the tightest window is the same.
+alike-window : {p q p′ q′ : List ℕ} → ReadAlike p p′ → ReadAlike q q′ → (pm qm : List ℕ) (work : ℕ)
+    → windowAnswer p pm q qm work ≡ windowAnswer p′ pm q′ qm work
+unfolding windowAnswer windowOf
+alike-window P Q pm qm work =
+    let S = spelled-found P Q pm qm in
+    rw (matcher.alike-rules P Q pm qm work, S .same-tightest, S .same-start, Q .many) refl
+
 pub claims : Claims
-claims = record { window-says = window-says; window-refuses = window-refuses; empty-motif-windowed = empty-motif-windowed }
+claims =
+    record {
+      window-says = window-says;
+      window-refuses = window-refuses;
+      empty-motif-windowed = empty-motif-windowed;
+      window-respelled = λ p pm q qm p′ q′ work P Q. alike-window P Q pm qm work;
+    }

@@ -7,7 +7,8 @@ use mathlib.Core.List.{List}
 use lib.ListN.{length}
 use Rattle.lists.specs.Vocabulary.{nth}
 use Rattle.refusals.specs.Rules.{motifSide, moleculeSide, workSize}
-use Rattle.strand.specs.Strands.{Proper, strandOf, lettersMatch, leastMotif, leastMolecule, greatestLength}
+use Rattle.letters.specs.Letters.{lettersMatch}
+use Rattle.strand.specs.Strands.{Proper, strandOf, leastMotif, leastMolecule, greatestLength}
 use Rattle.embedding.specs.Embedding.{lettersFit, EmbedsIn}
 use Rattle.embedding.specs.Windows.{IsTightest}
 use Rattle.matcher.specs.Walk.{TablesFor, Carried}

@@ -38,7 +38,7 @@ fn may_begin(p: &[u8], pm: &[u16], q: &[u8], qm: &[u16], i: usize) -> bool
     requires { ⌜ (i < length (now q)) × (i < length (now qm)) ⌝ }
     ensures { λ r. ⌜ Tells r (MayBegin (now (p .entry)) (now (pm .entry)) (now (q .entry)) (now (qm .entry)) i) ⌝ }
 {
-    if !strand::letters_match(p[0], q[i]) {
+    if !letters::joined_match(p[0], q[i]) {
         return false;
     }
     if pm[0] == 0 {

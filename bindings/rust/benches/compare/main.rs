@@ -39,6 +39,7 @@ fn fold(r: &mut Random, shape: &str, n: usize) -> Vec<u16> {
     }
 }
 
+/// Four letters: T would only be a second U.
 fn strand(r: &mut Random, shape: &str, n: usize) -> Owned {
     Owned { bases: (0..n).map(|_| r.pick(b"ACGU")).collect(), mates: fold(r, shape, n) }
 }

@@ -19,7 +19,7 @@ static void identity(uint16_t *row, int m) {
 // Puts the base b, or an end of an arc alone, in front of the row's stretch.
 static void extend(const Pair *s, uint16_t *row, uint8_t b) {
     for (int j = 0; j < s->m; j++)
-        if (s->p[j] == b && s->pm[j] <= j) row[j] = row[j + 1];
+        if (peer_match(s->p[j], b) && s->pm[j] <= j) row[j] = row[j + 1];
 }
 
 // Puts the stretch of the row `front` in front.
@@ -31,11 +31,11 @@ static void combine(uint16_t *row, const uint16_t *front, int m) {
 static void meld(const Pair *s, uint16_t *inner, const uint16_t *right, uint8_t x, uint8_t y) {
     for (int j = 0; j < s->m; j++) {
         uint16_t best = right[j], next = inner[j + 1];
-        if (s->p[j] == x) {
+        if (peer_match(s->p[j], x)) {
             int k = s->pm[j];
             if (k <= j) {
                 if (best < next) best = next;
-            } else if (s->p[k] == y && k <= next && best < k + 1) {
+            } else if (peer_match(s->p[k], y) && k <= next && best < k + 1) {
                 best = k + 1;
             }
         }

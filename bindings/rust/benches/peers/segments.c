@@ -1,33 +1,33 @@
-// The library's algorithm in plain C (crates/rows, crates/arcs and crates/matcher): tables of the motif (the letters of its mates, and for each letter the
-// row of an unbonded base), made at the first arc, or once for a query or a tightest window; one accumulator for an arc, rows for the starts that a greedy
-// match of letters can have come to, the heavy child first, arcs closed in passes, and the top of the molecule, or of a window of it, walked from left to
-// right. At the top an arc with no arc inside takes no row. A walk that asks for the whole motif stops where it cannot succeed. The call length checks both
-// strands first and counts the molecule's fold (sound.c), as the library's does.
+// The library's algorithm in plain C (crates/rows, crates/arcs and crates/matcher): tables of the motif (the classes of its letters and of those of their
+// mates, and for each class the row of an unbonded base), made at the first arc, or once for a query or a tightest window; one accumulator for an arc, rows
+// for the starts that a greedy match of letters can have come to, the heavy child first, arcs closed in passes, and the top of the molecule, or of a window
+// of it, walked from left to right. At the top an arc with no arc inside takes no row. A walk that asks for the whole motif stops where it cannot succeed.
+// The call length checks both strands first and counts the molecule's fold (sound.c), as the library's does.
 #include "peer.h"
 
 // The rows are for the starts from `from` on in a segment of the motif that ends at `to`, as the library's are, which show has for other segments too. A row
 // of LONG and more entries is closed in passes.
 enum { LONG = 40 };
 typedef struct {
-    const uint8_t *p, *partner, *q;
-    const uint16_t *pm, *qm, *steps, *bounds;
+    const uint8_t *q;
+    const uint16_t *pm, *qm, *classes, *steps, *bounds;
     int m, from, to;
 } Pair;
 
 static uint16_t larger(uint16_t a, uint16_t b) { return a < b ? b : a; }
 static uint16_t smaller(uint16_t a, uint16_t b) { return a < b ? a : b; }
 
-// The bodies of the vector loops are functions of values: the compiler may then load every value in each turn. c and k are the base and the mate of j,
-// d the base of k; `here` and `next` are the row's entries for j and j + 1.
+// The bodies of the vector loops are functions of values: the compiler may then load every value in each turn. k is the mate of j, c the class of j, t the
+// classes of j and of k; x, y and b are classes too; `here` and `next` are the row's entries for j and j + 1.
 static uint16_t extend_entry(uint16_t step, uint16_t j, uint16_t here, uint16_t next) { return step == j ? here : next; }
 static uint16_t unit_entry(uint8_t c, uint8_t b, uint16_t k, uint16_t j) { return k <= j && c == b ? j + 1 : j; }
-static uint16_t over_entry(uint8_t c, uint8_t x, uint16_t k, uint16_t j, uint16_t to, uint8_t d, uint8_t y, uint16_t next) {
-    if (c != x) return 0;
+static uint16_t over_entry(uint16_t t, uint16_t x, uint16_t k, uint16_t j, uint16_t to, uint16_t y, uint16_t next) {
+    if (t >> 8 != x) return 0;
     if (k <= j) return next;
-    return k < to && d == y && k <= next ? k + 1 : 0;
+    return k < to && (t & 255) == y && k <= next ? k + 1 : 0;
 }
 
-// The steps of the letter y: for each k where an unbonded base y takes the motif from k on.
+// The steps of the letter y: for each k where an unbonded base y takes the motif from k on. T and U have one row.
 static const uint16_t *steps_of(const Pair *s, uint8_t y) { return s->steps + (y >> 1 & 3) * (s->m + 1); }
 
 // The end of the starts of a stretch that begins at base i: the entry for m is m in every row and is not written again.
@@ -60,29 +60,28 @@ static void combine_into(const Pair *s, uint16_t *row, const uint16_t *back, int
     for (int j = s->from, last = s->bounds[i]; j <= last; j++) row[j] = back[row[j]];
 }
 
-// The entry for j of an arc with the letters x, y, from its inner row's entries for j and j + 1.
+// The entry for j of an arc with letters of the classes x, y, from its inner row's entries for j and j + 1.
 static uint16_t arc_entry(const Pair *s, const uint16_t *steps, int j, uint8_t x, uint8_t y, uint16_t here, uint16_t next) {
-    uint16_t best = smaller(steps[here], s->to);
-    if (s->p[j] != x) return best;
+    uint16_t best = smaller(steps[here], s->to), t = s->classes[j];
+    if (t >> 8 != x) return best;
     int k = s->pm[j];
     if (k <= j) return larger(best, next);
-    if (s->to <= k || s->partner[j] != y || next < k) return best;
+    if (s->to <= k || (t & 255) != y || next < k) return best;
     return larger(best, k + 1);
 }
 
 // The row of the arc l, r, in the place of its inner row; the next row is written too.
 static void close_arc(const Pair *s, uint16_t *row, int l, int r) {
-    uint8_t x = s->q[l], y = s->q[r];
+    uint8_t x = peer_class(s->q[l]), y = peer_class(s->q[r]);
     const uint16_t *steps = steps_of(s, y);
     int from = s->from, to = s->to, end = starts_end(s, l);
     if (end < from + LONG) {
         for (int j = from; j < end; j++) row[j] = arc_entry(s, steps, j, x, y, row[j], row[j + 1]);
         return;
     }
-    const uint8_t *p = s->p, *partner = s->partner;
-    const uint16_t *pm = s->pm;
+    const uint16_t *pm = s->pm, *classes = s->classes;
     uint16_t *over = row + s->m + 1;
-    for (int j = from; j < end; j++) over[j] = over_entry(p[j], x, pm[j], j, to, partner[j], y, row[j + 1]);
+    for (int j = from; j < end; j++) over[j] = over_entry(classes[j], x, pm[j], j, to, y, row[j + 1]);
     for (int j = from; j < end; j++) row[j] = steps[row[j]];
     for (int j = from; j < end; j++) row[j] = larger(smaller(row[j], to), over[j]);
 }
@@ -148,11 +147,12 @@ static void inner_row(const Pair *s, int l, int r, uint16_t *work) {
 void peer_prepare(peer_motif *t) {
     const uint8_t *p = t->p;
     const uint16_t *pm = t->pm;
-    for (int j = 0; j < t->m; j++) t->partner[j] = p[pm[j]];
+    for (int j = 0; j < t->m; j++) t->classes[j] = 256 * peer_class(p[j]);
+    for (int j = 0; j < t->m; j++) t->classes[j] += t->classes[pm[j]] >> 8;
     for (int c = 0; c < 4; c++) {
         uint8_t y = "ACUG"[c];
         uint16_t *row = t->steps + c * (t->m + 1);
-        for (int j = 0; j < t->m; j++) row[j] = unit_entry(p[j], y, pm[j], j);
+        for (int j = 0; j < t->m; j++) row[j] = unit_entry(peer_class(p[j]), y, pm[j], j);
         row[t->m] = t->m;
     }
 }
@@ -162,13 +162,13 @@ static int fill_bounds(peer_motif *t, const uint8_t *q, int from, int l, int end
     int bound = from, m = t->m;
     for (int i = l; i < end; i++) {
         t->bounds[i] = bound;
-        bound += bound < m && t->p[bound] == q[i];
+        bound += bound < m && peer_joined(t->p[bound], q[i]);
     }
     return t->bounds[end] = bound;
 }
 
 // Where an unbonded base y takes the motif from k on.
-static int unit(const peer_motif *t, int k, uint8_t y) { return k < t->m && t->pm[k] <= k && t->p[k] == y ? k + 1 : k; }
+static int unit(const peer_motif *t, int k, uint8_t y) { return k < t->m && t->pm[k] <= k && peer_match(t->p[k], y) ? k + 1 : k; }
 
 // Where the bases lo..hi, each as an unbonded one, take the motif from k on.
 static int units(const peer_motif *t, const uint8_t *q, int lo, int hi, int k) {
@@ -185,7 +185,7 @@ static int has_no_arc(const uint16_t *qm, int lo, int hi) {
 // How far the window lo..hi of the molecule takes the motif from `cur` on; with `stop`, some number below m where it cannot take the whole motif. A base whose
 // arc leaves the window is unbonded there.
 static int walk(peer_motif *t, const uint8_t *q, const uint16_t *qm, int lo, int hi, int cur, uint16_t *work, int stop) {
-    Pair s = {t->p, t->partner, q, t->pm, qm, t->steps, t->bounds, t->m, 0, t->m};
+    Pair s = {q, t->pm, qm, t->classes, t->steps, t->bounds, t->m, 0, t->m};
     int m = t->m;
     for (int l = lo; l < hi && cur < m; l++) {
         if (stop && hi - l < m - cur) return cur;
@@ -194,16 +194,17 @@ static int walk(peer_motif *t, const uint8_t *q, const uint16_t *qm, int lo, int
             cur = unit(t, cur, q[l]);
             continue;
         }
+        uint8_t x = peer_class(q[l]), y = peer_class(q[r]);
         if (has_no_arc(qm, l + 1, r)) {
-            int here = units(t, q, l + 1, r, cur), next = t->p[cur] == q[l] ? units(t, q, l + 1, r, cur + 1) : cur;
-            cur = arc_entry(&s, steps_of(&s, q[r]), cur, q[l], q[r], here, next);
+            int here = units(t, q, l + 1, r, cur), next = s.classes[cur] >> 8 == x ? units(t, q, l + 1, r, cur + 1) : cur;
+            cur = arc_entry(&s, steps_of(&s, y), cur, x, y, here, next);
         } else {
             int most = fill_bounds(t, q, cur, l, r + 1);
             if (stop && most + (hi - r - 1) < m) return cur;
             if (cur < most) {
                 s.from = cur;
                 inner_row(&s, l, r, work);
-                cur = arc_entry(&s, steps_of(&s, q[r]), cur, q[l], q[r], work[cur], work[cur + 1]);
+                cur = arc_entry(&s, steps_of(&s, y), cur, x, y, work[cur], work[cur + 1]);
             }
         }
         l = r;

@@ -18,16 +18,16 @@ typedef struct {
 static size_t at(const Table *t, size_t i, size_t j) { return t->rows[i * (t->m + 1) + j]; }
 
 // j + 1 where the base i alone takes the motif's base j, else j.
-static size_t over_base(const Table *t, size_t i, size_t j) { return j + (j < t->m && t->p[j] == t->q[i] && t->pm[j] <= j); }
+static size_t over_base(const Table *t, size_t i, size_t j) { return j + (j < t->m && peer_match(t->p[j], t->q[i]) && t->pm[j] <= j); }
 
 // The best fit of the suffix from j in the arc that i opens.
 static Fit in_arc(const Table *t, size_t i, size_t j) {
     size_t r = t->qm[i], k = t->pm[j];
     Fit right = {RIGHT, over_base(t, r, at(t, i + 1, j))}, with = right;
-    if (t->p[j] != t->q[i]) return right;
+    if (!peer_match(t->p[j], t->q[i])) return right;
     if (k <= j)
         with = (Fit){LEFT, at(t, i + 1, j + 1)};
-    else if (t->p[k] == t->q[r] && k <= at(t, i + 1, j + 1))
+    else if (peer_match(t->p[k], t->q[r]) && k <= at(t, i + 1, j + 1))
         with = (Fit){ARC, k + 1};
     return right.end < with.end ? with : right;
 }

@@ -105,7 +105,7 @@ pub fn told(batch: lakhido::Batch) -> (Vec<(usize, usize)>, usize) {
     (batch.queries().iter().map(|found| (found.count, found.searched)).collect(), batch.read)
 }
 
-/// A few molecules, and motifs that have to do with them.
+/// A few molecules, and motifs that have to do with them; of two motifs the later is now and then the former in another spelling.
 pub fn pool(r: &mut Random, count: usize, longest: usize) -> (Vec<Owned>, Vec<Owned>) {
     let molecules: Vec<Owned> = (0..count)
         .map(|_| {
@@ -113,7 +113,7 @@ pub fn pool(r: &mut Random, count: usize, longest: usize) -> (Vec<Owned>, Vec<Ow
             make::strand(r, n)
         })
         .collect();
-    let motifs = (0..count)
+    let mut motifs: Vec<Owned> = (0..count)
         .map(|_| {
             let from = r.below(count);
             let most = if r.one_in(4) { ENTRY.most } else { 12 };
@@ -121,6 +121,11 @@ pub fn pool(r: &mut Random, count: usize, longest: usize) -> (Vec<Owned>, Vec<Ow
             make::motif(r, &molecules[from], m)
         })
         .collect();
+    for t in (1..count).step_by(2) {
+        if r.one_in(2) {
+            motifs[t] = make::respell(r, &motifs[t - 1]);
+        }
+    }
     (molecules, motifs)
 }
 

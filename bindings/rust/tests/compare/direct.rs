@@ -120,26 +120,27 @@ fn words(alphabet: &[u8], n: usize) -> Vec<Vec<u8>> {
     (0..n).fold(vec![Vec::new()], |shorter, _| shorter.iter().flat_map(|w| alphabet.iter().map(move |&b| [w.as_slice(), &[b]].concat())).collect())
 }
 
-/// All nested strands of these lengths in two letters.
-pub fn small_strands(lengths: RangeInclusive<usize>) -> Vec<Owned> {
+/// All nested strands of these lengths in these letters.
+pub fn small_strands(letters: &[u8], lengths: RangeInclusive<usize>) -> Vec<Owned> {
     lengths
         .flat_map(|n| {
-            let words = words(b"GC", n);
+            let words = words(letters, n);
             folds(n).into_iter().flat_map(move |mates| words.clone().into_iter().map(move |bases| Owned { bases, mates: mates.clone() }))
         })
         .collect()
 }
 
+/// Letters for all small pairs, and the most bases of a motif: two that do not match, and three of which two do.
+pub const TWO_AND_THREE: [(&[u8], usize); 2] = [(b"GC", 4), (b"GTU", 3)];
+
 #[test]
 fn all_small_pairs() {
-    let (motifs, molecules) = (small_strands(0..=4), small_strands(1..=5));
-    let mut work = vec![0; work_size(4, 5)];
     let mut count = 0;
-    for q in &molecules {
-        let fold = fold_of(&q.mates);
-        for p in &motifs {
-            let (p, q) = (p.lend(), q.lend());
-            let expected = Ok((longest_by_trying(p, q), fold));
+    for (letters, most) in TWO_AND_THREE {
+        let (motifs, molecules) = (small_strands(letters, 0..=most), small_strands(letters, 1..=most + 1));
+        let mut work = vec![0; work_size(most, most + 1)];
+        for (p, q) in molecules.iter().flat_map(|q| motifs.iter().map(move |p| (p.lend(), q.lend()))) {
+            let expected = Ok((longest_by_trying(p, q), fold_of(q.mates)));
             let size = work_size(p.len(), q.len());
             let answer = matched(lakhido::length(lent(p), lent(q), &mut work[..size]));
             assert_eq!(answer, expected, "length: library, plain; {p:?}, {q:?}");
@@ -147,7 +148,7 @@ fn all_small_pairs() {
             count += 2;
         }
     }
-    report("all motifs of up to 4 bases and molecules of up to 5 in two letters", count);
+    report("all motifs of up to 4 bases and molecules of up to 5 in two letters, of up to 3 and 4 in G, T and U", count);
     assert!(300_000 < count);
 }
 
@@ -155,7 +156,7 @@ fn all_small_pairs() {
 fn all_small_checks() {
     let mut count = 0;
     for n in 0..=4 {
-        let words = words(b"AUX", n);
+        let words = words(b"ATUXt", n);
         let mut mates = vec![0; n];
         loop {
             for bases in &words {
@@ -191,7 +192,7 @@ fn all_small_folds() {
 
 #[test]
 fn all_small_places() {
-    let (motifs, molecules) = (small_strands(0..=3), small_strands(1..=3));
+    let (motifs, molecules) = (small_strands(b"TU", 0..=3), small_strands(b"UC", 1..=3));
     let mut count = 0;
     for p in &motifs {
         for q in &molecules {
@@ -202,7 +203,7 @@ fn all_small_places() {
             }
         }
     }
-    report("all places for motifs and molecules of up to 3 bases in two letters", count);
+    report("all places for motifs of up to 3 bases in T and U and molecules of up to 3 in U and C", count);
     assert!(50_000 < count);
 }
 

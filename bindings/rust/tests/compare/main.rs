@@ -1,4 +1,4 @@
-//! Holds the library to `plain`, an independent implementation of document 01 and the requests (i) to (v) of 02: the same inputs, answers and all
+//! Holds the library to `plain`, an independent implementation of document 01 and the requests (i) to (vi) of 02: the same inputs, answers and all
 //! buffers compared byte for byte.
 //!
 //! Each test prints its seed and how many comparisons it made (`cargo test --release -- --nocapture`). LAKHIDO_SEED sets the seed; otherwise it is taken
@@ -15,6 +15,7 @@ mod plain;
 mod plain_alone;
 mod random;
 mod settled;
+mod spellings;
 mod windows;
 
 use plain::strand::{Fold, Refused};

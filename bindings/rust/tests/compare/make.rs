@@ -3,12 +3,23 @@ use crate::plain::block::Owned;
 use crate::plain::windows::{Window, cut_out};
 use crate::random::Random;
 
-const LETTERS: [u8; 4] = *b"ACGU";
+const LETTERS: [u8; 5] = *b"TUACG";
 
-/// Random letters out of the first few.
+/// Random letters out of the first few: T alone, T and U, which match, and more.
 pub fn letters(r: &mut Random, n: usize) -> Vec<u8> {
-    let few = r.between(1, 4);
+    let few = r.between(1, 5);
     (0..n).map(|_| LETTERS[r.below(few)]).collect()
+}
+
+/// U for T and T for U, at every one of them or now and then.
+pub fn respell(r: &mut Random, s: &Owned) -> Owned {
+    let often = r.pick(&[1, 1, 2, 4]);
+    let other = |r: &mut Random, base: u8| match base {
+        b'T' if r.one_in(often) => b'U',
+        b'U' if r.one_in(often) => b'T',
+        _ => base,
+    };
+    Owned { bases: s.bases.iter().map(|&base| other(r, base)).collect(), mates: s.mates.clone() }
 }
 
 fn bond(mates: &mut [u16], i: usize, j: usize) {
@@ -137,9 +148,12 @@ fn unbond(mates: &mut [u16], i: usize) {
     }
 }
 
-/// A motif for a molecule: taken out of it, nudged, or unrelated; m is about its length.
+/// A motif for a molecule: taken out of it, nudged, spelled otherwise, or unrelated; m is about its length.
 pub fn motif(r: &mut Random, q: &Owned, m: usize) -> Owned {
     let mut p = if r.one_in(4) { strand(r, m) } else { taken_out(r, q, m) };
+    if r.one_in(2) {
+        p = respell(r, &p);
+    }
     for _ in 0..r.below(3) {
         nudge(r, &mut p);
     }
@@ -170,6 +184,9 @@ pub fn window_pair(r: &mut Random, n: usize, most: usize) -> (Owned, Owned) {
     let length = r.between(m, (m + spread).min(n));
     let stretch = cut_out(q.lend(), Window { start: r.below(n - length + 1), length });
     let mut p = taken_out(r, &stretch, m);
+    if r.one_in(2) {
+        p = respell(r, &p);
+    }
     if r.one_in(4) {
         nudge(r, &mut p);
     }
@@ -190,7 +207,7 @@ pub fn damage(r: &mut Random, s: &mut Owned, row: u32, most: usize) {
         }
         4 if 0 < n => {
             let at = r.below(n);
-            s.bases[at] = r.pick(&[0, b'T', b'X', b'a', b'u', b'@', b'B', b'V', 64, 66, 68, 70, 72, 84, 86, 128, 193, 255]);
+            s.bases[at] = r.pick(&[0, b't', b'u', b'X', b'a', b'@', b'B', b'N', 64, 66, 68, 70, 72, 83, 86, 128, 193, 212, 255]);
         }
         5 if 0 < n => {
             let (at, beyond) = (r.below(n), n + r.below(300));

@@ -1,7 +1,7 @@
-//! The plain implementation against itself: each quick way against the words of document 01 and of the requests (i) to (iii) of 02.
+//! The plain implementation against itself: each quick way against the words of document 01 and of the requests (i) to (iii) and (vi) of 02.
 use crate::make;
 use crate::plain::embedding::{closed, longest_by_trying, verify, verify_linear};
-use crate::plain::strand::{Fold, Strand, depth_by_trying, fold_of, lowest_crossing, lowest_crossing_by_pairs};
+use crate::plain::strand::{Fold, Strand, depth_by_trying, fold_of, lowest_crossing, lowest_crossing_by_pairs, matches};
 use crate::plain::windows::{tightest, tightest_by_definition};
 use crate::plain::{rows, table::Table};
 use crate::random::{rounds, seeded};
@@ -100,4 +100,12 @@ fn the_depths_agree() {
         deep += (1 < fold.depth && fold.depth < fold.arcs) as usize;
     }
     assert!(1_000 < deep);
+}
+
+/// All pairs of bytes: the same, and T with U.
+#[test]
+fn the_bytes_that_match() {
+    let others: Vec<(u8, u8)> = (0..=255).flat_map(|a| (0..=255).map(move |b| (a, b))).filter(|&(a, b)| a != b && matches(a, b)).collect();
+    assert_eq!(others, [(b'T', b'U'), (b'U', b'T')]);
+    assert!((0..=255).all(|a| matches(a, a)));
 }

@@ -1,5 +1,5 @@
-//! The settled examples of document 01, and small ones of the requests (i) to (iii) and (v) of 02, on the library: the fold of a molecule, the tightest
-//! window, the empty motif, batches.
+//! The settled examples of document 01, and small ones of the requests (i) to (iii), (v) and (vi) of 02, on the library: the fold of a molecule, the tightest
+//! window, the empty motif, batches, T and U.
 use crate::direct;
 use crate::plain::block;
 use crate::plain::calls;
@@ -172,12 +172,64 @@ fn refusals_with_the_empty_motif() {
     }
 }
 
+/// "Two bases now match when they are the same byte or both are among T and U." A motif, a molecule and L; where the motif embeds, its only places.
+#[test]
+fn t_and_u_match_each_other() {
+    let rows: [(Strand, Strand, usize, &[u16]); 13] = [
+        (s("GT", &[1, 0]), s("GAU", &[2, 1, 0]), 2, &[0, 2]),
+        (s("GU", &[1, 0]), s("GAT", &[2, 1, 0]), 2, &[0, 2]),
+        (s("T", &[0]), s("U", &[0]), 1, &[0]),
+        (s("U", &[0]), s("T", &[0]), 1, &[0]),
+        (s("T", &[0]), s("T", &[0]), 1, &[0]),
+        (s("T", &[0]), s("A", &[0]), 0, &[]),
+        (s("T", &[0]), s("C", &[0]), 0, &[]),
+        (s("T", &[0]), s("G", &[0]), 0, &[]),
+        (s("A", &[0]), s("T", &[0]), 0, &[]),
+        (s("UT", &[1, 0]), s("TU", &[1, 0]), 2, &[0, 1]),
+        (s("TT", &[0, 1]), s("TAU", &[2, 1, 0]), 1, &[]),
+        (s("ATC", &[0, 1, 2]), s("GAUCT", &[0, 1, 2, 3, 4]), 3, &[1, 2, 3]),
+        (s("TAGU", &[3, 1, 2, 0]), s("UAGT", &[3, 1, 2, 0]), 4, &[0, 1, 2, 3]),
+    ];
+    for (p, q, length, places) in rows {
+        let size = lakhido::work_size(p.len(), q.len());
+        let expected = Ok((length, strand::fold_of(q.mates)));
+        direct::length(p, q, size, expected);
+        let shown = direct::show(p, q, p.len(), size, expected).expect("accepted");
+        windows::window(p, q, size, calls::window(p, q, size));
+        if length == p.len() {
+            assert_eq!(shown, places, "{p:?}, {q:?}");
+            assert!(lakhido::verify(lent(p), lent(q), places).is_ok_and(|found| found.embeds), "verify of {p:?}, {q:?}");
+        }
+    }
+}
+
+/// "Blocks keep the letter as delivered, and the shelf still compares motifs byte by byte": keys 156 and 157, in slots 0 and 1 of two.
+#[test]
+fn two_spellings_are_two_entries() {
+    let (mut catalog, mut cache) = (vec![0; 3 * BLOCK], vec![0; 2 * BLOCK]);
+    for (d, bases) in ["GAT", "GAU", "GAC"].into_iter().enumerate() {
+        lakhido::add(&mut catalog, &mut cache, d, l(bases, &[2, 1, 0])).expect("a molecule");
+    }
+    assert_eq!([catalog[30], catalog[BLOCK + 30]], *b"TU");
+    let (mut work, mut hits) = (vec![0; lakhido::query_work_size(2)], [7; 3]);
+    for (bases, searched) in [("GT", 3), ("GU", 3), ("GT", 0), ("GU", 0)] {
+        let found = lakhido::query(&catalog, &mut cache, l(bases, &[1, 0]), &mut work, &mut hits);
+        assert_eq!((found, hits), (Ok(Found { count: 2, searched }), [0, 1, 7]), "{bases}");
+    }
+    assert_eq!([cache[21], cache[BLOCK + 21]], *b"TU");
+    for (bases, searched) in [("GT", 3), ("GU", 3), ("GT", 3), ("GT", 0)] {
+        let found = lakhido::query(&catalog, &mut cache[BLOCK..], l(bases, &[1, 0]), &mut work, &mut hits);
+        assert_eq!((found, hits), (Ok(Found { count: 2, searched }), [0, 1, 7]), "{bases} in one slot");
+    }
+}
+
 #[test]
 fn refusals() {
     let check = |q| lakhido::check(q).map_err(refused);
     assert_eq!(check(l("AC", &[0])), Err(Refused(1, 1, 0)));
     assert_eq!(check(l("", &[])), Err(Refused(2, 1, 0)));
     assert_eq!(check(l("AXC", &[0, 1, 2])), Err(Refused(4, 1, 1)));
+    assert_eq!(check(l("ATtU", &[0, 1, 2, 3])), Err(Refused(4, 1, 2)));
     assert_eq!(check(l("A", &[1])), Err(Refused(5, 1, 0)));
     assert_eq!(check(l("AC", &[1, 1])), Err(Refused(6, 1, 0)));
     assert_eq!(check(l("ACGU", &[2, 3, 0, 1])), Err(Refused(7, 1, 1)));

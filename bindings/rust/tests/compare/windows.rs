@@ -62,20 +62,18 @@ fn held_to_the_other_calls(p: Strand, q: Strand) {
 
 #[test]
 fn all_small_pairs() {
-    let (motifs, molecules) = (direct::small_strands(0..=4), direct::small_strands(1..=5));
-    let mut work = vec![0; work_size(4, 5)];
     let mut count = 0;
-    for q in &molecules {
-        let fold = fold_of(&q.mates);
-        for p in &motifs {
-            let (p, q) = (p.lend(), q.lend());
-            let size = work_size(p.len(), q.len());
-            let answer = windowed(lakhido::window(lent(p), lent(q), &mut work[..size]));
-            assert_eq!(answer, Ok((tightest_by_definition(p, q, longest_by_trying), fold)), "window: library, plain; {p:?}, {q:?}");
+    for (letters, most) in direct::TWO_AND_THREE {
+        let (motifs, molecules) = (direct::small_strands(letters, 0..=most), direct::small_strands(letters, 1..=most + 1));
+        let mut work = vec![0; work_size(most, most + 1)];
+        for (p, q) in molecules.iter().flat_map(|q| motifs.iter().map(move |p| (p.lend(), q.lend()))) {
+            let expected = Ok((tightest_by_definition(p, q, longest_by_trying), fold_of(q.mates)));
+            let answer = windowed(lakhido::window(lent(p), lent(q), &mut work[..work_size(p.len(), q.len())]));
+            assert_eq!(answer, expected, "window: library, plain; {p:?}, {q:?}");
             count += 1;
         }
     }
-    report("window on all motifs of up to 4 bases and molecules of up to 5 in two letters", count);
+    report("window on all motifs of up to 4 bases and molecules of up to 5 in two letters, of up to 3 and 4 in G, T and U", count);
     assert!(150_000 < count);
 }
 

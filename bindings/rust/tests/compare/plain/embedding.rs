@@ -1,11 +1,11 @@
 //! What an embedding is, word for word, and the longest closed prefix by trying.
-use super::strand::Strand;
+use super::strand::{Strand, matches};
 
 /// Verify: the places are an embedding of the whole motif. Every pair of positions is looked at.
 pub fn verify(p: Strand, q: Strand, places: &[u16]) -> bool {
     let at = |j: usize| places[j] as usize;
     let m = p.len();
-    (0..m).all(|j| at(j) < q.len() && p.bases[j] == q.bases[at(j)])
+    (0..m).all(|j| at(j) < q.len() && matches(p.bases[j], q.bases[at(j)]))
         && (0..m).all(|k| (0..k).all(|j| at(j) < at(k) && p.arc(j, k) == q.arc(at(j), at(k))))
 }
 
@@ -13,7 +13,7 @@ pub fn verify(p: Strand, q: Strand, places: &[u16]) -> bool {
 pub fn verify_linear(p: Strand, q: Strand, places: &[u16]) -> bool {
     let at = |j: usize| places[j] as usize;
     let m = p.len();
-    if !(0..m).all(|j| at(j) < q.len() && p.bases[j] == q.bases[at(j)]) || !(1..m).all(|j| at(j - 1) < at(j)) {
+    if !(0..m).all(|j| at(j) < q.len() && matches(p.bases[j], q.bases[at(j)])) || !(1..m).all(|j| at(j - 1) < at(j)) {
         return false;
     }
     let mut from = vec![None; q.len()];
@@ -40,7 +40,7 @@ fn extends(p: Strand, q: Strand, size: usize, places: &mut Vec<usize>) -> bool {
         return true;
     }
     for i in places.last().map_or(0, |&last| last + 1)..q.len() {
-        if p.bases[k] == q.bases[i] && (0..k).all(|j| p.arc(j, k) == q.arc(places[j], i)) {
+        if matches(p.bases[k], q.bases[i]) && (0..k).all(|j| p.arc(j, k) == q.arc(places[j], i)) {
             places.push(i);
             if extends(p, q, size, places) {
                 return true;

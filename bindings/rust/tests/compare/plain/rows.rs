@@ -1,6 +1,6 @@
 //! Document 003's algorithm as written: for each arc of the molecule two rows, the heavy child (the most arcs) first. A row of a stretch of the
 //! molecule holds, for each j, the end of the longest closed prefix of the suffix from j that embeds in the stretch.
-use super::strand::Strand;
+use super::strand::{Strand, matches};
 
 struct Walk<'a> {
     p: Strand<'a>,
@@ -62,7 +62,7 @@ impl Walk<'_> {
         let (b, m) = (self.q.bases[i], self.p.len());
         let (bases, mates, row) = (&self.p.bases[..m], &self.p.mates[..m], &mut row[..=m]);
         for j in 0..m {
-            if bases[j] == b && mates[j] as usize <= j {
+            if matches(bases[j], b) && mates[j] as usize <= j {
                 row[j] = row[j + 1];
             }
         }
@@ -122,7 +122,7 @@ impl Walk<'_> {
             let k = p.mate(j);
             left[j] = if k <= j {
                 left[j].max(right[j])
-            } else if p.bases[j] == x && p.bases[k] == y && k <= inner[j + 1] as usize {
+            } else if matches(p.bases[j], x) && matches(p.bases[k], y) && k <= inner[j + 1] as usize {
                 right[j].max(k as u16 + 1)
             } else {
                 right[j]

@@ -53,8 +53,15 @@ impl std::fmt::Debug for Strand<'_> {
     }
 }
 
+/// "T (byte 84) becomes a letter" (02, (vi)).
 fn is_letter(b: u8) -> bool {
-    matches!(b, b'A' | b'C' | b'G' | b'U')
+    matches!(b, b'A' | b'C' | b'G' | b'T' | b'U')
+}
+
+/// "Two bases now match when they are the same byte or both are among T and U" (02, (vi)).
+pub fn matches(a: u8, b: u8) -> bool {
+    let among_t_and_u = |base: u8| base == b'T' || base == b'U';
+    a == b || among_t_and_u(a) && among_t_and_u(b)
 }
 
 /// The place where a row applies to a strand, if it does; given are its side and the most bases it may have.

@@ -1,6 +1,6 @@
 //! The longest closed prefix and its places from one table of all rows: a row for each position of the molecule, from there to the end of the arc
 //! around it. It needs (n + 1) (m + 1) numbers, and shares no step with the walk of document 003.
-use super::strand::Strand;
+use super::strand::{Strand, matches};
 
 pub struct Table<'a> {
     p: Strand<'a>,
@@ -47,20 +47,20 @@ impl<'a> Table<'a> {
 
     /// j + 1 where the base i alone takes the motif's base j, else j.
     fn over_base(&self, i: usize, j: usize) -> usize {
-        j + (j < self.p.len() && self.p.bases[j] == self.q.bases[i] && !self.p.opens(j)) as usize
+        j + (j < self.p.len() && matches(self.p.bases[j], self.q.bases[i]) && !self.p.opens(j)) as usize
     }
 
     /// The best fit of the suffix from j in the arc that i opens.
     fn in_arc(&self, i: usize, j: usize) -> Fit {
         let (p, q, r) = (self.p, self.q, self.q.mate(i));
         let right = Fit::Right(self.over_base(r, self.at(i + 1, j)));
-        if p.bases[j] != q.bases[i] {
+        if !matches(p.bases[j], q.bases[i]) {
             return right;
         }
         let k = p.mate(j);
         let with = if !p.opens(j) {
             Fit::Left(self.at(i + 1, j + 1))
-        } else if p.bases[k] == q.bases[r] && k <= self.at(i + 1, j + 1) {
+        } else if matches(p.bases[k], q.bases[r]) && k <= self.at(i + 1, j + 1) {
             Fit::Arc(k + 1)
         } else {
             return right;

@@ -8,26 +8,26 @@ use Rattle.arcs.proofs.bounds.next.Tie as tie
 returns : tie.Need-returns
 returns c = next-all _ _ _ (c .if1 .taken)
 
-shared-slice-read-letters-match : tie.Need-shared-slice-read-letters-match
-shared-slice-read-letters-match c = search needs
+shared-slice-read-joined-match : tie.Need-shared-slice-read-joined-match
+shared-slice-read-joined-match c = search needs
 
-letters-match-requires : tie.Need-letters-match-requires
-letters-match-requires c κs = search needs
+joined-match-requires : tie.Need-joined-match-requires
+joined-match-requires c κs = search needs
 
 add-result : tie.Need-add-result
 add-result c = search needs
 
 returns-2 : tie.Need-returns-2
 returns-2 c =
-    let at-letters-match = c .before in
-    let at-if1 = at-letters-match .before .before in
-    next-taken _ _ _ (at-if1 .if1 .left) (sym (at-letters-match .letters-match .ensures) ∙ c .if2 .taken)
+    let at-joined-match = c .before in
+    let at-if1 = at-joined-match .before .before in
+    next-taken _ _ _ (at-if1 .if1 .left) (sym (at-joined-match .joined-match .ensures) ∙ c .if2 .taken)
 
 returns-3 : tie.Need-returns-3
 returns-3 c =
-    let at-letters-match = c .before in
-    let at-if1 = at-letters-match .before .before in
-    next-left _ _ _ (at-if1 .if1 .left) (sym (at-letters-match .letters-match .ensures) ∙ c .if2 .left)
+    let at-joined-match = c .before in
+    let at-if1 = at-joined-match .before .before in
+    next-left _ _ _ (at-if1 .if1 .left) (sym (at-joined-match .joined-match .ensures) ∙ c .if2 .left)
 
 pub next-spec : {M : Type 1} → statement M
-next-spec = tie.close (tie.spec returns shared-slice-read-letters-match letters-match-requires add-result returns-2 returns-3)
+next-spec = tie.close (tie.spec returns shared-slice-read-joined-match joined-match-requires add-result returns-2 returns-3)

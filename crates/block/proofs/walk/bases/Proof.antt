@@ -4,7 +4,7 @@ use native.Mathlib.Omega.{arith}
 use Prim.Native.Nat.{_+_, _-_, _≤_}
 use mathlib.Core.Path.{_≡_, refl}
 use lib.ListN.{length}
-use Rattle.strand.specs.Strands.{isLetter}
+use Rattle.letters.specs.Letters.{isLetter}
 use Rattle.block.proofs.WalkLaws.{part-length, Tested, tested-none, tested-next, tested-end}
 use Rattle.block.proofs.walk.bases.Statement.{statement}
 use Rattle.block.proofs.walk.bases.Tie as tie

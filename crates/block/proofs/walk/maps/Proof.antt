@@ -7,7 +7,7 @@ use mathlib.Core.Path.{_≡_, _∙_, ap}
 use mathlib.Core.Bool.{Bool}
 use lib.ListN.{length}
 use Rattle.lists.specs.Vocabulary.{every, choose}
-use Rattle.strand.proofs.LetterLaws.{least-none, least-next, least-end}
+use Rattle.letters.proofs.LetterLaws.{least-none, least-next, least-end}
 use Rattle.block.proofs.SumLaws.{sum-small}
 use Rattle.block.proofs.SoundLaws.{hitByte, hits-bytes}
 use Rattle.block.proofs.WalkLaws.{MapsPassed, maps-none, maps-small, maps-next, maps-end}

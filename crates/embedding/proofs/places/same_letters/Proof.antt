@@ -7,7 +7,7 @@ use native.Mathlib.Omega.{arith}
 use lib.ListN.{length}
 use borrow.Author.Needs.{needs}
 use Rattle.lists.specs.Vocabulary.{nth}
-use Rattle.strand.specs.Strands.{lettersMatch}
+use Rattle.letters.specs.Letters.{lettersMatch}
 use Rattle.lists.proofs.ListLaws.{not-not, true-not}
 use Rattle.embedding.proofs.Answers.{tells-yes, tells-no}
 use Rattle.embedding.proofs.places.same_letters.Statement.{statement}

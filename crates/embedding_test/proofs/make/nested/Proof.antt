@@ -20,14 +20,8 @@ loop-holds c = search needs
 next-requires : tie.Need-next-requires Inv-loop μ-loop
 next-requires c κs = search needs
 
-add-letter : tie.Need-add-letter Inv-loop μ-loop
-add-letter c = search needs
-
-rem-letter : tie.Need-rem-letter Inv-loop μ-loop
-rem-letter c = search needs
-
-letter-requires : tie.Need-letter-requires Inv-loop μ-loop
-letter-requires c κs = search needs
+base-requires : tie.Need-base-requires Inv-loop μ-loop
+base-requires c κs = search needs
 
 set-byte-requires : tie.Need-set-byte-requires Inv-loop μ-loop
 set-byte-requires c κs = search needs
@@ -60,5 +54,5 @@ returns : tie.Need-returns Inv-loop μ-loop
 returns c = search needs
 
 pub nested-spec : {M : Type 1} → statement M
-nested-spec = tie.close (tie.spec Inv-loop μ-loop loop-holds next-requires add-letter rem-letter letter-requires set-byte-requires next-requires-2 fold-requires
+nested-spec = tie.close (tie.spec Inv-loop μ-loop loop-holds next-requires base-requires set-byte-requires next-requires-2 fold-requires
     add-i loop-less loop-again same-length same-length-2 same-length-3 returns)

@@ -1,4 +1,4 @@
--- `matcher::walk::next_end` meets its contract: nothing is asked where the letters differ, and else it is `loop_end` from the next position on.
+-- `matcher::walk::next_end` meets its contract: nothing is asked where the letters do not match, and else it is `loop_end` from the next position on.
 use borrow.Author.Needs.{needs}
 use mathlib.Core.Path.{sym, _∙_}
 use native.Mathlib.Omega.{arith}

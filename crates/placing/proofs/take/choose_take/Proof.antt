@@ -13,17 +13,26 @@ unit-requires c κs = search needs
 cast-end : tie.Need-cast-end
 cast-end c = search needs
 
-mul-d : tie.Need-mul-d
-mul-d c = search needs
+letter-class-requires : tie.Need-letter-class-requires
+letter-class-requires c κs = search needs
 
-shared-slice-read-d : tie.Need-shared-slice-read-d
-shared-slice-read-d c = search needs
+cast-left : tie.Need-cast-left
+cast-left c = search needs
+
+letter-class-requires-2 : tie.Need-letter-class-requires-2
+letter-class-requires-2 c κs = search needs
+
+cast-right : tie.Need-cast-right
+cast-right c = search needs
+
+mul-over-entry : tie.Need-mul-over-entry
+mul-over-entry c = search needs
 
 shared-slice-read-over-entry : tie.Need-shared-slice-read-over-entry
 shared-slice-read-over-entry c = search needs
 
-mul-over-entry : tie.Need-mul-over-entry
-mul-over-entry c = search needs
+mul-over-entry-2 : tie.Need-mul-over-entry-2
+mul-over-entry-2 c = search needs
 
 shared-slice-read-over-entry-2 : tie.Need-shared-slice-read-over-entry-2
 shared-slice-read-over-entry-2 c = search needs
@@ -40,10 +49,13 @@ cast-over c = search needs
 returns : tie.Need-returns
 returns c =
     let at-over-entry = c .before in
-    let at-unit = at-over-entry .before .before .before .before in
+    let at-letter-class2 = at-over-entry .before .before .before in
+    let at-letter-class = at-letter-class2 .before in
+    let at-unit = at-letter-class .before in
     let at-start = at-unit .before .before .before .before in
-    takes-inside _ _ _ _ _ _ _ _ _ (at-start .pre .1 .0) (at-unit .unit .ensures)
-    (over-known _ _ _ _ _ _ (at-start .pre .1 .0) (at-start .pre .0 .1 .0) (at-start .pre .1 .1) (at-over-entry .over-entry .ensures)) (c .if1 .taken)
+    takes-inside _ _ _ _ _ _ _ _ _ (at-start .pre .1 .0) (at-unit .unit .ensures) (over-known _ _ _ _ _ _ _ _ (at-start .pre .1 .0) (at-start .pre .0 .1 .0)
+    (at-start .pre .1 .1) (at-letter-class .letter-class .ensures) (at-letter-class2 .letter-class2 .ensures) (at-over-entry .over-entry .ensures))
+    (c .if1 .taken)
 
 mul-k : tie.Need-mul-k
 mul-k c = search needs
@@ -53,42 +65,46 @@ shared-slice-read-k c = search needs
 
 cast-k : tie.Need-cast-k
 cast-k c =
-    let at-start = c .before .before .before .before .before .before .before .before .before .before in
-    omega (arith, c .shared-slice-known7 .given (at-start .args .from))
+    let at-start = c .before .before .before .before .before .before .before .before .before .before .before in
+    omega (arith, c .shared-slice-known6 .given (at-start .args .from))
 
-add-t27 : tie.Need-add-t27
-add-t27 c = search needs
+add-t28 : tie.Need-add-t28
+add-t28 c = search needs
 
 returns-2 : tie.Need-returns-2
 returns-2 c =
     let at-if1 = c .before .before in
     let at-over-entry = at-if1 .before in
-    let at-unit = at-over-entry .before .before .before .before in
+    let at-letter-class2 = at-over-entry .before .before .before in
+    let at-letter-class = at-letter-class2 .before in
+    let at-unit = at-letter-class .before in
     let at-start = at-unit .before .before .before .before in
-    takes-left _ _ _ _ _ _ _ _ _ (at-start .pre .1 .0) (at-unit .unit .ensures)
-    (over-known _ _ _ _ _ _ (at-start .pre .1 .0) (at-start .pre .0 .1 .0) (at-start .pre .1 .1) (at-over-entry .over-entry .ensures)) (at-if1 .if1 .left)
-    (c .if2 .taken)
+    takes-left _ _ _ _ _ _ _ _ _ (at-start .pre .1 .0) (at-unit .unit .ensures) (over-known _ _ _ _ _ _ _ _ (at-start .pre .1 .0) (at-start .pre .0 .1 .0)
+    (at-start .pre .1 .1) (at-letter-class .letter-class .ensures) (at-letter-class2 .letter-class2 .ensures) (at-over-entry .over-entry .ensures))
+    (at-if1 .if1 .left) (c .if2 .taken)
 
-add-t15 : tie.Need-add-t15
-add-t15 c = search needs
+add-t21 : tie.Need-add-t21
+add-t21 c = search needs
 
-add-t30 : tie.Need-add-t30
-add-t30 c =
-    let at-shared-slice-known7 = c .before in
-    let at-start = at-shared-slice-known7 .before .before .before .before .before .before .before .before .before .before in
-    omega (arith, at-shared-slice-known7 .shared-slice-known7 .given (at-start .args .from))
+add-t16 : tie.Need-add-t16
+add-t16 c =
+    let at-shared-slice-known6 = c .before in
+    let at-start = at-shared-slice-known6 .before .before .before .before .before .before .before .before .before .before .before in
+    omega (arith, at-shared-slice-known6 .shared-slice-known6 .given (at-start .args .from))
 
 returns-3 : tie.Need-returns-3
 returns-3 c =
     let at-if1 = c .before .before in
     let at-over-entry = at-if1 .before in
-    let at-unit = at-over-entry .before .before .before .before in
+    let at-letter-class2 = at-over-entry .before .before .before in
+    let at-letter-class = at-letter-class2 .before in
+    let at-unit = at-letter-class .before in
     let at-start = at-unit .before .before .before .before in
-    takes-upon _ _ _ _ _ _ _ _ _ (at-start .pre .1 .0) (at-unit .unit .ensures)
-    (over-known _ _ _ _ _ _ (at-start .pre .1 .0) (at-start .pre .0 .1 .0) (at-start .pre .1 .1) (at-over-entry .over-entry .ensures)) (at-if1 .if1 .left) _
-    refl (c .if2 .left)
+    takes-upon _ _ _ _ _ _ _ _ _ (at-start .pre .1 .0) (at-unit .unit .ensures) (over-known _ _ _ _ _ _ _ _ (at-start .pre .1 .0) (at-start .pre .0 .1 .0)
+    (at-start .pre .1 .1) (at-letter-class .letter-class .ensures) (at-letter-class2 .letter-class2 .ensures) (at-over-entry .over-entry .ensures))
+    (at-if1 .if1 .left) _ refl (c .if2 .left)
 
 pub choose-take-spec : {M : Type 1} → statement M
-choose-take-spec = tie.close (tie.spec unit-requires cast-end mul-d shared-slice-read-d shared-slice-read-over-entry mul-over-entry
-    shared-slice-read-over-entry-2 cast-over-entry over-entry-requires cast-over returns mul-k shared-slice-read-k cast-k add-t27 returns-2 add-t15 add-t30
-    returns-3)
+choose-take-spec = tie.close (tie.spec unit-requires cast-end letter-class-requires cast-left letter-class-requires-2 cast-right mul-over-entry
+    shared-slice-read-over-entry mul-over-entry-2 shared-slice-read-over-entry-2 cast-over-entry over-entry-requires cast-over returns mul-k
+    shared-slice-read-k cast-k add-t28 returns-2 add-t21 add-t16 returns-3)
