@@ -37,7 +37,7 @@ extern "C" {
 #endif
 
 /* The version of this file and of the library. */
-#define LAKHIDO_VERSION "0.6.0"
+#define LAKHIDO_VERSION "0.6.1"
 
 /* Lengths of strands. For check, length, show, window and verify a molecule has 1 to LAKHIDO_MOST bases, a motif 0 to LAKHIDO_MOST. A molecule of
  * the catalog has 1 to LAKHIDO_MOLECULE_MOST, a motif of a query or a batch 0 to LAKHIDO_MOTIF_MOST. */

@@ -5,7 +5,10 @@ import glob
 import os
 import re
 
-HEADER, WRAPPER, CAPI = 'include/lakhido.h', 'bindings/rust/src', 'crates/capi/src'
+HEADER, WRAPPER = 'include/lakhido.h', 'bindings/rust/src'
+
+# Where the structs of the interface are, and its functions.
+EXPORTED = ('crates/interface/src', 'crates/capi/src')
 
 # Names of parameters: in the Rattle source, and in header and wrapper. Any other name is the same in all three.
 NAMES = {'p': 'motif_bases', 'pm': 'motif_mates', 'q': 'bases', 'qm': 'mates', 'd': 'number'}
@@ -106,13 +109,13 @@ def rust_types(text, kind, lengths=()):
 
 def rattle_source(root):
     """Also the parameters as they are written, and a line for what is exported in a form that this script does not know."""
-    text = read(os.path.join(root, CAPI, '*.rt'))
+    text = '\n'.join(read(os.path.join(root, path, '*.rt')) for path in EXPORTED)
     written, results = {}, {}
     for one in re.finditer(r'#\[no_mangle\]\s*pub extern "C" fn (\w+)\(([^()]*)\)(?:\s*->\s*(\w+))?\s*(?:ensures|requires|\{)', text):
         written[one[1]], results[one[1]] = typed(one[2]), one[3] or '()'
     kinds = rust_types(text, 'C', constants(root, ARRAY_LENGTHS))
     functions = {name: passed(written[name]) + [('result', results[name])] for name in written}
-    strange = ['%s: %d times `%s`, %d understood' % (CAPI, text.count(sign), sign, count) for sign, count in (
+    strange = ['%s: %d times `%s`, %d understood' % (' and '.join(EXPORTED), text.count(sign), sign, count) for sign, count in (
         ('no_mangle', len(written)), ('extern "C"', len(written)), ('repr(', len(kinds['struct']) + len(kinds['enum']))) if text.count(sign) != count]
     return functions, kinds, written, strange
 

@@ -1,5 +1,6 @@
 //! Links the library's archive, libcapi.a, from the folder LAKHIDO_LIB_DIR (a relative path is from the folder of this package), or from target/staticlib of
-//! the repository. With the feature `c-peers` it also compiles the plain C versions of benches/peers, which the benchmark times against.
+//! the repository. With the feature `c-peers` it also compiles the plain C versions of benches/peers, which the benchmark times against;
+//! with `older` it links the archive of an older version, too.
 use std::env;
 use std::path::{Path, PathBuf};
 use std::process::Command;
@@ -28,6 +29,24 @@ fn main() {
     if env::var_os("CARGO_FEATURE_C_PEERS").is_some() {
         compile_peers(&here.join("benches/peers"));
     }
+    if env::var_os("CARGO_FEATURE_OLDER").is_some() {
+        rename_older(&here);
+    }
+}
+
+/// The archive of an older version, from LAKHIDO_OLDER_LIB, with `older_` before the names of its calls, so that the benchmark `versions` can link both.
+fn rename_older(here: &Path) {
+    println!("cargo::rerun-if-env-changed=LAKHIDO_OLDER_LIB");
+    let Some(archive) = env::var_os("LAKHIDO_OLDER_LIB").map(|path| here.join(path)) else {
+        println!("cargo::error=lakhido: the feature `older` needs LAKHIDO_OLDER_LIB, the libcapi.a of an older version");
+        return;
+    };
+    println!("cargo::rerun-if-changed={}", archive.display());
+    let out = PathBuf::from(env::var_os("OUT_DIR").expect("cargo sets OUT_DIR")).join("libolder.a");
+    let names = ["add", "batch", "check", "length", "query", "remove", "show", "verify", "window"];
+    let renamed = names.iter().flat_map(|name| ["--redefine-sym".into(), format!("lakhido_{name}=older_lakhido_{name}")]);
+    run(Command::new("objcopy").args(renamed).arg(&archive).arg(&out));
+    println!("cargo::rustc-link-arg-benches={}", out.display());
 }
 
 /// The plain C versions at -O3, as one archive. CC names the compiler; else it is clang, which like the library's compiler stands on LLVM, or cc.

@@ -128,6 +128,10 @@ module _ {p q : List ℕ} {from lo hi : ℕ} where
           written = rw a (climbing-put room);
         }
 
+    -- The motif's own rows stay where the bound at i is written.
+    pub climbing-tables : {pm : List ℕ} → 5 * (length p + 1) + i < length old → Tables p pm old → Tables p pm (set new (5 * (length p + 1) + i) bound)
+    climbing-tables room T = tables-kept T (climbing-put room .long) (λ k h. climbing-put room .under k (omega arith))
+
     -- At hi, where the last bound is written.
     pub climbing-end : hi ≤ i → 5 * (length p + 1) + hi < length old
         → (bound ≡ climbed (lettersFit p q) (length p) from lo (hi - lo))

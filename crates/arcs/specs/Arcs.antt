@@ -1,4 +1,4 @@
--- Only the contracts and laws of this crate, placing, trace and matcher need this file: what the walk over the arcs of the molecule asks and leaves.
+-- Only the contracts and laws of this crate, placing, trace, walk and matcher need this file: what the walk over the arcs of the molecule asks and leaves.
 use Prim.Native.Nat.{ℕ, _+_, _-_, _*_, _^_, _≤_, _<_}
 use mathlib.Core.Path.{_≡_}
 use mathlib.Core.Bool.{true}

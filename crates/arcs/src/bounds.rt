@@ -10,22 +10,32 @@ ghost use Rattle.letters.specs.Letters.{lettersMatch};
 ghost use Rattle.rows.specs.Rows.{Tables, boundAt};
 ghost use Rattle.arcs.specs.Arcs.{Bounded, AllStarts};
 
-// The bound after a base: one more where the position that the bound is matches the base.
-fn next(p: &[u8], bound: usize, base: u8) -> usize
+// The bound after a base: one more where the position that the bound is matches the base, by their classes.
+fn next(p: &[u8], pm: &[u16], tables: &[u16], bound: usize, base: u8) -> usize
     requires { ⌜ length (now p) ≤ 4096 ⌝ }
+    requires { ⌜ Tables (now p) (now pm) (now tables) ⌝ }
     ensures { λ r. ⌜ r ≡ choose (ltb bound (length (now (p .entry)))) (choose (lettersMatch (nth (now (p .entry)) bound) base) (bound + 1) bound) bound ⌝ }
 {
     if p.len() <= bound {
         return bound;
     }
-    if letters::joined_match(p[bound], base) {
+    if tables[bound] % 256 == letters::letter_class(base) as u16 {
         return bound + 1;
     }
     bound
 }
 
 // Writes bounds of the bases from lo to hi, where the motif has come to `from` at lo, and gives that of hi. How close they are is no part of the contract.
-pub fn fill(p: &[u8], q: &[u8], from: usize, lo: usize, hi: usize, tables: &mut [u16]) -> usize
+pub fn fill(
+    p: &[u8],
+    pm: &[u16],
+    q: &[u8],
+    from: usize,
+    lo: usize,
+    hi: usize,
+    tables: &mut [u16],
+) -> usize
+    requires { ⌜ Tables (now p) (now pm) (now tables) ⌝ }
     requires { ⌜ (length (now p) ≤ 4096) × ((length (now q) ≤ 4096) × (from ≤ length (now p))) ⌝ }
     requires { ⌜ (lo ≤ hi) × ((hi ≤ length (now q)) × (5 * (length (now p) + 1) + length (now q) < length (now tables))) ⌝ }
     ensures { λ r. ⌜ (r ≡ boundAt (length (now (p .entry))) (now (tables .exit)) hi)
@@ -38,7 +48,7 @@ pub fn fill(p: &[u8], q: &[u8], from: usize, lo: usize, hi: usize, tables: &mut 
     let mut i = lo;
     while i < hi {
         tables[at + i] = bound as u16;
-        bound = next(p, bound, q[i]);
+        bound = next(p, pm, tables, bound, q[i]);
         i += 1;
     }
     tables[at + hi] = bound as u16;

@@ -25,7 +25,7 @@ use Rattle.block.specs.Content.{blockSize, blockBases, moleculeIn, strandIn}
 use Rattle.block.proofs.ContentLaws.{molecule-size, molecule-fits, molecule-count, molecule-proper}
 use Rattle.calls.specs.Buffers.{mostCatalogBlocks, mostMoleculeBases, held, moleculeAt}
 use Rattle.calls.proofs.FactLaws.{held-facts, molecule-at}
-use Rattle.search.specs.Search.{SoundCatalog}
+use Rattle.judge.specs.Judge.{SoundCatalog}
 use Rattle.batch.specs.Steps.{inSome, Asked, Wanted, BondsTo, Searching, MoleculeRead}
 
 pub length-of-molecule : (catalog : List ℕ) (d : ℕ) → SoundCatalog catalog → d < blockCount catalog → length (moleculeAt catalog d .bases) ≤ blockBases
@@ -121,7 +121,7 @@ module _ (catalog : List ℕ) (want : ℕ → Bool) (bonds : List ℕ) where
   pub bonds-end : (d n : ℕ) → n ≤ d → BondsTo catalog want bonds d → BondsTo catalog want bonds n
   bonds-end d n h B = record { size = B .size; each = λ u l w. B .each u (omega arith) w }
 
--- ---- a molecule that was read, as the matcher asks for it; q are its bases
+-- ---- a molecule that was read, as the walk asks for it; q are its bases
 
 module _ (catalog bonds : List ℕ) (d : ℕ) (R : MoleculeRead catalog bonds d) (q : List ℕ) (is : q ≡ moleculeAt catalog d .bases) where
   short : length q ≤ blockBases

@@ -1,4 +1,4 @@
--- Motif t of an accepted batch, with its mates and its tables as they lie among those of all motifs: what the matcher asks of it, and what it leaves.
+-- Motif t of an accepted batch, with its mates and its tables as they lie among those of all motifs: what the walk asks of it, and what it leaves.
 use Prim.Native.Nat.{ℕ, _+_, _-_, _*_, _<_, _≤_}
 use native.Mathlib.Omega.{arith}
 use native.Mathlib.Decide.{ℕ-discrete}
@@ -12,7 +12,7 @@ use Rattle.lists.proofs.Stretches.{length-stretch, piece-back, length-pieces, p
 use Rattle.strand.specs.Strands.{Strand, strandOf, Proper, leastMotif, leastMolecule, greatestLength}
 use Rattle.strand.proofs.VerdictLaws.{proper-within}
 use Rattle.refusals.specs.Rules.{motifSide, moleculeSide, workSize}
-use Rattle.matcher.specs.Walk.{TablesFor}
+use Rattle.walk.specs.Walk.{TablesFor}
 use Rattle.embedding.specs.Longest.{embeds}
 use Rattle.block.specs.Block.{blockCount}
 use Rattle.block.specs.Content.{blockBases}

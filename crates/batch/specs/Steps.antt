@@ -18,7 +18,7 @@ use Rattle.calls.specs.declared.Batched.{Batched}
 use Rattle.calls.specs.declared.BatchRead.the-variants.{Molecules}
 use Rattle.refusals.specs.declared.Verdict.the-variants.{Accepted}
 use Rattle.calls.specs.Motifs.{mostMotifs, motifOf, UsableMotifs}
-use Rattle.search.specs.Search.{SoundCatalog}
+use Rattle.judge.specs.Judge.{SoundCatalog}
 use Rattle.calls.specs.Statements.{AllSound}
 use Rattle.motifs.specs.Unpacked.{MatesOf}
 

@@ -1,7 +1,7 @@
 // The call batch: 1 to 16 motifs together. Each molecule that one of their queries has to search is decoded once for all motifs.
 mod answer;
-mod judge;
 mod plan;
+mod rules;
 mod scan;
 
 use block::layout;
@@ -188,7 +188,7 @@ pub fn batch(
 {
     let entries = work.len();
     let places = hits.len();
-    let verdict = judge::judge_batch(catalog, cache, motifs, entries, places);
+    let verdict = rules::judge_batch(catalog, cache, motifs, entries, places);
     if let refusals::Verdict::Refused(r) = verdict {
         return refused(r);
     }

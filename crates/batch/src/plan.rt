@@ -11,7 +11,7 @@ ghost use Rattle.calls.specs.Motifs.{mostMotifs, motifOf};
 ghost use Rattle.batch.specs.Steps.{mapsSize, Planning, planned, plannedBy, PlannedTo};
 
 // The bytes of the largest cache.
-const CACHE_SIZE: usize = layout::BLOCK_SIZE * search::judge::MOST_CACHE_BLOCKS;
+const CACHE_SIZE: usize = layout::BLOCK_SIZE * judge::MOST_CACHE_BLOCKS;
 
 // The numbers that query t has to search, by the entry of its slot, into the borrowed map; then the entry that it leaves. Its hits are not known yet: every
 // held number has its hit bit.

@@ -1,7 +1,7 @@
 // The molecules that some motif of a batch has to search: the mates of each are decoded once, and then it is searched for every motif that has to search it,
 // motif by motif.
 use block::layout;
-use matcher::walk::QUERY_TABLES;
+use walk::QUERY_TABLES;
 ghost use mathlib.Core.Path.{_≡_};
 ghost use mathlib.Core.Bool.{true, _&&_};
 ghost use Prim.Native.Nat.{_+_, _*_, _<_, _≤_};
@@ -16,12 +16,12 @@ ghost use Rattle.block.specs.Content.{blockBases};
 ghost use Rattle.embedding.specs.Longest.{embeds};
 ghost use Rattle.calls.specs.Buffers.{mostCatalogBlocks, mostMoleculeBases, held, moleculeAt};
 ghost use Rattle.calls.specs.Motifs.{mostMotifs, motifOf};
-ghost use Rattle.search.specs.Search.{SoundCatalog};
+ghost use Rattle.judge.specs.Judge.{SoundCatalog};
 ghost use Rattle.motifs.specs.Unpacked.{TablesOf};
 ghost use Rattle.batch.specs.Steps.{mapsSize, Ready, Joined, hitsIn, inSome, Asked, Wanted, BondsTo, Searching, MoleculeRead};
 
 // The entries of the array that the mates of all molecules stand in: a piece for each block of the largest catalog.
-const BONDS_SIZE: usize = layout::BLOCK_BASES * search::judge::MOST_CATALOG_BLOCKS;
+const BONDS_SIZE: usize = layout::BLOCK_BASES * judge::MOST_CATALOG_BLOCKS;
 
 // Where the mates begin in a molecule block.
 const MOLECULE_MATES_AT: usize = layout::MOLECULE_START + layout::BLOCK_BASES;
@@ -88,7 +88,7 @@ fn embeds_motif(
     let e = a + p.len();
     let b = QUERY_TABLES * t;
     let f = b + QUERY_TABLES;
-    matcher::walk::embeds(p, &mates[a..e], &mut tables[b..f], q, qm, work)
+    walk::embeds(p, &mates[a..e], &mut tables[b..f], q, qm, work)
 }
 
 // Whether motif t embeds in molecule d, which was read.

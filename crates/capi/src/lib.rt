@@ -1,6 +1,8 @@
 // The calls as C sees them (include/lakhido.h). Each gives the call's answer as a struct of numbers and leaves every buffer as the call does.
-mod answers;
-
+use interface::Answer;
+use interface::BatchAnswer;
+use interface::WindowAnswer;
+use interface::answers;
 ghost use mathlib.Core.Path.{_≡_};
 ghost use lib.ListN.{length};
 ghost use Rattle.strand.specs.Strands.{strandOf, checkAnswer};
@@ -10,47 +12,8 @@ ghost use Rattle.matcher.specs.Answers.{lengthVerdict, lengthAnswer, showVerdic
 ghost use Rattle.window.specs.Answers.{windowAnswer};
 ghost use Rattle.calls.specs.Calls.{effect, addOutcome, removeOutcome, queryVerdict, queryOutcome};
 ghost use Rattle.calls.specs.Batch.{batchVerdict, batchOutcome};
-ghost use Rattle.capi.specs.Interface.{checkInC, matchInC, windowInC, verifyInC, addInC, removeInC, effectInC, queriedInC, queryEffectInC};
-ghost use Rattle.capi.specs.Interface.{batchedInC, batchEffectInC};
-
-// The answer of every call but window and batch. Refused: number, side and place, else zeros. Accepted: refusal 0, and in `value` and `searched` what the call
-// says; `arcs` and `depth` are the molecule's in check, length, show, verify and add; else 0.
-#[repr(C)]
-pub struct Answer {
-    pub refusal: usize,
-    pub side: usize,
-    pub place: usize,
-    pub value: usize,
-    pub searched: usize,
-    pub arcs: usize,
-    pub depth: usize,
-}
-
-// The answer of window. Refused: number, side and place, else zeros. Accepted: refusal 0, the molecule's `arcs` and `depth`, and `found` 1 with `start` and
-// `length` of the window, or zeros in these three where no window carries the motif.
-#[repr(C)]
-pub struct WindowAnswer {
-    pub refusal: usize,
-    pub side: usize,
-    pub place: usize,
-    pub found: usize,
-    pub start: usize,
-    pub length: usize,
-    pub arcs: usize,
-    pub depth: usize,
-}
-
-// The answer of batch. Refused: number, side and place, else zeros. Accepted: refusal 0, in `read` how many molecules were read, and for each motif its count
-// of hits in `counts` and how many molecules its query searched in `searched`, with 0 where there is no motif.
-#[repr(C)]
-pub struct BatchAnswer {
-    pub refusal: usize,
-    pub side: usize,
-    pub place: usize,
-    pub read: usize,
-    pub counts: [usize; calls::MOST_MOTIFS],
-    pub searched: [usize; calls::MOST_MOTIFS],
-}
+ghost use Rattle.interface.specs.Interface.{checkInC, matchInC, windowInC, verifyInC, addInC, removeInC, effectInC, queriedInC, queryEffectInC};
+ghost use Rattle.interface.specs.Interface.{batchedInC, batchEffectInC};
 
 #[no_mangle]
 pub extern "C" fn lakhido_check(bases: &[u8], mates: &[u16]) -> Answer

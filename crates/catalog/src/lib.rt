@@ -14,7 +14,7 @@ pub fn add(catalog: &mut [u8], cache: &mut [u8], d: usize, bases: &[u8], mates: 
     ensures { λ r. ⌜ effect r (now (catalog .exit)) (now (cache .exit))
         ≡ addOutcome (now (catalog .entry)) (now (cache .entry)) d (strandOf (now (bases .entry)) (now (mates .entry))) ⌝ }
 {
-    let verdict = search::judge::judge_add(catalog, cache, d, bases, mates);
+    let verdict = judge::judge_add(catalog, cache, d, bases, mates);
     if let refusals::Verdict::Refused(r) = verdict {
         return Added::Refused(r);
     }
@@ -27,7 +27,7 @@ pub fn add(catalog: &mut [u8], cache: &mut [u8], d: usize, bases: &[u8], mates: 
 pub fn remove(catalog: &mut [u8], cache: &mut [u8], d: usize) -> Removed
     ensures { λ r. ⌜ effect r (now (catalog .exit)) (now (cache .exit)) ≡ removeOutcome (now (catalog .entry)) (now (cache .entry)) d ⌝ }
 {
-    let verdict = search::judge::judge_remove(catalog, cache, d);
+    let verdict = judge::judge_remove(catalog, cache, d);
     if let refusals::Verdict::Refused(r) = verdict {
         return Removed::Refused(r);
     }
@@ -55,7 +55,7 @@ pub fn query(
 {
     let entries = work.len();
     let places = hits.len();
-    let verdict = search::judge::judge_query(catalog, cache, p, pm, entries, places);
+    let verdict = judge::judge_query(catalog, cache, p, pm, entries, places);
     if let refusals::Verdict::Refused(r) = verdict {
         return Queried::Refused(r);
     }

@@ -1,5 +1,5 @@
 -- Only the laws of Bille and Gørtz (proofs/Segment, Recurrence, Entries, Arc, Bounds, Rows and Computed of this crate) and the contracts and laws of rows,
--- arcs, placing, trace and matcher need this file: reached ends, the largest of them, rows of such ends, and bounds of the starts.
+-- arcs, placing, trace and walk need this file: reached ends, the largest of them, rows of such ends, and bounds of the starts.
 use Prim.Native.Nat.{ℕ, suc, _≤_, _<_, max}
 use mathlib.Core.Path.{_≡_}
 use mathlib.Core.Bool.{Bool, true}

@@ -1,4 +1,4 @@
--- The theorem of the examples of 01 and of 02, (i) to (iii) and (v): every row of the table holds.
+-- The theorem of the examples of 01 and of 02, (i) to (iii), (v) and (vi): every row of the table holds.
 use mathlib.Core.Path.{refl}
 use mathlib.Core.List.{List, [], _∷_, _++_}
 use Rattle.lists.specs.Vocabulary.{choose, every, some, lowestFrom, lowest, largest, select, tab, someList, total, putAt}
@@ -99,8 +99,15 @@ own-stories : ByModel settledStory × ByModel reusedStory × ByModel sharedSlotS
 unfolding AllByModel stories
 own-stories =
     let altered-and-on = computed.settled .1 .1 .1 in
-    let spelled-and-on = altered-and-on .1 .1 in
-    (computed.settled .0, computed.settled .1 .0, computed.settled .1 .1 .0, altered-and-on .1 .0, spelled-and-on .1 .1 .0, spelled-and-on .0, spelled-and-on .1 .0)
+    let spelled-and-on = altered-and-on .1 .1 in (
+      computed.settled .0,
+      computed.settled .1 .0,
+      computed.settled .1 .1 .0,
+      altered-and-on .1 .0,
+      spelled-and-on .1 .1 .0,
+      spelled-and-on .0,
+      spelled-and-on .1 .0,
+    )
 
 also-hold : AllHold also
 unfolding also AllHold Holds

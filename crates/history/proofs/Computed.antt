@@ -26,8 +26,8 @@ keys = (refl, refl)
 -- The stories hold on the model.
 pub settled : AllByModel stories
 unfolding stories AllByModel settledStory reusedStory sharedSlotStory alteredStory emptyMotifStory spellingsStory oneSlotSpellings admitted admittedFrom
-    atMostOnce modelLog resultsOf embeds longest largest prefixOk closedTo placesOk lettersMatch choose every some lowestFrom lowest select someList tab total sameList
-    sameStrand key first refuseIf refuseAtLowest strandVerdict isLetter notLetter mateOutside notMutual crosses crossedAt moleculeVerdict
+    atMostOnce modelLog resultsOf embeds longest largest prefixOk closedTo placesOk lettersMatch choose every some lowestFrom lowest select someList tab total
+    sameList sameStrand key first refuseIf refuseAtLowest strandVerdict isLetter notLetter mateOutside notMutual crosses crossedAt moleculeVerdict
     motifVerdict workVerdict slotOf refusedBy byVerdict endsPeriod start putAt isHeld heldIn knownIn dropped inRange modelVerdict
     embedsAt hitList searches searchList asked modelAnswer modelNext modelResult modelAfter slotBlock modelAlter emptyBlock encodeEntry entryWith
     withChecksum contentOf bytesOf mapBytes bitSum without

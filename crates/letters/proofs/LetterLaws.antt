@@ -1,5 +1,5 @@
--- Letters: tests as the numbers 1 and 0, their sum and the least of them; a base that is a letter, and one that is none; the rule by classes, by the
--- other spelling of one side, and by joined bits.
+-- Letters: tests as the numbers 1 and 0, their sum and the least of them; a base that is a letter, and one that is none; the rule by classes, and by the
+-- other spelling of one side.
 use mathlib.Core.Path.{_≡_, refl, sym, ap, subst, _∙_}
 use mathlib.Core.Bool.{Bool, true, false, true≢false, not, _&&_, _||_}
 use mathlib.Core.List.{List}
@@ -7,7 +7,6 @@ use Prim.Native.Nat.{ℕ, _+_, _-_, _*_, _/_, _≤_, _<_, min}
 use native.Mathlib.Decide.{ℕ-discrete, decLt}
 use native.Mathlib.Numerals.{add-one}
 use native.Mathlib.Omega.{arith}
-use lib.Bits.{bitOr, or-step, or-zero-r}
 use lib.Dec.{eqb}
 use lib.ListN.{length, List·getD-eq-default}
 use borrow.Author.Tests.{eq-eqb, ne-eqb, eqb-true}
@@ -202,48 +201,6 @@ either-yes false b e = absurd (true≢false (sym e))
 pub either-no : (a b : Bool) → a ≡ false → (a || b) ≡ b
 either-no true b e = absurd (true≢false e)
 either-no false b e = refl
-
--- The rule by joined bits, for all numbers. A number joined with 1 is 85 exactly for T and U; joined with 0 it stays.
-joined : (p : ℕ) → bitOr p 1 ≡ p / 2 * 2 + 1
-joined p = or-step p 1 ∙ rw (or-zero-r (p / 2)) (omega arith)
-
-joined-is : (p : ℕ) → eqb (bitOr p 1) 85 ≡ isTOrU p
-joined-is p = elim (ℕ-discrete p 84) [
-  | yes e ↦ rw e refl
-  | no n ↦ elim (ℕ-discrete p 85) [
-    | yes e ↦ rw e refl
-    | no m ↦ rw (ne-eqb p 84 n, ne-eqb p 85 m) (ne-eqb (bitOr p 1) 85 (λ e. omega (arith, joined p, n, m)))
-  ]
-]
-
-pub match-bits : {k : ℕ} (p q : ℕ) → k ≡ choose (eqb q 84) 1 0 + choose (eqb q 85) 1 0 → eqb (bitOr p k) (bitOr q k) ≡ lettersMatch p q
-unfolding lettersMatch choose
-match-bits p q e = elim (ℕ-discrete q 84) [
-  | yes i ↦ rw (e, i) (joined-is p ∙ with-T (eqb p 84) (eqb p 85))
-  | no n ↦ elim (ℕ-discrete q 85) [
-    | yes i ↦ rw (e, i) (joined-is p ∙ with-U (eqb p 84) (eqb p 85))
-    | no m ↦ rw (e, ne-eqb q 84 n, ne-eqb q 85 m, or-zero-r p, or-zero-r q) (neither (eqb p 84) (eqb p 85) (eqb p q))
-  ]
-]
-  where
-    with-T : (a b : Bool) → (a || b) ≡ (a || ((a || b) && true))
-    with-T true b = refl
-    with-T false true = refl
-    with-T false false = refl
-
-    with-U : (a b : Bool) → (a || b) ≡ (b || ((a || b) && true))
-    with-U true true = refl
-    with-U true false = refl
-    with-U false true = refl
-    with-U false false = refl
-
-    neither : (a b c : Bool) → c ≡ (c || ((a || b) && false))
-    neither true b true = refl
-    neither true b false = refl
-    neither false true true = refl
-    neither false true false = refl
-    neither false false true = refl
-    neither false false false = refl
 
 -- The class of a byte is a byte.
 pub class-byte : (b : ℕ) → b < 256 → letterClass b < 256

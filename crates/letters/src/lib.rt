@@ -26,7 +26,7 @@ fn one_of(b: u8, x: u8, y: u8) -> u8
     same(b, y)
 }
 
-// 1 for A, C, G, T or U, on either side, else 0. A and C differ in one bit, and so do T and U: each pair is one comparison.
+// 1 for A, C, G, T or U, on either side, else 0. A and C differ in one bit, and so do T and U: the compiler makes one comparison of each pair.
 pub fn is_letter(side: u8, b: u8) -> u8
     ensures { λ r. ⌜ r ≡ choose (isLetter side b) 1 0 ⌝ }
 {
@@ -84,7 +84,7 @@ fn other_letter(b: u8) -> u8
     b + same(b, 84) - same(b, 85)
 }
 
-// Whether a base of the motif matches a base of the molecule: the letter rule. A walk that waits for p has all that is made of q already.
+// Whether a base of the motif matches a base of the molecule: the letter rule. The other spelling is made of q, which a walk knows before it knows p.
 pub fn letters_match(p: u8, q: u8) -> bool
     ensures { λ r. ⌜ r ≡ lettersMatch p q ⌝ }
 {
@@ -92,12 +92,4 @@ pub fn letters_match(p: u8, q: u8) -> bool
         return true;
     }
     p == other_letter(q)
-}
-
-// The same without a branch, for loops whose branches a processor would guess wrong: the lowest bit tells T from U, and is not compared where q is one of them.
-pub fn joined_match(p: u8, q: u8) -> bool
-    ensures { λ r. ⌜ r ≡ lettersMatch p q ⌝ }
-{
-    let either = one_of(q, 84, 85);
-    p | either == q | either
 }

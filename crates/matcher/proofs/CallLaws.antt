@@ -9,14 +9,15 @@ use Rattle.refusals.specs.declared.Refusal.{Refusal}
 use Rattle.refusals.specs.declared.Verdict.{Verdict}
 use Rattle.refusals.specs.declared.Verdict.the-variants as verdict
 use Rattle.strand.specs.declared.Fold.{Fold}
-use Rattle.strand.specs.Strands.{Nested, Proper, leastMotif, leastMolecule, greatestLength, pairVerdict, Pair}
+use Rattle.strand.specs.Strands.{Nested, greatestLength, pairVerdict, Pair}
 use Rattle.lists.specs.Vocabulary.{nth}
-use Rattle.refusals.specs.Rules.{motifSide, moleculeSide, refusal, first, byVerdict, workSize, workRule}
+use Rattle.refusals.specs.Rules.{refusal, first, byVerdict, workSize, workRule}
 use Rattle.refusals.proofs.RuleLaws.{rule-yes, rule-no, rule-pass, first-one, first-pass, first-skip, first-stop, by-refused, by-accepted}
 use Rattle.strand.proofs.VerdictLaws.{pair-proper, proper-mates}
 use Rattle.matcher.specs.declared.Matched.the-variants.{Prefix, Refused}
 use Rattle.arcs.specs.Arcs.{Setting}
 use Rattle.placing.specs.Placing.{Laid}
+use Rattle.walk.proofs.Whole.{whole-setting}
 use Rattle.matcher.specs.Answers.{Shown, placesRule, lengthVerdict, showVerdict}
 
 -- The answer by a verdict v.
@@ -26,19 +27,6 @@ module _ (v : Verdict) (L : ℕ) (F : Fold) where
 
   pub answer-prefix : (k : ℕ) (f : Fold) → v ≡ verdict.Accepted → k ≡ L → f ≡ F → Prefix k f ≡ byVerdict v Refused (Prefix L F)
   answer-prefix k f e h g = ap₂ (λ (l : ℕ) (x : Fold). Prefix l x) h g ∙ sym (by-accepted v Refused (Prefix L F) e)
-
--- A proper motif and a proper molecule are what the walk over the whole motif asks for.
-pub whole-setting : {p pm q qm : List ℕ} → Proper motifSide leastMotif greatestLength p pm → Proper moleculeSide leastMolecule greatestLength q qm
-    → Setting p pm q qm 0 (length p)
-whole-setting P Q =
-    record {
-      segment = record { same = P .same; small = (let z = P .small in omega arith); order = omega arith; ends = omega arith };
-      motif = P .nested;
-      equal = Q .same;
-      short = (let z = Q .small in omega arith);
-      bases = Q .letters;
-      molecule = Q .nested;
-    }
 
 module _ (p pm q qm : List ℕ) where
   pub pair-setting : pairVerdict p pm q qm ≡ verdict.Accepted → Setting p pm q qm 0 (length p)

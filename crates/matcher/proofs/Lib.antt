@@ -1,5 +1,2 @@
-mod Hairpins
-mod Whole
-mod WindowWalk
 mod CallLaws
 pub mod Claims

@@ -1,6 +1,4 @@
 // The matcher: the longest closed prefix of a motif that embeds in a molecule, and an embedding of it.
-pub mod walk;
-
 use refusals::Refusal;
 use refusals::Verdict;
 use refusals::numbers;

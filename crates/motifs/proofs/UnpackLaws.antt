@@ -13,7 +13,7 @@ use Rattle.lists.proofs.Stretches.{stretch-back, length-stretch, length-replace
 use Rattle.octets.specs.Octets.{words}
 use Rattle.strand.specs.Strands.{Proper, Nested, leastMotif}
 use Rattle.refusals.specs.Rules.{motifSide}
-use Rattle.matcher.specs.Walk.{TablesFor}
+use Rattle.walk.specs.Walk.{TablesFor}
 use Rattle.block.specs.Content.{blockBases}
 use Rattle.block.specs.Block.{blockOf, blockCount}
 use Rattle.calls.specs.Buffers.{mostMotifBases}

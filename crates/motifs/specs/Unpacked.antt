@@ -5,7 +5,7 @@ use mathlib.Core.Bool.{true}
 use mathlib.Core.List.{List}
 use lib.ListN.{length}
 use Rattle.lists.specs.Vocabulary.{between, piece}
-use Rattle.matcher.specs.Walk.{TablesFor}
+use Rattle.walk.specs.Walk.{TablesFor}
 use Rattle.block.specs.Content.{blockBases}
 use Rattle.block.specs.Block.{blockOf, blockCount}
 use Rattle.block.specs.Motif.{holdsMotif}

@@ -16,7 +16,7 @@ ghost use Rattle.motifs.specs.Unpacked.{AllMotifs, MatesTo, MatesOf, Tab
 // The entries of the arrays that the mates and the tables of all motifs stand in: a piece for each motif.
 pub const MATES_SIZE: usize = layout::ENTRY_BASES * calls::MOST_MOTIFS;
 
-pub const TABLES_SIZE: usize = matcher::walk::QUERY_TABLES * calls::MOST_MOTIFS;
+pub const TABLES_SIZE: usize = walk::QUERY_TABLES * calls::MOST_MOTIFS;
 
 // Where the mates begin in a block handed in as a motif.
 const MOTIF_MATES_AT: usize = layout::MOTIF_START + layout::BLOCK_BASES;
@@ -65,7 +65,7 @@ fn lowest_long(motifs: &[u8]) -> usize
 pub fn judge(motifs: &[u8]) -> refusals::Verdict
     ensures { λ r. ⌜ r ≡ motifsVerdict (now (motifs .entry)) ⌝ }
 {
-    if !search::judge::is_whole(motifs, calls::MOST_MOTIFS) {
+    if !judge::is_whole(motifs, calls::MOST_MOTIFS) {
         return refusals::refuse(numbers::BAD_MOTIFS, numbers::MOTIF, 0);
     }
     let n = motifs.len() / layout::BLOCK_SIZE;
@@ -132,9 +132,9 @@ fn make_tables(motifs: &[u8], t: usize, mates: &[u16], tables: &mut [u16])
     let p = bases_at(motifs, t);
     let a = layout::ENTRY_BASES * t;
     let e = a + p.len();
-    let f = matcher::walk::QUERY_TABLES * t;
-    let g = f + matcher::walk::QUERY_TABLES;
-    matcher::walk::prepare(p, &mates[a..e], &mut tables[f..g]);
+    let f = walk::QUERY_TABLES * t;
+    let g = f + walk::QUERY_TABLES;
+    walk::prepare(p, &mates[a..e], &mut tables[f..g]);
 }
 
 // The mates and the tables of all motifs.

@@ -1,5 +1,5 @@
 -- An arc of the molecule takes the motif as far as can be, and places of what goes inside the arc, with its ends, are places of the whole.
-use Prim.Native.Nat.{ℕ, suc, _+_, _/_, _%_, _≤_, _<_, max}
+use Prim.Native.Nat.{ℕ, suc, _+_, _≤_, _<_, max}
 use mathlib.Core.Path.{_≡_, refl, sym, ap, ap₂, _∙_}
 use mathlib.Core.Bool.{Bool, true, false}
 use mathlib.Core.List.{List}
@@ -7,14 +7,11 @@ use mathlib.Core.Logic.{_⊎_, ⊎-elim}
 use native.Mathlib.Numerals.{add-one}
 use native.Mathlib.Decide.{decLt}
 use native.Mathlib.Omega.{arith}
-use lib.Dec.{eqb}
 use lib.ListN.{length, set, length-set}
 use lib.Seq.{getD-set-same, getD-set-other}
 use Rattle.lists.specs.Vocabulary.{nth}
-use Rattle.letters.specs.Classes.{letterClass}
-use Rattle.rows.proofs.TableLaws.{own-match, mate-match}
 use Rattle.embedding.specs.Embedding.{Emb, lettersFit}
-use Rattle.embedding.specs.Row.{Closed, Split, Best, IsRow, unitAt, overAt, arcAt, overBy}
+use Rattle.embedding.specs.Row.{Closed, Split, Best, IsRow, unitAt, overAt, arcAt}
 use Rattle.embedding.proofs.Splitting.{restrict, agree, join}
 use Rattle.embedding.proofs.Arc.{inner-closed, upon-arc}
 use Rattle.embedding.proofs.Segment.{cut-to}
@@ -23,7 +20,7 @@ use Rattle.placing.specs.declared.take.ArcTake.{ArcTake}
 use Rattle.rows.specs.Rows.{Tables, matches}
 use Rattle.arcs.specs.Arcs.{Setting}
 use Rattle.placing.specs.Placing.{Takes, upon, left-end, inside, Taken, PlacePut, Laid}
-use Rattle.embedding.proofs.Entries.{UnitTakes, unit-case, over-other, over-free, over-far, over-unlike, over-short, over-arc, by-over}
+use Rattle.embedding.proofs.Entries.{UnitTakes, unit-case, over-other, over-free, over-far, over-unlike, over-short, over-arc}
 
 -- What the arc takes, by o, what it takes with its left end, and u, what it takes without.
 module _ (left right : ℕ → Bool) (pm : ℕ → ℕ) (z j here next u o : ℕ) (a : j < z) (e : u ≡ unitAt right pm z here) (f : o ≡ overAt left right pm z next j) where
@@ -46,13 +43,6 @@ module _ (left right : ℕ → Bool) (pm : ℕ → ℕ) (z j here next u o : ℕ
     go true t (yes x) true y (yes w) = absurd (omega (arith, over-short left right pm z next j a t (omega arith) x y w))
     go true t (yes x) true y (no w) =
         upon t (omega arith) x y (omega arith) (omega (arith, over-arc left right pm z next j a t (omega arith) x y (omega arith)))
-
--- What the arc takes with its left end, from the classes of the letters: cx and cy are those of its bases.
-pub over-known : {p pm tables : List ℕ} (x y cx cy z next j o : ℕ) → j < z → z ≤ length p → Tables p pm tables → cx ≡ letterClass x → cy ≡ letterClass y
-    → o ≡ overBy (eqb (nth tables j / 256) cx) (eqb (nth tables j % 256) cy) (nth pm j) z next j → o ≡ overAt (matches p x) (matches p y) (nth pm) z next j
-over-known {p} {pm} x y cx cy z next j o a b T ex ey e =
-    e ∙ ap₂ (λ (c d : Bool). overBy c d (nth pm j) z next j) (own-match T j x cx (omega arith) ex) (mate-match T j y cy (omega arith) ey)
-    ∙ by-over (matches p x) (matches p y) (nth pm) z next j a
 
 -- The position after the span inside is one of the segment.
 pub takes-end : {left right : ℕ → Bool} {pm : ℕ → ℕ} {z j here next : ℕ} (t : ArcTake) → Takes left right pm j z here next t → t .to < t .next → t .to < z

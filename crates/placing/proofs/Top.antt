@@ -1,6 +1,6 @@
 -- The walk over the top of a stretch, from left to right: one step, and its end.
 use Prim.Native.Nat.{ℕ, suc, _+_, _-_, _≤_, _<_, min}
-use mathlib.Core.Path.{_≡_}
+use mathlib.Core.Path.{_≡_, subst}
 use mathlib.Core.Bool.{Bool}
 use mathlib.Core.List.{List}
 use native.Mathlib.Numerals.{add-one}
@@ -105,3 +105,8 @@ module _ {p pm q qm : List ℕ} {to from lo hi : ℕ} where
     walked-unit h jt =
         let z : r + 1 ≡ suc i = omega (arith, walked-up) in
         rw z (unit-best j i jt)
+
+    pub walked-past : r ≤ i → j ≤ to → Walked p pm q qm to from lo hi (unitAt (matches p (nth q i)) (nth pm) to j) (i + 1)
+    walked-past h jt =
+        let z : r ≡ i = omega (arith, walked-up) in
+        subst (λ (x : ℕ). Walked p pm q qm to from lo hi (unitAt (matches p (nth q i)) (nth pm) to j) (x + 1)) z (walked-step _ (walked-unit h jt))

@@ -1,4 +1,4 @@
--- Only the contracts and laws of this crate, of trace and of matcher need this file: what one arc of the molecule takes of the motif, and which places are
+-- Only the contracts and laws of this crate, of trace, walk and matcher need this file: what one arc of the molecule takes of the motif, and which places are
 -- written.
 use Prim.Native.Nat.{ℕ, _+_, _-_, _*_, _^_, _≤_, _<_}
 use mathlib.Core.Path.{_≡_}

@@ -115,8 +115,5 @@ module _ (left right : ℕ → Bool) (pm : ℕ → ℕ) (from last to e : ℕ) (
         ∙ ap (λ (x : ℕ). overAt left right pm to (nth row (x + 1)) x) i
 
 -- The larger of what was found without and with the left end.
-pub with-none : (r u o : ℕ) → r ≡ u → o ≡ 0 → r ≡ max u o
-with-none r u o e f = omega arith
-
 pub with-some : (r b n u o : ℕ) → r ≡ max b n → b ≡ u → o ≡ n → r ≡ max u o
 with-some r b n u o e f g = rw (e, f, g)

@@ -1,6 +1,6 @@
 -- The tables of a motif: where the row of a base starts, that the passes which fill the tables make them, and what a base's row says in a segment that
 -- ends before the motif does.
-use mathlib.Core.Path.{_≡_, refl, sym, ap, subst, fun-ext, _∙_}
+use mathlib.Core.Path.{_≡_, refl, sym, ap, ap₂, subst, fun-ext, _∙_}
 use mathlib.Core.Bool.{Bool, true, false}
 use mathlib.Core.List.{List}
 use Prim.Native.Nat.{ℕ, _+_, _-_, _*_, _/_, _%_, _≤_, _<_, min}
@@ -16,11 +16,11 @@ use Rattle.letters.specs.Letters.{isLetter}
 use Rattle.letters.specs.Classes.{letterClass}
 use Rattle.letters.proofs.LetterLaws.{by-letter, match-class, match-T, class-byte}
 use Rattle.refusals.specs.Rules.{moleculeSide}
-use Rattle.embedding.specs.Row.{unitAt}
+use Rattle.embedding.specs.Row.{unitAt, overAt, overBy}
 use Rattle.rows.specs.Rows.{Written, Tables, Steps, classesAt, stepsAt, matches}
 use Rattle.rows.proofs.Pass.{pass-end}
 use Rattle.rows.proofs.Parts.{part, part-at, part-length}
-use Rattle.embedding.proofs.Entries.{unit-end, unit-small, unit-from, unit-next, unit-segment}
+use Rattle.embedding.proofs.Entries.{unit-end, unit-small, unit-from, unit-next, unit-segment, by-over}
 
 -- Where a base's row starts: past the classes, with room for the row behind it.
 module _ (m : ℕ) where
@@ -54,11 +54,18 @@ module _ (m : ℕ) where
 
 -- The letters of the tables match by their classes: those of a position and of its mate, against a base x of the class c.
 module _ {p pm tables : List ℕ} (T : Tables p pm tables) (j x c : ℕ) (l : j < length p) (e : c ≡ letterClass x) where
-  pub own-match : eqb (nth tables j / 256) c ≡ matches p x j
+  pub own-match : eqb (nth tables j % 256) c ≡ matches p x j
   own-match = rw (T .own j l, e) (sym (match-class (nth p j) x))
 
-  pub mate-match : eqb (nth tables j % 256) c ≡ matches p x (nth pm j)
+  pub mate-match : eqb (nth tables j / 256) c ≡ matches p x (nth pm j)
   mate-match = rw (T .mate j l, e) (sym (match-class (nth p (nth pm j)) x))
+
+-- What an arc takes with its left end, from the classes of the letters: cx and cy are those of its bases.
+pub over-known : {p pm tables : List ℕ} (x y cx cy z next j o : ℕ) → j < z → z ≤ length p → Tables p pm tables → cx ≡ letterClass x → cy ≡ letterClass y
+    → o ≡ overBy (eqb (nth tables j % 256) cx) (eqb (nth tables j / 256) cy) (nth pm j) z next j → o ≡ overAt (matches p x) (matches p y) (nth pm) z next j
+over-known {p} {pm} x y cx cy z next j o a b T ex ey e =
+    e ∙ ap₂ (λ (c d : Bool). overBy c d (nth pm j) z next j) (own-match T j x cx (omega arith) ex) (mate-match T j y cy (omega arith) ey)
+    ∙ by-over (matches p x) (matches p y) (nth pm) z next j a
 
 -- The row of the base b, as the part of the tables from its start on, in a segment that ends at `to`.
 module _ (p pm tables : List ℕ) (b at to : ℕ) (T : Tables p pm tables) (L : isLetter moleculeSide b ≡ true) (e : at ≡ stepsAt (length p) b)
@@ -144,29 +151,29 @@ unit-T p pm m k = ap (λ (has : ℕ → Bool). unitAt has pm m k) (fun-ext (λ x
 
 -- The two classes of a position, read from their number.
 module _ (p pm : List ℕ) (j : ℕ) (bytes : (i : ℕ) → nth p i < 256) where
-  classes-own : classesAt p pm j / 256 ≡ letterClass (nth p j)
+  classes-own : classesAt p pm j % 256 ≡ letterClass (nth p j)
   unfolding classesAt
-  classes-own = omega (arith, class-byte (nth p (nth pm j)) (bytes (nth pm j)))
+  classes-own = omega (arith, class-byte (nth p j) (bytes j))
 
-  classes-mate : classesAt p pm j % 256 ≡ letterClass (nth p (nth pm j))
+  classes-mate : classesAt p pm j / 256 ≡ letterClass (nth p (nth pm j))
   unfolding classesAt
-  classes-mate = omega (arith, class-byte (nth p (nth pm j)) (bytes (nth pm j)))
+  classes-mate = omega (arith, class-byte (nth p j) (bytes j))
 
 -- The pass that adds the mates' classes has come to position j: the class of the mate's letter stands at the mate, whether it was passed or not.
-module _ (p pm old tables : List ℕ) (bytes : (i : ℕ) → nth p i < 256) (own : (k : ℕ) → k < length p → nth old k ≡ letterClass (nth p k) * 256) (j : ℕ)
+module _ (p pm old tables : List ℕ) (bytes : (i : ℕ) → nth p i < 256) (own : (k : ℕ) → k < length p → nth old k ≡ letterClass (nth p k)) (j : ℕ)
     (W : Written (classesAt p pm) old tables 0 j) where
-  mate-class : (k : ℕ) → k < length p → nth tables k / 256 ≡ letterClass (nth p k)
+  mate-class : (k : ℕ) → k < length p → nth tables k % 256 ≡ letterClass (nth p k)
   mate-class k l = elim (decLt k j) [
-    | yes h ↦ ap (λ (x : ℕ). x / 256) (W .done k (omega arith) h) ∙ classes-own p pm k bytes
-    | no h ↦ omega (arith, W .past k (omega arith), own k l)
+    | yes h ↦ ap (λ (x : ℕ). x % 256) (W .done k (omega arith) h) ∙ classes-own p pm k bytes
+    | no h ↦ omega (arith, W .past k (omega arith), own k l, class-byte (nth p k) (bytes k))
   ]
 
   module _ (lj : j < length p) (lk : nth pm j < length p) where
-    pub mates-step : nth tables j + nth tables (nth pm j) / 256 ≡ classesAt p pm j
+    pub mates-step : nth tables j + nth tables (nth pm j) % 256 * 256 ≡ classesAt p pm j
     unfolding classesAt
     mates-step = omega (arith, W .past j (omega arith), own j lj, mate-class (nth pm j) lk)
 
-    pub mates-fit : nth tables j + nth tables (nth pm j) / 256 < 65536
+    pub mates-fit : nth tables j + nth tables (nth pm j) % 256 * 256 < 65536
     mates-fit =
         omega (
           arith,
@@ -184,8 +191,8 @@ module _ (p pm t₀ t₁ tA tC tG tU : List ℕ) (bytes : (i : ℕ) → nth p i 
       → StepsPut p pm 71 (stepsAt (length p) 71) tC tG → StepsPut p pm 85 (stepsAt (length p) 85) tG tU → Tables p pm tU
   tables-made room W A C G U = record {
     long = omega (arith, W .long, A .long, C .long, G .long, U .long);
-    own = λ j h. ap (λ (x : ℕ). x / 256) (classes j h) ∙ classes-own p pm j bytes;
-    mate = λ j h. ap (λ (x : ℕ). x % 256) (classes j h) ∙ classes-mate p pm j bytes;
+    own = λ j h. ap (λ (x : ℕ). x % 256) (classes j h) ∙ classes-own p pm j bytes;
+    mate = λ j h. ap (λ (x : ℕ). x / 256) (classes j h) ∙ classes-mate p pm j bytes;
     step = λ b L k h. by-letter (λ (x : ℕ). nth tU (stepsAt m x + k) ≡ unitAt (matches p x) (nth pm) m k) moleculeSide b L
         (U .under (stepsAt m 65 + k) (omega (arith, steps-A m, steps-U m)) ∙ G .under (stepsAt m 65 + k) (omega (arith, steps-A m, steps-G m))
         ∙ C .under (stepsAt m 65 + k) (omega (arith, steps-A m, steps-C m)) ∙ put-entry p pm 65 (stepsAt m 65) t₁ tA A k h)
@@ -208,7 +215,7 @@ pub tables-kept : {p pm old new : List ℕ} → Tables p pm old → length new �
 tables-kept {p} T e h =
     record {
       long = omega (arith, T .long);
-      own = λ j l. ap (λ (x : ℕ). x / 256) (h j (omega arith)) ∙ T .own j l;
-      mate = λ j l. ap (λ (x : ℕ). x % 256) (h j (omega arith)) ∙ T .mate j l;
+      own = λ j l. ap (λ (x : ℕ). x % 256) (h j (omega arith)) ∙ T .own j l;
+      mate = λ j l. ap (λ (x : ℕ). x / 256) (h j (omega arith)) ∙ T .mate j l;
       step = λ b L k l. h (stepsAt (length p) b + k) (omega (arith, steps-within (length p) b)) ∙ T .step b L k l;
     }

@@ -36,19 +36,19 @@ pub record Remade (f : ℕ → ℕ) (old new : List ℕ) (a e : ℕ) : Type 0 wh
 abbrev pub matches : List ℕ → ℕ → ℕ → Bool
 matches p b x = lettersMatch (nth p x) b
 
--- The tables of P are five rows of m + 1 entries. The first has for each position two classes in one number: 256 times that of its letter, and that of its
+-- The tables of P are five rows of m + 1 entries. The first has for each position two classes in one number: that of its letter, and 256 times that of its
 -- mate's letter. Each other one is the row of an unbonded base, for A, C, U and G, in the order of two bits of the byte: that of the base b starts at
 -- stepsAt m b, and T has U's.
 unfoldable pub classesAt : List ℕ → List ℕ → ℕ → ℕ
-classesAt p pm j = letterClass (nth p j) * 256 + letterClass (nth p (nth pm j))
+classesAt p pm j = letterClass (nth p j) + letterClass (nth p (nth pm j)) * 256
 
 unfoldable pub stepsAt : ℕ → ℕ → ℕ
 stepsAt m b = (m + 1) * (1 + b / 2 % 4)
 
 pub record Tables (p pm tables : List ℕ) : Type 0 where
   pub long : 5 * (length p + 1) ≤ length tables
-  pub own : (j : ℕ) → j < length p → nth tables j / 256 ≡ letterClass (nth p j)
-  pub mate : (j : ℕ) → j < length p → nth tables j % 256 ≡ letterClass (nth p (nth pm j))
+  pub own : (j : ℕ) → j < length p → nth tables j % 256 ≡ letterClass (nth p j)
+  pub mate : (j : ℕ) → j < length p → nth tables j / 256 ≡ letterClass (nth p (nth pm j))
   pub step : (b : ℕ) → isLetter moleculeSide b ≡ true → (k : ℕ) → k ≤ length p
       → nth tables (stepsAt (length p) b + k) ≡ unitAt (matches p b) (nth pm) (length p) k
 

@@ -156,7 +156,18 @@ pub fn cut(from: usize, to: usize, at: usize, row: &mut [u16])
     }
 }
 
-// Where an unbonded base y takes the motif's segment from..to: from + 1 or `from`.
+// Where the unbonded base y takes the whole motif from `from` on: one look into the base's row. No letter is compared, and no branch depends on one.
+pub fn next_of(p: &[u8], pm: &[u16], tables: &[u16], from: usize, y: u8) -> usize
+    requires { ⌜ (length (now p) ≤ 4096) × (from ≤ length (now p)) ⌝ }
+    requires { ⌜ Tables (now p) (now pm) (now tables) ⌝ }
+    requires { ⌜ isLetter moleculeSide y ≡ true ⌝ }
+    ensures { λ r. ⌜ r ≡ unitAt (matches (now (p .entry)) y) (nth (now (pm .entry))) (length (now (p .entry))) from ⌝ }
+{
+    let at = tables::steps_at(p.len(), y);
+    tables[at + from] as usize
+}
+
+// Where an unbonded base y takes the motif's segment from..to: from + 1 or `from`. It needs no tables.
 pub fn unit(p: &[u8], pm: &[u16], from: usize, to: usize, y: u8) -> usize
     requires { ⌜ (length (now pm) ≡ length (now p)) × (to ≤ length (now p)) ⌝ }
     ensures { λ r. ⌜ r ≡ unitAt (matches (now (p .entry)) y) (nth (now (pm .entry))) to from ⌝ }
@@ -173,47 +184,12 @@ pub fn unit(p: &[u8], pm: &[u16], from: usize, to: usize, y: u8) -> usize
     from
 }
 
-// The entry for `from` of an arc with the bases x and y, from its inner row's entries for `from` and from + 1.
-pub fn arc_entry(
-    p: &[u8],
-    pm: &[u16],
-    from: usize,
-    to: usize,
-    x: u8,
-    y: u8,
-    here: u16,
-    next: u16,
-) -> u16
-    requires { ⌜ (length (now pm) ≡ length (now p)) × ((to ≤ length (now p)) × (to ≤ 4096)) ⌝ }
-    requires { ⌜ from < to ⌝ }
-    ensures { λ r. ⌜ r ≡ arcAt (matches (now (p .entry)) x) (matches (now (p .entry)) y) (nth (now (pm .entry))) to here next from ⌝ }
-{
-    let both = unit(p, pm, here as usize, to, y) as u16;
-    if !letters::letters_match(p[from], x) {
-        return both;
-    }
-    let k = pm[from];
-    if k <= from as u16 {
-        return larger(both, next);
-    }
-    if to as u16 <= k {
-        return both;
-    }
-    if !letters::letters_match(p[k as usize], y) {
-        return both;
-    }
-    if next < k {
-        return both;
-    }
-    larger(both, k + 1)
-}
-
-// What an arc takes from j with its left end: `pair` has the class of the base of j and, below it, that of its mate k; x and y are the classes of the arc's
+// What an arc takes from j with its left end: `pair` has the class of the base of j and, above it, that of its mate k; x and y are the classes of the arc's
 // bases, and `next` is the inner row's entry for j + 1.
 pub fn over_entry(pair: u16, x: u16, y: u16, k: u16, j: u16, to: u16, next: u16) -> u16
-    ensures { λ r. ⌜ r ≡ overBy (eqb (pair / 256) x) (eqb (pair % 256) y) k to next j ⌝ }
+    ensures { λ r. ⌜ r ≡ overBy (eqb (pair % 256) x) (eqb (pair / 256) y) k to next j ⌝ }
 {
-    if pair / 256 != x {
+    if pair % 256 != x {
         return 0;
     }
     if k <= j {
@@ -222,13 +198,46 @@ pub fn over_entry(pair: u16, x: u16, y: u16, k: u16, j: u16, to: u16, next: u16)
     if to <= k {
         return 0;
     }
-    if pair % 256 != y {
+    if pair / 256 != y {
         return 0;
     }
     if next < k {
         return 0;
     }
     k + 1
+}
+
+// The entry for `from` of an arc with the bases x and y in the whole motif, from its inner row's entries for `from` and from + 1: what the arc takes with its
+// right end alone, or with its left end.
+pub fn arc_entry(
+    p: &[u8],
+    pm: &[u16],
+    tables: &[u16],
+    from: usize,
+    x: u8,
+    y: u8,
+    here: u16,
+    next: u16,
+) -> u16
+    requires { ⌜ (length (now pm) ≡ length (now p)) × (length (now p) ≤ 4096) ⌝ }
+    requires { ⌜ (from < length (now p)) × (here ≤ length (now p)) ⌝ }
+    requires { ⌜ Tables (now p) (now pm) (now tables) ⌝ }
+    requires { ⌜ isLetter moleculeSide y ≡ true ⌝ }
+    ensures { λ r. ⌜ r ≡ arcAt (matches (now (p .entry)) x) (matches (now (p .entry)) y) (nth (now (pm .entry))) (length (now (p .entry))) here next from ⌝ }
+{
+    let both = next_of(p, pm, tables, here as usize, y) as u16;
+    let left = letters::letter_class(x) as u16;
+    let right = letters::letter_class(y) as u16;
+    let over = over_entry(
+        tables[from],
+        left,
+        right,
+        pm[from],
+        from as u16,
+        p.len() as u16,
+        next,
+    );
+    larger(both, over)
 }
 
 // Writes at `at` what an arc with the bases x and y takes with its left end, from its inner row, for the starts from `from` to before `end`.

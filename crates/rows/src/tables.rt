@@ -47,8 +47,8 @@ fn takes(c: u8, b: u8) -> u16
     if letters::letters_match(c, b) { 1 } else { 0 }
 }
 
-// Where the base b takes the motif from j on, c and k being the base and the mate of j: j + 1 or j. No branch depends on a value, so the compiler loads both
-// in each turn of a loop and makes vector code of it.
+// Where the base b takes the motif from j on, c and k being the base and the mate of j: j + 1 or j. A product of two tests, so that the compiler loads base
+// and mate in each turn of a loop and makes vector code of it.
 fn unit_entry(c: u8, b: u8, k: u16, j: u16) -> u16
     requires { ⌜ j < 4096 ⌝ }
     ensures { λ r. ⌜ r ≡ choose (leb k j) (choose (lettersMatch c b) (j + 1) j) j ⌝ }
@@ -71,29 +71,29 @@ fn put_steps(p: &[u8], pm: &[u16], b: u8, at: usize, tables: &mut [u16])
     tables[at + p.len()] = p.len() as u16;
 }
 
-// Writes the classes of the letters, 256 times each.
+// Writes the classes of the letters.
 fn put_classes(p: &[u8], tables: &mut [u16])
     requires { ⌜ length (now p) ≤ length (now tables) ⌝ }
-    ensures { λ _. ⌜ Written (λ j. letterClass (nth (now (p .entry)) j) * 256) (now (tables .entry)) (now (tables .exit)) 0 (length (now (p .entry))) ⌝ }
+    ensures { λ _. ⌜ Written (λ j. letterClass (nth (now (p .entry)) j)) (now (tables .entry)) (now (tables .exit)) 0 (length (now (p .entry))) ⌝ }
 {
     let mut j = 0;
     while j < p.len() {
-        tables[j] = letters::letter_class(p[j]) as u16 * 256;
+        tables[j] = letters::letter_class(p[j]) as u16;
         j += 1;
     }
 }
 
-// Adds to each position the class of its mate's letter, which stands at the mate.
+// Adds to each position 256 times the class of its mate's letter, which stands at the mate.
 fn add_mates(p: &[u8], pm: &[u16], tables: &mut [u16])
     requires { ⌜ (length (now pm) ≡ length (now p)) × (length (now p) ≤ length (now tables)) ⌝ }
     requires { ⌜ Nested (nth (now pm)) (length (now p)) ⌝ }
     requires { ⌜ ((j : ℕ) → nth (now p) j < 256) ⌝ }
-    requires { ⌜ ((j : ℕ) → j < length (now p) → nth (now tables) j ≡ letterClass (nth (now p) j) * 256) ⌝ }
+    requires { ⌜ ((j : ℕ) → j < length (now p) → nth (now tables) j ≡ letterClass (nth (now p) j)) ⌝ }
     ensures { λ _. ⌜ Written (classesAt (now (p .entry)) (now (pm .entry))) (now (tables .entry)) (now (tables .exit)) 0 (length (now (p .entry))) ⌝ }
 {
     let mut j = 0;
     while j < pm.len() {
-        tables[j] = tables[j] + tables[pm[j] as usize] / 256;
+        tables[j] = tables[j] + tables[pm[j] as usize] % 256 * 256;
         j += 1;
     }
 }

@@ -1,4 +1,4 @@
--- The matcher on the molecule that a sound block holds: what it asks is met, and it tells whether the motif embeds.
+-- The walk over the molecule that a sound block holds: what it asks is met, and it tells whether the motif embeds.
 use mathlib.Core.Path.{_≡_, sym, ap, ap₂, _∙_}
 use mathlib.Core.Bool.{Bool, true, false}
 use mathlib.Core.List.{List, _++_}
@@ -10,7 +10,7 @@ use Rattle.strand.specs.Strands.{Strand, strandOf, Proper, leastMotif, leastMol
 use Rattle.refusals.specs.Rules.{motifSide, moleculeSide, workSize}
 use Rattle.strand.proofs.VerdictLaws.{proper-within}
 use Rattle.embedding.specs.Longest.{embeds}
-use Rattle.matcher.specs.Walk.{TablesFor}
+use Rattle.walk.specs.Walk.{TablesFor}
 use Rattle.block.specs.Block.{blockOf, soundMolecule}
 use Rattle.block.specs.Content.{blockBases, isEmpty, moleculeIn}
 use Rattle.block.proofs.ContentLaws.{molecule-fits, molecule-count, molecule-proper}
@@ -18,12 +18,12 @@ use Rattle.codec.specs.Outcomes.{decoded, moleculeDecoded}
 use Rattle.codec.proofs.OutcomeLaws.{decoded-there}
 use Rattle.calls.specs.Buffers.{mostMoleculeBases, mostMotifBases, held, moleculeAt}
 use Rattle.calls.proofs.FactLaws.{held-facts, molecule-at}
-use Rattle.search.specs.Search.{SoundCatalog}
+use Rattle.judge.specs.Judge.{SoundCatalog}
 
 first-part : (x m t : List ℕ) (n : ℕ) → x ≡ m ++ t → n ≡ length m → take n x ≡ m
 first-part x m t n e l = ap (take n) e ∙ take-at m t n (sym l)
 
--- The matcher takes longer strands than a query does.
+-- The walk takes longer strands than a query does.
 pub motif-long : (p pm : List ℕ) → Proper motifSide leastMotif mostMotifBases p pm → Proper motifSide leastMotif greatestLength p pm
 motif-long p pm ok = proper-within (omega arith) ok
 

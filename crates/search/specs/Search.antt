@@ -1,24 +1,21 @@
 -- Only the functions behind the calls need this file: what they ask of their inputs, which the judge of a call gives, and what a query has before it
 -- searches.
-use Prim.Native.Nat.{ℕ, _+_, _*_, _≤_, _<_}
+use Prim.Native.Nat.{ℕ, _+_, _*_, _≤_}
 use mathlib.Core.Path.{_≡_}
 use mathlib.Core.Bool.{Bool, true, _&&_}
 use mathlib.Core.List.{List}
 use lib.ListN.{length}
 use Rattle.strand.specs.Strands.{Strand, leastMotif, Proper}
 use Rattle.refusals.specs.Rules.{motifSide, workSize}
-use Rattle.matcher.specs.Walk.{TablesFor}
+use Rattle.walk.specs.Walk.{TablesFor}
 use Rattle.octets.specs.Octets.{mapSize, mapBit}
-use Rattle.block.specs.Block.{blockOf, soundMolecule, blockCount}
+use Rattle.block.specs.Block.{blockOf, blockCount}
 use Rattle.block.specs.Content.{blockBases, keepsMotif, searchedIn, hitIn}
 use Rattle.embedding.specs.Longest.{embeds}
 use Rattle.calls.specs.Buffers.{mostCatalogBlocks, mostMoleculeBases, mostMotifBases, held}
 use Rattle.calls.specs.Calls.{QueryEffect, queryAccepted}
 use Rattle.calls.specs.Calls.{slotIn}
-
--- Rule 11 lets the catalog pass: each block is sound.
-pub record SoundCatalog (catalog : List ℕ) : Type 0 where
-  pub sound : (d : ℕ) → d < blockCount catalog → soundMolecule (blockOf d catalog) ≡ true
+use Rattle.judge.specs.Judge.{SoundCatalog}
 
 -- What an accepted query knows: a sound catalog of at most 512 blocks, an accepted motif, and a work slice that is long enough.
 pub record Judged (catalog p pm : List ℕ) (work : ℕ) : Type 0 where

@@ -1,6 +1,5 @@
-// The search of a query over the blocks of a catalog, and the rules that judge a call. Query meets what `answer` asks: its judge has let catalog, motif,
-// work and hits pass (`Judged`), and the cache is clean.
-pub mod judge;
+// The search of a query over the blocks of a catalog. Query meets what `answer` asks: its judge has let catalog, motif, work and hits pass (`Judged`), and the
+// cache is clean.
 pub mod maps;
 mod scan;
 
@@ -17,7 +16,7 @@ ghost use Rattle.octets.specs.Octets.{mapBits, mapBit, mapBytes};
 ghost use Rattle.block.specs.Block.{soundEntry, blockCount};
 ghost use Rattle.block.specs.Content.{blockBases};
 ghost use Rattle.embedding.specs.Longest.{embeds};
-ghost use Rattle.matcher.specs.Walk.{TablesFor};
+ghost use Rattle.walk.specs.Walk.{TablesFor};
 ghost use Rattle.calls.specs.Buffers.{mostMotifBases, held as heldIn, slotOf};
 ghost use Rattle.calls.specs.Calls.{toSearch, isHit, queried};
 ghost use Rattle.calls.specs.Statements.{AllSound};
@@ -100,7 +99,7 @@ fn answer_lent(
         ≡ answered (now (catalog .entry)) (now (cache .entry)) (strandOf (now (p .entry)) (now (pm .entry))) (now (hits .entry)) ⌝ }
 {
     let s = slot(p, pm, cache.len() / layout::BLOCK_SIZE);
-    matcher::walk::prepare(p, pm, tables);
+    walk::prepare(p, pm, tables);
     let searched = find_hits(
         catalog,
         layout::block_at(cache, s),
@@ -136,7 +135,7 @@ pub fn answer(
     let mut held = [0u8; layout::MAP_SIZE];
     let mut todo = [0u8; layout::MAP_SIZE];
     let mut found = [0u8; layout::MAP_SIZE];
-    let mut tables = [0u16; matcher::walk::QUERY_TABLES];
+    let mut tables = [0u16; walk::QUERY_TABLES];
     let mut letters = [0u8; layout::BLOCK_BASES];
     let mut bonds = [0u16; layout::BLOCK_BASES];
     answer_lent(

@@ -12,7 +12,8 @@ ghost use Rattle.block.specs.Block.{soundEntry, blockCount};
 ghost use Rattle.block.specs.Content.{blockSize, searchedIn, hitIn};
 ghost use Rattle.calls.specs.Buffers.{mostCatalogBlocks, held as heldIn};
 ghost use Rattle.calls.specs.Calls.{toSearch};
-ghost use Rattle.search.specs.Search.{SoundCatalog, knownHit};
+ghost use Rattle.judge.specs.Judge.{SoundCatalog};
+ghost use Rattle.search.specs.Search.{knownHit};
 
 // Set bit d of the map if `yes`.
 pub(crate) fn mark(yes: bool, d: usize, map: &mut [u8])
@@ -32,7 +33,7 @@ pub fn fill_held(catalog: &[u8], held: &mut [u8])
     let n = catalog.len() / layout::BLOCK_SIZE;
     let mut d = 0;
     while d < n {
-        mark(crate::judge::is_held(catalog, d), d, held);
+        mark(judge::is_held(catalog, d), d, held);
         d += 1;
     }
 }

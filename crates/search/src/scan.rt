@@ -9,7 +9,7 @@ ghost use Rattle.octets.specs.Octets.{mapSize, mapBit, mapBytes};
 ghost use Rattle.block.specs.Block.{blockCount};
 ghost use Rattle.block.specs.Content.{blockBases};
 ghost use Rattle.embedding.specs.Longest.{embeds};
-ghost use Rattle.matcher.specs.Walk.{TablesFor};
+ghost use Rattle.walk.specs.Walk.{TablesFor};
 ghost use Rattle.calls.specs.Buffers.{held, moleculeAt};
 ghost use Rattle.search.specs.Search.{Judged, Prepared, AllHeld};
 
@@ -30,7 +30,7 @@ fn embeds_at(
         × TablesFor (now (p .entry)) (now (pm .entry)) blockBases (now (tables .exit)) ⌝ }
 {
     let n = codec::molecule::decode_molecule(layout::block_at(catalog, d), letters, bonds);
-    matcher::walk::embeds(p, pm, tables, &letters[..n], &bonds[..n], work)
+    walk::embeds(p, pm, tables, &letters[..n], &bonds[..n], work)
 }
 
 // Search every molecule of the map `todo` and put the hits into the map `found`; how many were searched.

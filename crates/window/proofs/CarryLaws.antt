@@ -6,12 +6,14 @@ use mathlib.Core.Bool.{true, false}
 use mathlib.Core.List.{List}
 use native.Mathlib.Decide.{decLt}
 use native.Mathlib.Omega.{arith}
-use lib.Dec.{ltb}
+use lib.Dec.{eqb, ltb}
 use lib.ListN.{length}
 use borrow.Author.Tests.{ltb-true, ltb-false}
 use Rattle.lists.specs.Vocabulary.{nth}
 use Rattle.lists.proofs.ListLaws.{Tells}
 use Rattle.letters.specs.Letters.{lettersMatch}
+use Rattle.letters.specs.Classes.{letterClass}
+use Rattle.letters.proofs.LetterLaws.{match-class}
 use Rattle.strand.specs.Strands.{Inside}
 use Rattle.embedding.specs.Embedding.{lettersFit}
 use Rattle.embedding.specs.Windows.{Carries, IsTightest}
@@ -20,7 +22,7 @@ use Rattle.embedding.proofs.Segment.{fits-in}
 use Rattle.embedding.proofs.WindowLaws.{Starts, widened, starts}
 use Rattle.embedding.proofs.Tightest.{carries-within}
 use Rattle.embedding.proofs.Claims as embedding
-use Rattle.matcher.specs.Walk.{TablesFor, Carried}
+use Rattle.walk.specs.Walk.{TablesFor, Carried}
 use Rattle.window.specs.declared.search.Progress.{Progress}
 use Rattle.window.specs.Search.{Ready, MayBegin, NoneBegins, EndsAt, StartsAt, NoBetter, Sought, Seek, Advanced, Found}
 use Rattle.window.proofs.SearchLaws.{sought-none, sought-begin, sought-later, sought-clear, sought-found, over-clear, over-short}
@@ -29,6 +31,10 @@ pub carried-wider : {p pm q qm : List ℕ} (s e s′ e′ : ℕ) → s′ ≤ s 
 carried-wider s e s′ e′ a b C = record { embeds = widened s′ e′ a b (C .embeds) }
 
 -- ---- where the first base may stand
+
+-- Whether two letters match, from their classes x and y.
+pub match-by : {x y : ℕ} (a b : ℕ) → x ≡ letterClass a → y ≡ letterClass b → lettersMatch a b ≡ eqb x y
+match-by a b e f = rw (e, f) (match-class a b)
 
 module _ {p pm q qm : List ℕ} {i : ℕ} where
   pub begins-not : lettersMatch (nth p 0) (nth q i) ≡ false → MayBegin p pm q qm i → ⊥

@@ -11,7 +11,7 @@ use Rattle.letters.specs.Letters.{lettersMatch}
 use Rattle.strand.specs.Strands.{Proper, strandOf, leastMotif, leastMolecule, greatestLength}
 use Rattle.embedding.specs.Embedding.{lettersFit, EmbedsIn}
 use Rattle.embedding.specs.Windows.{IsTightest}
-use Rattle.matcher.specs.Walk.{TablesFor, Carried}
+use Rattle.walk.specs.Walk.{TablesFor, Carried}
 use Rattle.window.specs.declared.search.Progress.{Progress}
 
 -- What every walk of the search asks: a motif and a molecule that the rules let pass, a first base of the motif (one with no bases is answered without a

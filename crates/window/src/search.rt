@@ -2,7 +2,6 @@
 // one walk that fails rules out every window that lies in the one walked over. The search goes from start to start where the motif's first base may stand,
 // asks for windows shorter than the best so far alone, and walks over a window that is wider than that by a reach: the wider it is, the more starts one
 // failure rules out. A window that carries the motif is narrowed by halving, its end first, then its start.
-use matcher::walk;
 use rows::tables;
 use strand::depth;
 ghost use mathlib.Core.Path.{_≡_};
@@ -11,7 +10,7 @@ ghost use lib.ListN.{length};
 ghost use Rattle.lists.proofs.ListLaws.{Tells};
 ghost use Rattle.refusals.specs.Rules.{motifSide, moleculeSide, workSize};
 ghost use Rattle.strand.specs.Strands.{Proper, leastMotif, leastMolecule, greatestLength};
-ghost use Rattle.matcher.specs.Walk.{TablesFor, Carried};
+ghost use Rattle.walk.specs.Walk.{TablesFor, Carried};
 ghost use Rattle.window.specs.Search.{Ready, MayBegin, NoneBegins, EndsAt, StartsAt, Seek, Advanced, Found};
 
 // How far the search has come. The best window so far has `length` bases from `start`; where there is none, `length` is one more than the molecule's. The
@@ -38,7 +37,7 @@ fn may_begin(p: &[u8], pm: &[u16], q: &[u8], qm: &[u16], i: usize) -> bool
     requires { ⌜ (i < length (now q)) × (i < length (now qm)) ⌝ }
     ensures { λ r. ⌜ Tells r (MayBegin (now (p .entry)) (now (pm .entry)) (now (q .entry)) (now (qm .entry)) i) ⌝ }
 {
-    if !letters::joined_match(p[0], q[i]) {
+    if letters::letter_class(p[0]) != letters::letter_class(q[i]) {
         return false;
     }
     if pm[0] == 0 {

@@ -29,7 +29,12 @@ const ONCE: f64 = 300_000.0;
 pub type Version<'a> = Box<dyn FnMut() -> usize + 'a>;
 
 /// Microseconds of one call of each version: the least over the turns. All versions must give the same number; it is given too.
-pub fn least(what: &str, mut versions: Vec<Version>) -> (usize, Vec<f64>) {
+pub fn least(what: &str, versions: Vec<Version>) -> (usize, Vec<f64>) {
+    least_of(what, versions, TURNS, TURN)
+}
+
+/// The same with so many turns, of so many microseconds for each version.
+pub fn least_of(what: &str, mut versions: Vec<Version>, turns: usize, turn: f64) -> (usize, Vec<f64>) {
     let (mut results, mut times) = (Vec::new(), Vec::new());
     for call in &mut versions {
         let begun = now();
@@ -37,8 +42,8 @@ pub fn least(what: &str, mut versions: Vec<Version>) -> (usize, Vec<f64>) {
         times.push(now() - begun);
     }
     assert!(results.iter().all(|&r| r == results[0]), "{what}: the versions give {results:?}");
-    let counts: Vec<usize> = times.iter().map(|t| (TURN / (t + 0.5)) as usize + 1).collect();
-    for _ in 0..TURNS {
+    let counts: Vec<usize> = times.iter().map(|t| (turn / (t + 0.5)) as usize + 1).collect();
+    for _ in 0..turns {
         for (v, call) in versions.iter_mut().enumerate() {
             if ONCE < times[v] {
                 continue;

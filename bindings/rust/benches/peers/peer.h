@@ -19,18 +19,14 @@ size_t rows_length(const uint8_t *p, const uint16_t *pm, size_t m, const uint8_t
 int segments_length(const uint8_t *p, const uint16_t *pm, size_t m, const uint8_t *q, const uint16_t *qm, size_t n, uint16_t *work, size_t *length,
                     peer_fold *fold);
 
-// The class of a letter: two bases match when their classes are equal, the same letter or both among T and U. A walk compares a base of the motif with the
-// molecule's and with its other spelling; `peer_joined` leaves out the lowest bit where the molecule has T or U. The library does so in the same places, but
-// that it compares an arc at the top, and fills the rows of single bases, by the other spelling and not by classes.
+// The class of a letter: two bases match when their classes are equal, the same letter or both among T and U. The rows and the bounds compare classes; where
+// there are no tables, a base of the motif is compared with the molecule's and with its other spelling. The library does so in the same places, but that it
+// compares an arc at the top, and fills the rows of single bases, by the other spelling and not by classes.
 static inline uint8_t peer_class(uint8_t b) { return b + (b == 'T'); }
 static inline uint8_t peer_other(uint8_t b) { return b + (b == 'T') - (b == 'U'); }
 static inline int peer_match(uint8_t a, uint8_t b) { return a == b || a == peer_other(b); }
-static inline int peer_joined(uint8_t a, uint8_t b) {
-    uint8_t either = b == 'T' || b == 'U';
-    return (a | either) == (b | either);
-}
 
-// A motif for a search of many molecules. Of its tables (for each base two classes in one number, 256 times its own and that of its mate; for each class the
+// A motif for a search of many molecules. Of its tables (for each base two classes in one number, its own and 256 times that of its mate; for each class the
 // row of an unbonded base) and of the bounds of the molecule at hand only segments.c makes use. They are lent.
 typedef struct {
     const uint8_t *p;

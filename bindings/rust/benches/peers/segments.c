@@ -1,4 +1,4 @@
-// The library's algorithm in plain C (crates/rows, crates/arcs and crates/matcher): tables of the motif (the classes of its letters and of those of their
+// The library's algorithm in plain C (crates/rows, crates/arcs and crates/walk): tables of the motif (the classes of its letters and of those of their
 // mates, and for each class the row of an unbonded base), made at the first arc, or once for a query or a tightest window; one accumulator for an arc, rows
 // for the starts that a greedy match of letters can have come to, the heavy child first, arcs closed in passes, and the top of the molecule, or of a window
 // of it, walked from left to right. At the top an arc with no arc inside takes no row. A walk that asks for the whole motif stops where it cannot succeed.
@@ -22,9 +22,9 @@ static uint16_t smaller(uint16_t a, uint16_t b) { return a < b ? a : b; }
 static uint16_t extend_entry(uint16_t step, uint16_t j, uint16_t here, uint16_t next) { return step == j ? here : next; }
 static uint16_t unit_entry(uint8_t c, uint8_t b, uint16_t k, uint16_t j) { return k <= j && c == b ? j + 1 : j; }
 static uint16_t over_entry(uint16_t t, uint16_t x, uint16_t k, uint16_t j, uint16_t to, uint16_t y, uint16_t next) {
-    if (t >> 8 != x) return 0;
+    if ((t & 255) != x) return 0;
     if (k <= j) return next;
-    return k < to && (t & 255) == y && k <= next ? k + 1 : 0;
+    return k < to && t >> 8 == y && k <= next ? k + 1 : 0;
 }
 
 // The steps of the letter y: for each k where an unbonded base y takes the motif from k on. T and U have one row.
@@ -63,10 +63,10 @@ static void combine_into(const Pair *s, uint16_t *row, const uint16_t *back, int
 // The entry for j of an arc with letters of the classes x, y, from its inner row's entries for j and j + 1.
 static uint16_t arc_entry(const Pair *s, const uint16_t *steps, int j, uint8_t x, uint8_t y, uint16_t here, uint16_t next) {
     uint16_t best = smaller(steps[here], s->to), t = s->classes[j];
-    if (t >> 8 != x) return best;
+    if ((t & 255) != x) return best;
     int k = s->pm[j];
     if (k <= j) return larger(best, next);
-    if (s->to <= k || (t & 255) != y || next < k) return best;
+    if (s->to <= k || t >> 8 != y || next < k) return best;
     return larger(best, k + 1);
 }
 
@@ -147,8 +147,8 @@ static void inner_row(const Pair *s, int l, int r, uint16_t *work) {
 void peer_prepare(peer_motif *t) {
     const uint8_t *p = t->p;
     const uint16_t *pm = t->pm;
-    for (int j = 0; j < t->m; j++) t->classes[j] = 256 * peer_class(p[j]);
-    for (int j = 0; j < t->m; j++) t->classes[j] += t->classes[pm[j]] >> 8;
+    for (int j = 0; j < t->m; j++) t->classes[j] = peer_class(p[j]);
+    for (int j = 0; j < t->m; j++) t->classes[j] += (t->classes[pm[j]] & 255) * 256;
     for (int c = 0; c < 4; c++) {
         uint8_t y = "ACUG"[c];
         uint16_t *row = t->steps + c * (t->m + 1);
@@ -162,17 +162,17 @@ static int fill_bounds(peer_motif *t, const uint8_t *q, int from, int l, int end
     int bound = from, m = t->m;
     for (int i = l; i < end; i++) {
         t->bounds[i] = bound;
-        bound += bound < m && peer_joined(t->p[bound], q[i]);
+        bound += bound < m && (t->classes[bound] & 255) == peer_class(q[i]);
     }
     return t->bounds[end] = bound;
 }
 
-// Where an unbonded base y takes the motif from k on.
+// Where an unbonded base y takes the motif from k on, before there are tables.
 static int unit(const peer_motif *t, int k, uint8_t y) { return k < t->m && t->pm[k] <= k && peer_match(t->p[k], y) ? k + 1 : k; }
 
 // Where the bases lo..hi, each as an unbonded one, take the motif from k on.
-static int units(const peer_motif *t, const uint8_t *q, int lo, int hi, int k) {
-    for (int i = lo; i < hi; i++) k = unit(t, k, q[i]);
+static int units(const Pair *s, int lo, int hi, int k) {
+    for (int i = lo; i < hi; i++) k = steps_of(s, s->q[i])[k];
     return k;
 }
 
@@ -191,12 +191,12 @@ static int walk(peer_motif *t, const uint8_t *q, const uint16_t *qm, int lo, int
         if (stop && hi - l < m - cur) return cur;
         int r = qm[l];
         if (r <= l || hi <= r) {
-            cur = unit(t, cur, q[l]);
+            cur = steps_of(&s, q[l])[cur];
             continue;
         }
         uint8_t x = peer_class(q[l]), y = peer_class(q[r]);
         if (has_no_arc(qm, l + 1, r)) {
-            int here = units(t, q, l + 1, r, cur), next = s.classes[cur] >> 8 == x ? units(t, q, l + 1, r, cur + 1) : cur;
+            int here = units(&s, l + 1, r, cur), next = (s.classes[cur] & 255) == x ? units(&s, l + 1, r, cur + 1) : cur;
             cur = arc_entry(&s, steps_of(&s, y), cur, x, y, here, next);
         } else {
             int most = fill_bounds(t, q, cur, l, r + 1);

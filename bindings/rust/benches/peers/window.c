@@ -20,7 +20,7 @@ static int carries(const Search *s, int lo, int hi) { return segments_carries(s-
 static int next_begin(const Search *s, int i) {
     uint8_t first = s->motif->p[0];
     int begins_arc = 0 < s->motif->pm[0];
-    while (i < s->n && (!peer_joined(first, s->q[i]) || (begins_arc && s->qm[i] <= i))) i++;
+    while (i < s->n && (!peer_match(first, s->q[i]) || (begins_arc && s->qm[i] <= i))) i++;
     return i;
 }
 

@@ -1,7 +1,7 @@
 -- `capi::lakhido_add` meets its contract. The outcome is that of `catalog::add`, its answer told by `tell_add`.
 use borrow.Author.Needs.{needs}
-use Rattle.capi.specs.Interface.{addInC}
-use Rattle.capi.proofs.InterfaceLaws.{effect-in-c}
+use Rattle.interface.specs.Interface.{addInC}
+use Rattle.interface.proofs.InterfaceLaws.{effect-in-c}
 use Rattle.capi.proofs.lakhido_add.Statement.{statement}
 use Rattle.capi.proofs.lakhido_add.Tie as tie
 

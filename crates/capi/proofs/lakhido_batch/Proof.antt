@@ -1,7 +1,7 @@
 -- `capi::lakhido_batch` meets its contract. The outcome is that of `batch::batch`, its answer told by `tell_batch`; what is kept of the work slice is said
 -- by the same verdict.
 use borrow.Author.Needs.{needs}
-use Rattle.capi.proofs.InterfaceLaws.{batch-in-c}
+use Rattle.interface.proofs.InterfaceLaws.{batch-in-c}
 use Rattle.capi.proofs.lakhido_batch.Statement.{statement}
 use Rattle.capi.proofs.lakhido_batch.Tie as tie
 

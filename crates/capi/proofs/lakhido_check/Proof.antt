@@ -1,7 +1,7 @@
 -- `capi::lakhido_check` meets its contract. The answer is that of `strand::check`, told by `tell_check`.
 use borrow.Author.Needs.{needs}
 use mathlib.Core.Path.{ap, _∙_}
-use Rattle.capi.specs.Interface.{checkInC}
+use Rattle.interface.specs.Interface.{checkInC}
 use Rattle.capi.proofs.lakhido_check.Statement.{statement}
 use Rattle.capi.proofs.lakhido_check.Tie as tie
 

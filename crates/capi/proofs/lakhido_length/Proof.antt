@@ -2,7 +2,7 @@
 -- of the same answer.
 use borrow.Author.Needs.{needs}
 use mathlib.Core.Path.{ap, _∙_}
-use Rattle.capi.specs.Interface.{matchInC}
+use Rattle.interface.specs.Interface.{matchInC}
 use Rattle.capi.proofs.lakhido_length.Statement.{statement}
 use Rattle.capi.proofs.lakhido_length.Tie as tie
 

@@ -1,7 +1,7 @@
 -- `capi::lakhido_query` meets its contract. The outcome is that of `catalog::query`, its answer told by `tell_query`; what is kept of the work slice is
 -- said by the same verdict.
 use borrow.Author.Needs.{needs}
-use Rattle.capi.proofs.InterfaceLaws.{query-in-c}
+use Rattle.interface.proofs.InterfaceLaws.{query-in-c}
 use Rattle.capi.proofs.lakhido_query.Statement.{statement}
 use Rattle.capi.proofs.lakhido_query.Tie as tie
 

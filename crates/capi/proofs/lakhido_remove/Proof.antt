@@ -1,7 +1,7 @@
 -- `capi::lakhido_remove` meets its contract. The outcome is that of `catalog::remove`, its answer told by `tell_remove`.
 use borrow.Author.Needs.{needs}
-use Rattle.capi.specs.Interface.{removeInC}
-use Rattle.capi.proofs.InterfaceLaws.{effect-in-c}
+use Rattle.interface.specs.Interface.{removeInC}
+use Rattle.interface.proofs.InterfaceLaws.{effect-in-c}
 use Rattle.capi.proofs.lakhido_remove.Statement.{statement}
 use Rattle.capi.proofs.lakhido_remove.Tie as tie
 

@@ -1,7 +1,7 @@
 -- `capi::lakhido_verify` meets its contract. The answer is that of `embedding::verify`, told by `tell_verify`.
 use borrow.Author.Needs.{needs}
 use mathlib.Core.Path.{ap, _∙_}
-use Rattle.capi.specs.Interface.{verifyInC}
+use Rattle.interface.specs.Interface.{verifyInC}
 use Rattle.capi.proofs.lakhido_verify.Statement.{statement}
 use Rattle.capi.proofs.lakhido_verify.Tie as tie
 

@@ -2,7 +2,7 @@
 -- of the same verdict.
 use borrow.Author.Needs.{needs}
 use mathlib.Core.Path.{ap, _∙_}
-use Rattle.capi.specs.Interface.{windowInC}
+use Rattle.interface.specs.Interface.{windowInC}
 use Rattle.capi.proofs.lakhido_window.Statement.{statement}
 use Rattle.capi.proofs.lakhido_window.Tie as tie
 

@@ -4,8 +4,8 @@ use borrow.Author.Needs.{needs}
 use mathlib.Core.Path.{refl, sym, _∙_}
 use Rattle.matcher.specs.Answers.{showAnswer, PlacesShown}
 use Rattle.refusals.proofs.RuleLaws.{work-refused, work-accepted}
+use Rattle.walk.proofs.Whole.{walked-longest}
 use Rattle.matcher.proofs.CallLaws.{answer-refused, answer-prefix, show-facts, show-mates, shown-of}
-use Rattle.matcher.proofs.Whole.{walked-longest}
 use Rattle.matcher.proofs.show.Statement.{statement}
 use Rattle.matcher.proofs.show.Tie as tie
 

@@ -1,4 +1,4 @@
--- `batch::scan::embeds_at` meets its contract: the bases and the mates of molecule d are what the matcher asks for.
+-- `batch::scan::embeds_at` meets its contract: the bases and the mates of molecule d are what the walk asks for.
 use borrow.Author.Needs.{needs}
 use native.Mathlib.Omega.{arith}
 use Rattle.batch.proofs.MoleculeUse as molecules

@@ -1,4 +1,4 @@
--- `batch::scan::embeds_motif` meets its contract: motif t with its own mates and tables is what the matcher asks for.
+-- `batch::scan::embeds_motif` meets its contract: motif t with its own mates and tables is what the walk asks for.
 use borrow.Author.Needs.{needs}
 use native.Mathlib.Omega.{arith}
 use Rattle.batch.proofs.MotifUse as laws

@@ -3,7 +3,8 @@
 use mathlib.Core.Path.{refl}
 use native.Mathlib.Omega.{arith}
 use borrow.Author.Needs.{needs}
-use Rattle.placing.proofs.TakeLaws.{takes-inside, takes-left, takes-upon, over-known}
+use Rattle.rows.proofs.TableLaws.{over-known}
+use Rattle.placing.proofs.TakeLaws.{takes-inside, takes-left, takes-upon}
 use Rattle.placing.proofs.take.choose_take.Statement.{statement}
 use Rattle.placing.proofs.take.choose_take.Tie as tie
 

@@ -1,136 +1,80 @@
--- `rows::row::arc_entry` meets its contract: each return is a case of what the arc takes with its left end (`Entries`), beside what it takes without.
-use mathlib.Core.Path.{sym, _∙_}
-use native.Mathlib.Numerals.{add-one}
-use native.Mathlib.Omega.{arith}
+-- `rows::row::arc_entry` meets its contract: the row of an unbonded y tells the one part, the classes in the tables the other (`over-known`).
 use borrow.Author.Needs.{needs}
+use mathlib.Core.Path.{sym}
+use native.Mathlib.Omega.{arith}
+use lib.ListN.{length}
 use Rattle.lists.specs.Vocabulary.{nth}
-use Rattle.lists.proofs.ListLaws.{not-not, true-not}
 use Rattle.rows.specs.Rows.{matches}
-use Rattle.embedding.proofs.Entries.{unit-small, over-other, over-free, over-far, over-unlike, over-short, over-arc}
-use Rattle.rows.proofs.Passes.{with-none, with-some}
+use Rattle.embedding.proofs.Entries.{unit-small}
+use Rattle.rows.proofs.Passes.{with-some}
+use Rattle.rows.proofs.TableLaws.{over-known}
 use Rattle.rows.proofs.row.arc_entry.Statement.{statement}
 use Rattle.rows.proofs.row.arc_entry.Tie as tie
 
-unit-requires : tie.Need-unit-requires
-unit-requires c κs = search needs
+next-of-requires : tie.Need-next-of-requires
+next-of-requires c κs = search needs
 
 cast-both : tie.Need-cast-both
 cast-both c =
-    let at-start = c .before .before .before in
+    let at-start = c .before .before .before .before in
     omega (
       arith,
-      c .unit .ensures,
-      unit-small (matches (at-start .args .p .now) (at-start .args .y)) (nth (at-start .args .pm .now)) (at-start .args .to) (at-start .args .here),
+      c .next-of .ensures,
+      unit-small (matches (at-start .args .p .now) (at-start .args .y)) (nth (at-start .args .pm .now)) (length (at-start .args .p .now))
+          (at-start .args .here),
+      at-start .pre .0 .1,
+      at-start .pre .1 .0,
     )
 
-shared-slice-read-letters-match : tie.Need-shared-slice-read-letters-match
-shared-slice-read-letters-match c = search needs
+letter-class-requires : tie.Need-letter-class-requires
+letter-class-requires c κs = search needs
 
-letters-match-requires : tie.Need-letters-match-requires
-letters-match-requires c κs = search needs
+cast-left : tie.Need-cast-left
+cast-left c = search needs
 
-returns : tie.Need-returns
-returns c =
-    let at-letters-match = c .before in
-    let at-unit = at-letters-match .before .before in
-    let at-start = at-unit .before .before .before in
-    with-none _ _ _ (at-unit .unit .ensures)
-    (over-other _ _ _ _ _ _ (at-start .pre .1) (sym (at-letters-match .letters-match .ensures) ∙ true-not _ (c .if1 .taken)))
+letter-class-requires-2 : tie.Need-letter-class-requires-2
+letter-class-requires-2 c κs = search needs
 
-mul-k : tie.Need-mul-k
-mul-k c = search needs
+cast-right : tie.Need-cast-right
+cast-right c = search needs
 
-shared-slice-read-k : tie.Need-shared-slice-read-k
-shared-slice-read-k c = search needs
+mul-over-entry : tie.Need-mul-over-entry
+mul-over-entry c = search needs
 
-cast-if2 : tie.Need-cast-if2
-cast-if2 c = search needs
+shared-slice-read-over-entry : tie.Need-shared-slice-read-over-entry
+shared-slice-read-over-entry c = search needs
+
+mul-over-entry-2 : tie.Need-mul-over-entry-2
+mul-over-entry-2 c = search needs
+
+shared-slice-read-over-entry-2 : tie.Need-shared-slice-read-over-entry-2
+shared-slice-read-over-entry-2 c = search needs
+
+cast-over-entry : tie.Need-cast-over-entry
+cast-over-entry c = search needs
+
+cast-over-entry-2 : tie.Need-cast-over-entry-2
+cast-over-entry-2 c = search needs
+
+over-entry-requires : tie.Need-over-entry-requires
+over-entry-requires c κs = search needs
 
 larger-requires : tie.Need-larger-requires
 larger-requires c κs = search needs
 
-returns-2 : tie.Need-returns-2
-returns-2 c =
-    let at-if2 = c .before in
-    let at-if1 = at-if2 .before .before in
-    let at-letters-match = at-if1 .before in
-    let at-unit = at-letters-match .before .before in
-    let at-start = at-unit .before .before .before in
-    with-some _ _ _ _ _ (c .larger .ensures) (at-unit .unit .ensures)
-    (over-free _ _ _ _ _ _ (at-start .pre .1) (sym (at-letters-match .letters-match .ensures) ∙ not-not _ (at-if1 .if1 .left)) (at-if2 .if2 .taken))
-
-cast-if3 : tie.Need-cast-if3
-cast-if3 c = search needs
-
-returns-3 : tie.Need-returns-3
-returns-3 c =
-    let at-if2 = c .before in
-    let at-if1 = at-if2 .before .before in
-    let at-letters-match = at-if1 .before in
-    let at-unit = at-letters-match .before .before in
-    let at-start = at-unit .before .before .before in
-    with-none _ _ _ (at-unit .unit .ensures) (over-far _ _ _ _ _ _ (at-start .pre .1)
-    (sym (at-letters-match .letters-match .ensures) ∙ not-not _ (at-if1 .if1 .left)) (at-if2 .if2 .left) (c .if3 .taken))
-
-cast-letters-match : tie.Need-cast-letters-match
-cast-letters-match c = search needs
-
-shared-slice-read-letters-match-2 : tie.Need-shared-slice-read-letters-match-2
-shared-slice-read-letters-match-2 c = search needs
-
-letters-match-requires-2 : tie.Need-letters-match-requires-2
-letters-match-requires-2 c κs = search needs
-
-returns-4 : tie.Need-returns-4
-returns-4 c =
-    let at-letters-match2 = c .before in
-    let at-if3 = at-letters-match2 .before .before in
-    let at-if2 = at-if3 .before in
-    let at-if1 = at-if2 .before .before in
-    let at-letters-match = at-if1 .before in
-    let at-unit = at-letters-match .before .before in
-    let at-start = at-unit .before .before .before in
-    with-none _ _ _ (at-unit .unit .ensures) (over-unlike _ _ _ _ _ _ (at-start .pre .1)
-    (sym (at-letters-match .letters-match .ensures) ∙ not-not _ (at-if1 .if1 .left)) (at-if2 .if2 .left) (at-if3 .if3 .left)
-    (sym (at-letters-match2 .letters-match2 .ensures) ∙ true-not _ (c .if4 .taken)))
-
-returns-5 : tie.Need-returns-5
-returns-5 c =
-    let at-if4 = c .before in
-    let at-letters-match2 = at-if4 .before in
-    let at-if3 = at-letters-match2 .before .before in
-    let at-if2 = at-if3 .before in
-    let at-if1 = at-if2 .before .before in
-    let at-letters-match = at-if1 .before in
-    let at-unit = at-letters-match .before .before in
-    let at-start = at-unit .before .before .before in
-    with-none _ _ _ (at-unit .unit .ensures) (over-short _ _ _ _ _ _ (at-start .pre .1)
-    (sym (at-letters-match .letters-match .ensures) ∙ not-not _ (at-if1 .if1 .left)) (at-if2 .if2 .left) (at-if3 .if3 .left)
-    (sym (at-letters-match2 .letters-match2 .ensures) ∙ not-not _ (at-if4 .if4 .left)) (c .if5 .taken))
-
-add-larger : tie.Need-add-larger
-add-larger c = search needs
-
-larger-requires-2 : tie.Need-larger-requires-2
-larger-requires-2 c κs = search needs
-
-returns-6 : tie.Need-returns-6
-returns-6 c =
-    let at-if5 = c .before in
-    let at-if4 = at-if5 .before in
-    let at-letters-match2 = at-if4 .before in
-    let at-if3 = at-letters-match2 .before .before in
-    let at-if2 = at-if3 .before in
-    let at-if1 = at-if2 .before .before in
-    let at-letters-match = at-if1 .before in
-    let at-unit = at-letters-match .before .before in
-    let at-start = at-unit .before .before .before in
-    with-some _ _ _ _ _ (c .larger2 .ensures) (at-unit .unit .ensures) (over-arc _ _ _ _ _ _ (at-start .pre .1)
-    (sym (at-letters-match .letters-match .ensures) ∙ not-not _ (at-if1 .if1 .left)) (at-if2 .if2 .left) (at-if3 .if3 .left)
-    (sym (at-letters-match2 .letters-match2 .ensures) ∙ not-not _ (at-if4 .if4 .left)) (at-if5 .if5 .left)
-    ∙ sym (add-one _))
+returns : tie.Need-returns
+returns c =
+    let at-over-entry = c .before in
+    let at-letter-class2 = at-over-entry .before .before .before in
+    let at-letter-class = at-letter-class2 .before in
+    let at-next-of = at-letter-class .before in
+    let at-start = at-next-of .before .before .before .before in
+    with-some _ _ _ _ _ (c .larger .ensures) (at-next-of .next-of .ensures) (sym (over-known (at-start .args .x) (at-start .args .y) _ _ _ _ _ _
+    (at-start .pre .1 .0 .0) (omega arith) (at-start .pre .1 .1 .0) (at-letter-class .letter-class .ensures) (at-letter-class2 .letter-class2 .ensures)
+    (at-over-entry .over-entry .ensures)))
 
 pub arc-entry-spec : {M : Type 1} → statement M
-arc-entry-spec = tie.close (tie.spec unit-requires cast-both shared-slice-read-letters-match letters-match-requires returns mul-k shared-slice-read-k cast-if2
-    larger-requires returns-2 cast-if3 returns-3 cast-letters-match shared-slice-read-letters-match-2 letters-match-requires-2 returns-4 returns-5 add-larger
-    larger-requires-2 returns-6)
+arc-entry-spec =
+    tie.close (tie.spec next-of-requires cast-both letter-class-requires cast-left letter-class-requires-2 cast-right mul-over-entry
+    shared-slice-read-over-entry mul-over-entry-2 shared-slice-read-over-entry-2 cast-over-entry cast-over-entry-2 over-entry-requires larger-requires
+    returns)

@@ -47,6 +47,9 @@ slice-read-tables-2 c =
     let at-start = at-loop .before in
     omega (arith, at-loop .loop .inv .1 .long, at-start .pre .1 .0 .inside (at-loop .loop .j) (omega arith))
 
+mul-tables-4 : tie.Need-mul-tables-4 Inv-loop μ-loop
+mul-tables-4 c = omega arith
+
 add-tables : tie.Need-add-tables Inv-loop μ-loop
 add-tables c =
     let at-loop = c .before .before .before .before in
@@ -58,8 +61,8 @@ add-tables c =
           (omega arith) (at-start .pre .1 .0 .inside (at-loop .loop .j) (omega arith)),
     )
 
-mul-tables-4 : tie.Need-mul-tables-4 Inv-loop μ-loop
-mul-tables-4 c =
+mul-tables-5 : tie.Need-mul-tables-5 Inv-loop μ-loop
+mul-tables-5 c =
     let at-loop = c .before .before .before .before in
     omega (arith, at-loop .loop .inv .1 .long)
 
@@ -92,4 +95,4 @@ returns c = pass-end _ _ _ _ _ _ (c .before .loop .inv .1) (c .before .loop .inv
 
 pub add-mates-spec : {M : Type 1} → statement M
 add-mates-spec = tie.close (tie.spec Inv-loop μ-loop loop-holds mul-tables slice-read-tables mul-tables-2 shared-slice-read-tables cast-tables mul-tables-3
-    slice-read-tables-2 add-tables mul-tables-4 slice-write-tables add-j loop-less loop-again same-length returns)
+    slice-read-tables-2 mul-tables-4 add-tables mul-tables-5 slice-write-tables add-j loop-less loop-again same-length returns)

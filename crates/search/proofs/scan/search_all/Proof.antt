@@ -12,7 +12,7 @@ use Rattle.octets.specs.Octets.{mapBit}
 use Rattle.block.specs.Block.{blockCount}
 use Rattle.block.specs.Content.{blockBases}
 use Rattle.embedding.specs.Longest.{embeds}
-use Rattle.matcher.specs.Walk.{TablesFor}
+use Rattle.walk.specs.Walk.{TablesFor}
 use Rattle.calls.specs.Buffers.{moleculeAt}
 use Rattle.search.proofs.ReadyLaws as ready
 use Rattle.search.proofs.ListingLaws.{count-short}

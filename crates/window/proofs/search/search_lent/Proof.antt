@@ -4,7 +4,7 @@ use native.Mathlib.Omega.{arith}
 use Prim.Native.Nat.{_+_, _-_}
 use mathlib.Core.Path.{_≡_, refl, _∙_}
 use lib.ListN.{length}
-use Rattle.matcher.specs.Walk.{TablesFor}
+use Rattle.walk.specs.Walk.{TablesFor}
 use Rattle.window.specs.Search.{Seek}
 use Rattle.window.proofs.CarryLaws.{seek-none, found-clear, found-short}
 use Rattle.window.proofs.search.search_lent.Statement.{statement}

@@ -1,0 +1,3 @@
+mod Hairpins
+pub mod Whole
+mod WindowWalk
