@@ -47,7 +47,9 @@ extern "C" {
 
 /* A block is LAKHIDO_BLOCK bytes. A catalog has 1 to LAKHIDO_BLOCKS_MOST blocks, block d for molecule d; a cache 1 to LAKHIDO_SLOTS_MOST.
  * A block of zeros is empty: a new catalog and a new cache are all zeros. A cache block, or slot, keeps the answers of one motif; motifs whose
- * key (sum of bytes and mates) is equal mod the number of blocks share one, and the later takes its place. */
+ * key (sum of bytes and mates) is equal mod the number of blocks share one, and the later takes its place.
+ * A cache is good for the catalog that it was filled with, as these calls left both. Beside another catalog, or put back from an older copy, it is
+ * believed where its blocks are sound, and hits are wrong with no sign of it: replace both together, or zero the cache, which is always right. */
 #define LAKHIDO_BLOCK 512
 #define LAKHIDO_BLOCKS_MOST 512
 #define LAKHIDO_SLOTS_MOST 64
