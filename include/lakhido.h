@@ -37,7 +37,7 @@ extern "C" {
 #endif
 
 /* The version of this file and of the library. */
-#define LAKHIDO_VERSION "0.7.0"
+#define LAKHIDO_VERSION "0.6.1"
 
 /* Lengths of strands. For check, length, show, window and verify a molecule has 1 to LAKHIDO_MOST bases, a motif 0 to LAKHIDO_MOST. A molecule of
  * the catalog has 1 to LAKHIDO_MOLECULE_MOST, a motif of a query or a batch 0 to LAKHIDO_MOTIF_MOST. */
@@ -178,8 +178,7 @@ lakhido_answer lakhido_verify(const uint8_t *motif_bases, size_t motif_bases_len
                               size_t places_length);
 
 /* Writes a molecule of 1 to LAKHIDO_MOLECULE_MOST bases to block `number` of the catalog, and zeroes every unsound block of the cache.
- * arcs, depth: those of the molecule. The number of arcs also stands in bytes 4 and 5 of the block, the lower byte first. Zero there is an older block, or
- * one without arcs; with any other number that is not the true one the block is unsound.
+ * arcs, depth: those of the molecule.
  * Refused by: 10, 11, 12, 13, then 1 to 7 of the molecule. */
 lakhido_answer lakhido_add(uint8_t *catalog, size_t catalog_length, uint8_t *cache, size_t cache_length, size_t number, const uint8_t *bases,
                            size_t bases_length, const uint16_t *mates, size_t mates_length);

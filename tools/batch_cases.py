@@ -1,9 +1,8 @@
 """For tests alone: the lines that batch_test reads, and what it must write. `tools/verify-cases` writes the files.
 
 The answers of the cases are written here by hand, from 02, (v): the refusals in their order; counts and searched numbers of the single queries, one
-after the other, with (vi) for two spellings of a motif and (vii) for blocks with and without the number of arcs; the number read as that of a
-union. Those of random calls come from the reference model of `Random`, which runs a batch as its queries. `lakhido_model.batch` must give the same answers,
-and says what bytes and hits a batch leaves.
+after the other, with (vi) for two spellings of a motif; the number read as that of a union. Those of random calls come from the reference model of
+`Random`, which runs a batch as its queries. `lakhido_model.batch` must give the same answers, and says what bytes and hits a batch leaves.
 """
 import functools
 
@@ -11,7 +10,7 @@ import catalog_lines
 import lakhido_model
 from catalog_lines import (BANK, CACHE, DIGITS, MODEL, MOTIFS, OF_BATCHES, OF_BYTES, OF_CALLS, UNTOUCHED, Random, World, begin, below, buffers, files_of,
                            hairpins, length_of, line, motif_of, nested, put_line, remark, set_byte, strand_in)
-from lakhido_model import BLOCK, COUNT_AT, HITS_AT, LONGEST_MOLECULE, MOLECULE, MOST_BLOCKS, MOST_MOTIFS, NO_BASES, SEARCHED_AT, Batched, encode, key, work_size
+from lakhido_model import BLOCK, HITS_AT, LONGEST_MOLECULE, MOLECULE, MOST_BLOCKS, MOST_MOTIFS, NO_BASES, SEARCHED_AT, Batched, encode, key, work_size
 from testing_crate import after, folded, found, refused, total, two
 
 ROOM = (MOST_MOTIFS + 1) * MOST_BLOCKS  # entries of the hits in the test program
@@ -123,8 +122,7 @@ def sizes():
 
 # What makes the block of GGCC with two bonds unsound, with the right checksum.
 UNSOUND = ((0, 0, 'kind 0'), (0, 2, 'kind 2'), (0, 9, 'kind 9'), (1, 0, 'no bases'), (1, 3, '3 bases'), (1, 161, '161 bases'), (1, 255, '255 bases'),
-           (2, 1, 'byte 2'), (3, 1, 'byte 3'), (4, 1, 'an arc less'), (4, 3, 'an arc more'), (4, 4, 'bonded bases'), (5, 1, '258 arcs'), (6, 1, 'byte 6'),
-           (27, 1, 'byte 27'), (28, 88, 'no letter'), (30, 116, 'a small t'), (31, 99, 'a small letter'), (32, 65, 'base 4'),
+           (2, 1, 'byte 2'), (27, 1, 'byte 27'), (28, 88, 'no letter'), (30, 116, 'a small t'), (31, 99, 'a small letter'), (32, 65, 'base 4'),
            (187, 1, 'base 159'), (188, 9, 'a mate too large'), (189, 1, 'a mate too large'), (188, 1, 'not mutual'), (188, 2, 'not mutual'),
            (196, 1, 'mate 4'), (507, 1, 'byte 507'))
 
@@ -340,62 +338,6 @@ def spelled(slots):
     w.batch('gx', no(15, 0, 1), 'a small t')
     w.batch('hg', yes(four, [2, 2], [0, four]), 'a refused batch between')
     group('T and U in batches, %d slot%s' % (slots, 's' if slots > 1 else ''))
-
-
-def older_motifs(slots):
-    """02, (vii): a motif block has the number of arcs or zero. `m` and `n` are older blocks of motifs 2 and 5: each is one motif with its new block, of one
-    slot, and what comes second searches nothing."""
-    w = three(slots)
-    for digit, motif in (('m', '2'), ('n', '5')):
-        w.put(digit, *BY_HAND[motif])
-        set_byte('F', at(digit) + COUNT_AT, 0, 'an older block')
-    w.batch('2m', yes(3, [3, 3], [3, 0]), 'new, then older')
-    w.batch('m2m2', yes(0, [3] * 4, [0] * 4))
-    w.batch('n5', yes(3, [1, 1], [3, 0]), 'older, then new')
-    w.query('GGCC', '3210', found(1, 0), 'a single query')
-    w.batch('mn25', yes(3 if slots == 1 else 0, [3, 1, 3, 1], [3] * 4 if slots == 1 else [0] * 4), 'in turn')
-    w.batch('nnmm', yes(3 if slots == 1 else 0, [1, 1, 3, 3], [0, 0, 3, 0] if slots == 1 else [0] * 4))
-    for d, arcs in ((0, 1), (2, 2)):
-        set_byte('F', BLOCK * d + COUNT_AT, 0, 'an older block of the catalog')
-        w.batch('m2', yes(0, [3, 3], [0, 0]), 'nothing is searched for it')
-        set_byte('U', BLOCK * d + COUNT_AT, arcs + 1, 'an arc more')
-        w.batch('m2', no(11, 2, d))
-        set_byte('F', BLOCK * d + COUNT_AT, arcs if d else 0, 'sound')
-    w.add(0, 'A', '0', refused(13, 2))
-    w.remove(1)
-    w.batch('2m', yes(0, [2, 2], [0, 0]), 'one less')
-    w.add(1, 'GAC', '210', folded(1, 1))
-    w.batch('m2', yes(1, [3, 3], [1, 0]), 'the new one is searched')
-    group('older motif blocks, %d slot%s' % (slots, 's' if slots > 1 else ''))
-
-
-def wrong_motif_counts():
-    """02, (vii): any other number must be the true one: 15, after 11 and before 3, at the lowest such block."""
-    w = three(2)
-    w.batch('12', yes(3, [2, 3], [3, 3]))
-    for digit, arcs in (('0', 0), ('1', 0), ('2', 1), ('3', 0), ('5', 2), ('7', 0)):
-        for count in sorted({1, arcs - 1, arcs + 1, 2 * arcs, arcs + 256, 256, 65535} - {-1, 0, arcs}):
-            w.put('x', *BY_HAND[digit])
-            note = '%d arcs in the place of %d' % (count, arcs)
-            for i, v in enumerate(count.to_bytes(2, 'little')):
-                if v != MODEL.bytes[at('x') + COUNT_AT + i]:
-                    set_byte('S' if i == 0 and count > 255 else 'U', at('x') + COUNT_AT + i, v, note)
-            w.batch('x', no(15, 0, 0), note)
-            w.batch('1' + 'x' * 2 + '2', no(15, 0, 1), note)
-    w.put('m', 'A', '=120')
-    w.put('n', 'A', '=160')
-    for digit, arcs, told in (('m', 60, yes(3, [0, 2], [3, 3])), ('n', 80, no(3, 0, 0))):
-        w.batch(digit + '1', told, 'the most arcs')
-        set_byte('F', at(digit) + COUNT_AT, 0, 'an older block')
-        w.batch(digit, yes(0, [0], [0]) if digit == 'm' else told)
-        set_byte('U', at(digit) + COUNT_AT, arcs - 1, 'an arc less')
-        w.batch('8' + digit, no(15, 0, 1), 'rows 15 and 3')
-    w.batch('x1', no(15, 0, 0), 'rows 15, 9 and 8', hits=0, work=0)
-    set_byte('U', BLOCK + COUNT_AT, 2, 'a wrong number in the catalog')
-    w.batch('x', no(11, 2, 1), 'rows 11 and 15')
-    set_byte('F', BLOCK + COUNT_AT, 0, 'an older block')
-    w.batch('21', yes(3, [3, 2], [3, 3]), 'both of slot 1')
-    group('motif blocks with a wrong number of arcs')
 
 
 # ---- the number read
@@ -684,8 +626,6 @@ def files():
     for slots in (1, 2, 3, 64):
         no_bases(slots)
         spelled(slots)
-        older_motifs(slots)
-    wrong_motif_counts()
     for part in (histories, sparse, largest, random_molecules):
         part()
     return files_of('batch_test')

@@ -10,7 +10,7 @@ how many molecules its query searches, and the hits.
 """
 import sys
 
-from lakhido_model import BLOCK, LONGEST_MOTIF, MOLECULE, MOST_SLOTS, MOTIF, NO_BASES, batch, encode, older, with_count, work_size
+from lakhido_model import BLOCK, LONGEST_MOTIF, MOLECULE, MOST_SLOTS, MOTIF, NO_BASES, batch, encode, work_size
 
 
 def output(motifs, catalog, slots=MOST_SLOTS):
@@ -38,10 +38,6 @@ def self_test():
     spelled = b''.join(bytes(encode(MOLECULE, bases, [2, 1, 0])) for bases in ('GAT', 'GAU'))
     assert output(t + u, spelled) == 'read 2\nmotif 0 hits 2 searched 2: 0 1\nmotif 1 hits 2 searched 2: 0 1\n'
     assert output(t + u + t, spelled, 2).endswith('searched 0: 0 1\n') and output(t + u + t, spelled, 1).endswith('searched 2: 0 1\n')
-    assert output(paired + bytes(older(paired)), catalog) == output(bytes(older(paired)) + paired, catalog) == (
-        'read 2\nmotif 0 hits 2 searched 2: 0 1\nmotif 1 hits 2 searched 0: 0 1\n')
-    assert output(none + bytes(with_count(paired, 2)), catalog) == 'refused 15 0 1\n'
-    assert output(none, catalog[:BLOCK] + bytes(with_count(catalog[BLOCK:2 * BLOCK], 257))) == 'refused 11 2 1\n'
     assert output(none, bytes(BLOCK)) == 'read 0\nmotif 0 hits 0 searched 0:\n'
     assert output(b'', catalog) == output(none * 17, catalog) == output(none[1:], catalog) == 'refused 15 0 0\n'
     assert output(none + bytes(BLOCK), catalog) == 'refused 15 0 1\n' and output(none, catalog + none) == 'refused 11 2 3\n'

@@ -8,8 +8,8 @@ import collections
 import itertools
 import random
 
-from lakhido_model import (BLOCK, CHECKSUM_AT, COUNT_AT, COUNT_END, ENTRY, FORMS, HITS_AT, LONGEST_MOLECULE, LONGEST_MOTIF, MAP, MOLECULE, MOTIF,
-                           SEARCHED_AT, checksum, count_in, decode, encode, forget, has_bit, has_count, holds, keeps, nested, seal, sound)
+from lakhido_model import (BLOCK, CHECKSUM_AT, ENTRY, FORMS, HITS_AT, LONGEST_MOLECULE, LONGEST_MOTIF, MAP, MOLECULE, MOTIF, SEARCHED_AT, checksum,
+                           decode, encode, forget, has_bit, holds, keeps, nested, seal, sound)
 from testing_crate import IN_ORDER, after, total
 
 BLOCKS = 3
@@ -205,8 +205,7 @@ def damages(t, form):
     for i, v, name in [
         (0, 9, 'kind'), (0, 3 - form.kind, 'kind, the other'), (1, 0, 'length 0'), (1, 2, 'length, less'), (1, 4, 'length, more'),
         (1, most + 1, 'length, over the limit'),
-        (2, 1, 'first zero byte'), (3, 1, 'byte 3'), (4, 0, 'byte 4, zero'), (4, 2, 'byte 4, one more'), (5, 1, 'byte 5'), (6, 1, 'byte 6'),
-        (start - 1, 1, 'last zero byte'), (start, 88, 'base, no letter'), (start, 116, 'base, small t'),
+        (2, 1, 'first zero byte'), (start - 1, 1, 'last zero byte'), (start, 88, 'base, no letter'), (start, 116, 'base, small t'),
         (start, 65 if letter != 65 else 67, 'base, another letter'), (start, 84, 'base, T'), (start, 85, 'base, U'),
         (start + 3, 65, 'first unused base'), (at - 1, 65, 'last unused base'), (at, 1, 'mate, not mutual'), (at, 3, 'mate, out of range'),
         (at + 1, 1, 'mate, high byte'), (at + 6, 1, 'first unused mate'), (at + 2 * most - 1, 1, 'last unused mate'),
@@ -568,11 +567,8 @@ Stretch = collections.namedtuple('Stretch', 'name start end')
 
 def stretches(form, n):
     """The stretches of a block of n bases that have bytes."""
-    names, at = ['byte 0', 'byte 1'], [0, 1]
-    if has_count(form):
-        names, at = names + ['bytes 2 and 3', 'arcs'], at + [2, COUNT_AT]
-    names += ['head', 'letters', 'unused bases', 'mates', 'unused mates']
-    at += [COUNT_END if has_count(form) else 2, form.bases_at, form.bases_at + n, form.mates_at, form.mates_at + 2 * n, form.mates_end]
+    names = ['byte 0', 'byte 1', 'head', 'letters', 'unused bases', 'mates', 'unused mates']
+    at = [0, 1, 2, form.bases_at, form.bases_at + n, form.mates_at, form.mates_at + 2 * n, form.mates_end]
     if form is ENTRY:
         names, at = names + ['searched', 'hits'], at + [HITS_AT, CHECKSUM_AT]
     return [Stretch(name, a, b) for name, a, b in zip(names, at, at[1:]) if a < b]
@@ -745,98 +741,6 @@ def long_bonds(t):
     t.end('bonds of the longest')
 
 
-# ---- 02, (vii): the number of arcs in bytes 4 and 5 of a molecule block, and of a block handed in as a motif.
-
-def count_stored(t, form, count, name=''):
-    """This number in the place of the number of arcs, with the right checksum."""
-    for i, v in enumerate(count.to_bytes(2, 'little')):
-        if t.image[COUNT_AT + i] != v:
-            t.store(COUNT_AT + i, v)
-    t.check()
-    t.judge(form, name=name or 'arcs %d' % count)
-    if form is MOTIF:
-        t.holds_motif(name=name or 'arcs %d' % count)
-
-
-def wrong_counts(true):
-    """Numbers that are not the true one: near to it, with a byte 5 that is not 0, its bytes exchanged, the number of bonded bases, the edges of a byte."""
-    numbers = {1, true - 1, true + 1, 2 * true, true + 255, true + 256, true + 257, 256 * true, 255, 256, 257, 65535, 65536 - 256 + true}
-    return sorted(c for c in numbers if 0 < c < 65536 and c != true)
-
-
-# Strands whose number of arcs is stored: none, few, the most.
-COUNTED = ((1, []), (3, []), (160, []), (2, [(0, 1)]), (3, [(0, 2)]), (4, [(0, 3), (1, 2)]), (4, [(0, 1), (2, 3)]), (40, few_arcs(40)),
-           (159, [(i, 158 - i) for i in range(79)]), (160, [(i, 159 - i) for i in range(80)]), (160, [(2 * i, 2 * i + 1) for i in range(80)]))
-
-
-def counts(t, form):
-    """Zero and the true number are sound, and hold the same strand; no other number is. Bytes 2, 3 and 6 to 27 stay zero, whichever of both it is."""
-    for n, pairs in (((0, []),) if form is MOTIF else ()) + COUNTED:
-        true = len(pairs)
-        lay(t, form, n, pairs)
-        assert count_in(t.image) == true
-        for c in (0, *wrong_counts(true), true):
-            count_stored(t, form, c)
-            assert sound(form, t.block(0)) == (c in (0, true))
-        for c in sorted({0, true}):
-            count_stored(t, form, c)
-            t.new(1, 1, 13)
-            t.decode(name='arcs %d, decoded' % c, form=form)
-            t.sums()
-            for i in (2, 3, 6, 7, 27):
-                t.damage(form, i, 1, 'arcs %d, byte %d' % (c, i))
-            t.damage(form, 5, 1, 'arcs %d, byte 5' % c)
-    t.end(NAMES[form] + ', number of arcs')
-
-
-def counted_bonds(t):
-    """A number that is right for the mates as they stand, and mates that are not nested; the right number and one bond less or more."""
-    for form in (MOLECULE, MOTIF):
-        for name, pairs in (('crossing', [(0, 2), (1, 3)]), ('one base named twice', [(0, 3), (0, 2)]), ('nested', [(0, 3), (1, 2)])):
-            t.new(4, 4, 9, name)
-            for i, j in pairs:
-                t.arc(i, j)
-            t.write(form)
-            for c in (0, 1, 2, 3):
-                count_stored(t, form, c, '%s, %d' % (name, c))
-        lay(t, form, 4, [(0, 3), (1, 2)])
-        for mates in ((3, 1, 2, 0), (0, 1, 2, 3), (1, 0, 3, 2), (3, 2, 1, 0)):
-            for i, mate in enumerate(mates):
-                if t.image[form.mates_at + 2 * i] != mate:
-                    t.store(form.mates_at + 2 * i, mate)
-            t.check()
-            t.judge(form, name='two arcs told, %d there' % sum(mate > i for i, mate in enumerate(mates)))
-    t.end('number of arcs and bonds')
-
-
-def count_bytes(t):
-    """Every value of byte 4, and some of byte 5, of two arcs; in an entry both stay zero."""
-    for form in (MOLECULE, MOTIF, ENTRY):
-        lay(t, form, 4, [(0, 3), (1, 2)])
-        for v in range(256 if form is MOLECULE else 5):
-            t.damage(form, COUNT_AT, v)
-        for v in (0, 1, 2, 128, 255):
-            t.damage(form, COUNT_AT + 1, v)
-    for i, v in ((2, 1), (COUNT_AT, 2), (COUNT_AT + 1, 2), (COUNT_END, 2)):
-        t.damage(ENTRY, i, v, 'entry, byte %d' % i)
-    for d in range(BLOCKS):
-        t.new(20 + d, 20 + d, 20 + d)
-        t.arc(0, 19)
-        t.arc(2, 9)
-        t.put(d, 'two arcs')
-    t.sums()
-    for v in (0, 1, 3, 2):
-        t.store(BLOCK + COUNT_AT, v)
-        block = t.block(1)
-        seal(block)
-        for i in range(CHECKSUM_AT, BLOCK):
-            if block[i] != t.image[BLOCK + i]:
-                t.store(BLOCK + i, block[i])
-        t.judge_at(1, 'arcs %d in block 1' % v)
-    t.sums()
-    t.end('bytes 4 and 5')
-
-
 def first(t):
     t.new(1, 1, 0, 'A, 0')
     t.write(MOLECULE, name='checksum 1888')
@@ -861,8 +765,4 @@ def files():
         one_pass(t, form)
     for part in (all_values, few_mates, long_bonds, spelled_blocks, spelled_entries):
         part(t)
-    for form in (MOLECULE, MOTIF):
-        counts(t, form)
-    counted_bonds(t)
-    count_bytes(t)
     return {'crates/block_test/stdin': ''.join(t.lines), 'crates/block_test/stdout': ''.join(t.told)}

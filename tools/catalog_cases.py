@@ -1,11 +1,11 @@
 """For tests alone: the lines that catalog_test reads, and what it must write. `tools/verify-cases` writes the files.
 
 The answers of the cases are written here by hand, from the table of refusals and its order, for an add from 02, (i), for a motif with no bases from
-02, (iii), for two spellings of a motif from 02, (vi), for blocks with and without the number of arcs from 02, (vii); those of random calls come from the
-reference model of `Random`. `Model` must give the same answers, and says what bytes and hits a call leaves.
+02, (iii), for two spellings of a motif from 02, (vi); those of random calls come from the reference model of `Random`. `Model` must give the same
+answers, and says what bytes and hits a call leaves.
 """
-from catalog_lines import CACHE, LARGEST, MODEL, Random, World, begin, buffers, files_of, group, hairpins, set_byte
-from lakhido_model import BLOCK, CHECKSUM_AT, COUNT_AT, ENTRY, FOLDED, HITS_AT, MOLECULE, SEARCHED_AT, key
+from catalog_lines import CACHE, LARGEST, Random, World, begin, buffers, files_of, group, hairpins, set_byte
+from lakhido_model import BLOCK, CHECKSUM_AT, ENTRY, FOLDED, HITS_AT, MOLECULE, SEARCHED_AT, key
 from testing_crate import folded, found, refused
 
 
@@ -106,8 +106,7 @@ def unsound(w, note):
 
 def unsound_blocks():
     """Each rule of a molecule block broken, with the right checksum."""
-    for i, v, note in ((0, 2, 'kind 2'), (1, 0, 'no bases'), (1, 161, '161 bases'), (2, 1, 'byte 2'), (3, 1, 'byte 3'), (4, 1, 'an arc less'),
-                       (4, 3, 'an arc more'), (4, 4, 'bonded bases'), (5, 1, '258 arcs'), (6, 1, 'byte 6'), (27, 1, 'byte 27'), (28, 88, 'no letter'),
+    for i, v, note in ((0, 2, 'kind 2'), (1, 0, 'no bases'), (1, 161, '161 bases'), (2, 1, 'byte 2'), (27, 1, 'byte 27'), (28, 88, 'no letter'),
                        (31, 116, 'a small t'), (32, 65, 'base 4'),
                        (187, 1, 'base 159'), (188, 9, 'a mate too large'), (188, 1, 'not mutual'), (196, 1, 'mate 4'), (507, 1, 'byte 507')):
         w = World(2, 1)
@@ -210,8 +209,7 @@ def each_unsound(changes, motif):
 
 
 def unsound_entries():
-    each_unsound(((0, 1, 'kind 1'), (1, 0, 'no bases'), (1, 121, '121 bases'), (2, 1, 'byte 2'), (4, 1, 'byte 4'), (5, 1, 'byte 5'),
-                  (19, 1, 'byte 19'), (20, 88, 'no letter'),
+    each_unsound(((0, 1, 'kind 1'), (1, 0, 'no bases'), (1, 121, '121 bases'), (2, 1, 'byte 2'), (19, 1, 'byte 19'), (20, 88, 'no letter'),
                   (21, 116, 'a small t'), (22, 65, 'unused base'), (139, 65, 'unused base'),
                   (140, 2, 'mate too large'), (140, 0, 'not mutual'), (144, 2, 'unused mate'), (379, 1, 'unused mate'),
                   (444, 7, 'a hit that was not searched')), ('GC', '10'))
@@ -391,71 +389,6 @@ def long_spelled():
     group('T and U, long strands')
 
 
-# Molecules with their number of arcs and depth: an arc, two in one another, two side by side, none, the most.
-WITH_ARCS = (('GAC', '210', 1, 1), ('GGCC', '3210', 2, 2), ('GCGC', '1032', 2, 1), ('GC', '01', 0, 0), ('GC', '=160', 80, 80))
-
-
-def with_arcs():
-    """Five blocks, with these molecules."""
-    w = World(6, 2)
-    for d, (bases, mates, arcs, depth) in enumerate(WITH_ARCS):
-        w.add(d, bases, mates, folded(arcs, depth))
-        assert list(MODEL.block(d)[2:7]) == [0, 0, arcs, 0, 0]
-    return w
-
-
-def older_blocks():
-    """02, (vii): add writes the number of arcs. Zero in its place is sound, for each of the molecules and for all, and nothing is searched again for it."""
-    w = with_arcs()
-    w.query('GC', '10', found(4, 5))
-    for d in range(len(WITH_ARCS)):
-        if MODEL.block(d)[COUNT_AT]:
-            set_byte('F', BLOCK * d + COUNT_AT, 0, 'an older block')
-        w.query('GC', '10', found(4, 0), 'older blocks up to %d' % d)
-        w.query('', '', found(5, 5 if d == 0 else 0))
-    w.add(5, 'GAC', '210', folded(1, 1), 'a new block among older ones')
-    w.query('GC', '10', found(5, 1))
-    w.remove(1)
-    w.add(1, 'GGCC', '3210', folded(2, 2), 'written anew, with its number')
-    w.query('GC', '10', found(5, 1))
-    for d, (_, _, arcs, _) in enumerate(WITH_ARCS):
-        if d != 1 and arcs:
-            set_byte('F', BLOCK * d + COUNT_AT, arcs, 'with its number again')
-    w.query('GC', '10', found(5, 0))
-    w.query('GC', '01', found(4, 6), 'another motif: all but GAC')
-    group('older and new blocks')
-
-
-def wrong_counts():
-    """02, (vii): any other number must be the true one, as a number of two bytes; the lowest wrong block is named, among older and new ones."""
-    for d, (_, _, arcs, _) in enumerate(WITH_ARCS):
-        w = with_arcs()
-        w.query('GC', '10', found(4, 5))
-        for v in sorted({1, arcs - 1, arcs + 1, 2 * arcs, 255} - {-1, 0, arcs}):
-            set_byte('U', BLOCK * d + COUNT_AT, v, '%d arcs in the place of %d' % (v, arcs))
-            w.query('GC', '10', refused(11, 2, d))
-            w.query('', '', refused(11, 2, d))
-            w.add(5, 'A', '0', refused(11, 2, d))
-            w.remove(d, refused(11, 2, d))
-        set_byte('F', BLOCK * d + COUNT_AT, arcs, 'the true number')
-        set_byte('U', BLOCK * d + COUNT_AT + 1, 1, '256 more')
-        w.query('GC', '10', refused(11, 2, d))
-        if arcs:
-            set_byte('U', BLOCK * d + COUNT_AT, 0, '256 and no more')
-            w.remove(5, refused(11, 2, d))
-        set_byte('F', BLOCK * d + COUNT_AT + 1, 0, 'sound again')
-        w.query('GC', '10', found(4, 0), 'refused calls between')
-    w = with_arcs()
-    set_byte('U', BLOCK * 5, 1, 'a block of length 0')
-    for d in (4, 2, 1, 0):
-        set_byte('U', BLOCK * d + COUNT_AT, 9, '9 arcs')
-        w.query('GC', '10', refused(11, 2, d), 'the lowest')
-    for d, named in ((0, 1), (1, 2), (2, 4), (4, 5)):
-        set_byte('F', BLOCK * d + COUNT_AT, 0, 'an older block')
-        w.query('GC', '10', refused(11, 2, named), 'the lowest')
-    group('wrong numbers of arcs')
-
-
 def other_slots():
     """The same cache as one slot and as two: an entry may lie in a slot that is not its key's. Keys: AGC 206, GC 139."""
     w = World(2, 2)
@@ -557,6 +490,4 @@ def files():
         spelled(slots)
     spelled_entries()
     long_spelled()
-    older_blocks()
-    wrong_counts()
     return files_of('catalog_test')

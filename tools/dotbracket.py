@@ -12,8 +12,7 @@ One line of bases (A, C, G, T, U; small letters are taken as capitals) and one l
 bond, `(` and `)` for the two ends of one. T and U match each other, and each is kept as it stands. What follows a blank on
 the structure line, as the energy that folding programs write there, is left out. Blank lines and lines that begin with `#`
 are skipped. The line `>(empty)` alone is an empty block.
-Blocks hold no names: decoded molecules are named by their number. A block that the tool writes has the number of arcs in its bytes 4 and 5; one that it
-reads may have zero there, as older blocks do. `list --heads` lists a catalog by these bytes, without walking the mates.
+Blocks hold no names: decoded molecules are named by their number.
 
 In the text of motifs a line `>name` alone is the motif with no bases, which embeds in every molecule. An empty block is no motif.
 The screen program takes one motif, a batch 1 to 16, of which `encode --motif` makes the buffer: a block for each, in the order of the
@@ -26,8 +25,8 @@ import itertools
 import random
 import sys
 
-from lakhido_model import (BLOCK, COUNT_AT, LETTERS, LONGEST_MOLECULE, LONGEST_MOTIF, MOLECULE, MOST_BLOCKS, MOST_MOTIFS, MOST_SCREENED, MOTIF, NO_BASES, arcs,
-                           count_in, decode, embeds, encode, fault, fold, older, random_motif, random_strand, with_count)
+from lakhido_model import (BLOCK, LETTERS, LONGEST_MOLECULE, LONGEST_MOTIF, MOLECULE, MOST_BLOCKS, MOST_MOTIFS, MOST_SCREENED, MOTIF, NO_BASES, decode, embeds,
+                           encode, fault, fold, random_motif, random_strand)
 
 EMPTY_NAME = '(empty)'
 EMPTY = None, None  # in the place of bases and mates: an empty block
@@ -132,18 +131,13 @@ def blocks_of(text, name, form=MOLECULE):
     return blocks
 
 
-def cut(data, name):
-    """The blocks of a file."""
-    if not data or len(data) % BLOCK != 0:
-        raise Bad('%s: %d bytes are not whole blocks of %d' % (name, len(data), BLOCK))
-    return [data[i:i + BLOCK] for i in range(0, len(data), BLOCK)]
-
-
 def from_blocks(data, name, screen=False, form=MOLECULE):
     """Name, bases and mates of each block, which is checked by the rules of the form. With `screen` the first block is a motif."""
+    if not data or len(data) % BLOCK != 0:
+        raise Bad('%s: %d bytes are not whole blocks of %d' % (name, len(data), BLOCK))
     found = []
-    for d, block in enumerate(cut(data, name)):
-        first = screen and d == 0
+    for d in range(len(data) // BLOCK):
+        block, first = data[BLOCK * d:BLOCK * (d + 1)], screen and d == 0
         wrong = fault(MOTIF if first else form, block)
         if wrong:
             raise Bad('%s: block %d, byte %d: %s' % (name, d, wrong[0], wrong[1]))
@@ -186,49 +180,18 @@ LIST = """Lists the molecules of a text or, with --blocks or --screen, of a file
 line for each molecule, the columns parted by tabs. Length is the number of bases, arcs that of bonds, and depth the largest number of arcs
 of which each lies inside the one before. A text has names; in blocks the name is `molecule` and the number. Empty blocks are left out;
 a motif with no bases is not.
-What is equal by the column that sorts keeps the order of the file.
-With --heads the file is a catalog, and a line has the number of the molecule, its name, length and arcs, and where the arcs are from: `block`, the
-number in bytes 4 and 5, for which the mates are not walked; or `mates`, counted, in an older block, which has zero there and yet arcs. Where there is zero
-the mates are looked at, to tell the two apart. Of a block so listed only kind and length are tested: whether it is sound is for the library to say."""
+What is equal by the column that sorts keeps the order of the file."""
 COLUMNS = 'name', 'length', 'arcs', 'depth'
-HEAD_COLUMNS = 'number', 'name', 'length', 'arcs', 'from'
 
 
 def listed(molecules, by='number', reverse=False):
     """A head, and a line for each of them that is not empty, given as (name, bases, mates): its columns parted by tabs, which the names lose."""
     rows = [(title.replace('\t', ' '), len(bases), *fold(mates)) for title, bases, mates in molecules if bases is not None]
-    return table(COLUMNS, rows, by, reverse)
-
-
-def table(columns, rows, by, reverse):
-    """The lines of a list, sorted by a column or in the order of the file."""
     if by != 'number':
-        rows.sort(key=lambda row: row[columns.index(by)], reverse=reverse)
+        rows.sort(key=lambda row: row[COLUMNS.index(by)], reverse=reverse)
     elif reverse:
         rows.reverse()
-    return ''.join('\t'.join(map(str, row)) + '\n' for row in (columns, *rows))
-
-
-def arcs_in(block):
-    """The number of arcs of a block, and where it is from."""
-    count = count_in(block) or len(arcs(decode(MOLECULE, block)[1]))
-    return count, 'mates' if count_in(block) != count else 'block'
-
-
-def heads(data, name, titles=None):
-    """Number, name, length, arcs, and where they are from, of each block of a catalog that is not empty; titles are the names of all blocks."""
-    blocks = cut(data, name)
-    if titles is not None and len(titles) != len(blocks):
-        raise Bad('%s: %d blocks, and the names are those of %d' % (name, len(blocks), len(titles)))
-    found = []
-    for d, block in enumerate(blocks):
-        if not any(block):
-            continue
-        kind, length = block[:2]
-        if kind != MOLECULE.kind or not MOLECULE.least <= length <= MOLECULE.longest:
-            raise Bad('%s: block %d has kind %d and length %d, and is no block of a catalog' % (name, d, kind, length))
-        found.append((d, titles[d].replace('\t', ' ') if titles else 'molecule %d' % d, length, *arcs_in(block)))
-    return found
+    return ''.join('\t'.join(map(str, row)) + '\n' for row in (COLUMNS, *rows))
 
 
 def some_blocks(text, name, most, what, form=MOLECULE):
@@ -293,31 +256,6 @@ def test_list():
     assert listed(from_blocks(data, 'B', screen=True)).split('\n')[1:3] == ['motif\t4\t2\t1', 'molecule 1\t5\t2\t2']
     assert listed([]) == listed([('x', *EMPTY)]) == lines[0] + '\n'
     assert listed(from_blocks(block_of(*NO_BASES) + data, 'B', screen=True)).split('\n')[1:3] == ['motif\t0\t0\t0', 'molecule 0\t4\t2\t1']
-
-
-def test_heads():
-    rng = random.Random(5)
-    text = '>two\tarcs\nGCGC\n()()\n>(empty)\n>none\nGAC\n...\n>one\nGAC\n(.)\n'
-    data = b''.join(blocks_of(text, 'T'))
-    titles = [title for _, title, _ in records(text, 'T')]
-    new, old = [(0, 'two arcs', 4, 2, 'block'), (2, 'none', 3, 0, 'block'), (3, 'one', 3, 1, 'block')], data[:-BLOCK] + bytes(older(data[-BLOCK:]))
-    assert heads(data, 'B', titles) == new and heads(old, 'B', titles) == new[:2] + [(3, 'one', 3, 1, 'mates')]
-    assert heads(data, 'B')[0] == (0, 'molecule 0', 4, 2, 'block')
-    assert table(HEAD_COLUMNS, heads(old, 'B', titles), 'arcs', True) == (
-        'number\tname\tlength\tarcs\tfrom\n0\ttwo arcs\t4\t2\tblock\n3\tone\t3\t1\tmates\n2\tnone\t3\t0\tblock\n')
-    for _ in range(300):
-        strand = random_strand(rng, LONGEST_MOLECULE)
-        block, told = block_of(*strand), len(arcs(strand[1]))
-        blind = bytearray(block)
-        blind[MOLECULE.mates_at:] = bytes(BLOCK - MOLECULE.mates_at)
-        for given, source in ((block, 'block'), (bytes(older(block)), 'mates' if told else 'block'), *([(bytes(blind), 'block')] if told else ())):
-            assert heads(given, 'B') == [(0, 'molecule 0', len(strand[0]), told, source)], (strand, source)
-        assert text_of(bytes(older(block)), 'B') == text_of(block, 'B') and block[COUNT_AT] == told
-        expect_error(bytes(with_count(block, told + 1)), 'T: block 0, byte 4: the number of arcs is %d, not %d' % (told, told + 1), text_of)
-    expect_error(data + b'\2' + data[1:BLOCK], 'T: block 4 has kind 2 and length 4', heads)
-    expect_error(block_of(*NO_BASES), 'T: block 0 has kind 1 and length 0', heads)
-    expect_error(data, 'T: 4 blocks, and the names are those of 3', lambda data, name: heads(data, name, titles[1:]))
-    expect_error(data[1:], 'T: 2047 bytes are not whole blocks', heads)
 
 
 def test_motifs():
@@ -407,7 +345,6 @@ def self_test():
     test_motifs()
     test_motif_buffers()
     test_list()
-    test_heads()
 
 
 # ---- commands
@@ -456,29 +393,18 @@ def parse(words):
     form = four.add_mutually_exclusive_group()
     form.add_argument('--blocks', action='store_true', help='the file has blocks, not text')
     form.add_argument('--screen', action='store_true', help='the file has blocks, and the first is a motif')
-    form.add_argument('--heads', action='store_true', help='the file has the blocks of a catalog; the number of arcs is the one that stands in the block')
-    four.add_argument('--names', metavar='TEXT', help='with --heads: the text that has the names of the blocks, in their order')
     four.add_argument('--by', choices=('number', *COLUMNS), default='number', help='what sorts the lines (else the number, which is the place in the file)')
     four.add_argument('--reverse', action='store_true', help='falling, not rising')
     for command in (one, two, three, four):
         command.add_argument('-o', '--output', default='-', help='where to write (else standard output)')
-    args = parser.parse_args(words)
-    if args.command == 'list' and (args.heads and args.by == 'depth' or args.names and not args.heads):
-        four.error('the heads of blocks have no depth' if args.heads else '--names goes with --heads')
-    return args
+    return parser.parse_args(words)
 
 
 def molecules_of(args):
-    """The molecules of the file that `list` is given, without --heads."""
+    """The molecules of the file that `list` is given."""
     if args.blocks or args.screen:
         return from_blocks(read_blocks(args.file), args.file, args.screen)
     return [row[1:] for row in from_text(read_text(args.file), args.file)]
-
-
-def heads_of(args):
-    """The list of the catalog that `list --heads` is given."""
-    titles = [title for _, title, _ in records(read_text(args.names), args.names)] if args.names else None
-    return table(HEAD_COLUMNS, heads(read_blocks(args.file), args.file, titles), args.by, args.reverse)
 
 
 def run(words):
@@ -496,8 +422,6 @@ def run(words):
         write(args.output, text_of_motifs(read_blocks(args.blocks), args.blocks).encode('ascii'))
     elif args.command == 'decode':
         write(args.output, text_of(read_blocks(args.blocks), args.blocks, args.screen).encode('ascii'))
-    elif args.command == 'list' and args.heads:
-        write(args.output, heads_of(args).encode('ascii'))
     elif args.command == 'list':
         write(args.output, listed(molecules_of(args), args.by, args.reverse).encode('ascii'))
     else:

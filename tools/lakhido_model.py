@@ -1,10 +1,10 @@
 #!/usr/bin/env python3
-"""Document 01, and requests (i) to (iii) and (v) to (vii) of 02, in plain Python, for the scripts beside it: strands, their refusals and folds, embeddings,
+"""Document 01, and requests (i) to (iii), (v) and (vi) of 02, in plain Python, for the scripts beside it: strands, their refusals and folds, embeddings,
 windows, blocks, the calls on catalog and cache. It shares nothing with the library.
 
 A strand is its bases, a text with a character for each byte, and its mates, a list of numbers. `--self-test` holds the search to the
-definition of an embedding, the depth and the tightest window to those of 02, blocks to the rules, batches to single queries, strands to their other
-spellings, and older blocks to new ones.
+definition of an embedding, the depth and the tightest window to those of 02, blocks to the rules, batches to single queries, and strands to their other
+spellings.
 """
 import collections
 import functools
@@ -340,7 +340,6 @@ WINDOWS = (
 
 BLOCK = 512
 CHECKSUM_AT = 508
-COUNT_AT, COUNT_END = 4, 6  # the number of arcs in a molecule block: 02, (vii)
 SEARCHED_AT, HITS_AT, MAP = 380, 444, 64
 
 # Byte 0, the least and the greatest length, where bases and mates begin, and where the unused places of mates end: of a molecule block of the catalog, of
@@ -361,16 +360,9 @@ def seal(block):
     block[CHECKSUM_AT:BLOCK] = checksum(block).to_bytes(4, 'little')
 
 
-def has_count(form):
-    """02, (vii): the number of arcs stands in a molecule block, and so in one that is handed in as a motif; an entry has none."""
-    return form.kind == MOLECULE.kind
-
-
 def encode(form, bases, mates, searched=bytes(MAP), hits=bytes(MAP)):
-    """The block of a strand, as add writes it; for an entry with its two maps."""
+    """The block of a strand, for an entry with its two maps."""
     block = bytearray(BLOCK)
-    if has_count(form):
-        block[COUNT_AT:COUNT_END] = len(arcs(mates)).to_bytes(2, 'little')
     block[0], block[1] = form.kind, len(bases)
     block[form.bases_at:form.bases_at + len(bases)] = bases.encode('latin-1')
     block[form.mates_at:form.mates_at + 2 * len(mates)] = b''.join(mate.to_bytes(2, 'little') for mate in mates)
@@ -378,24 +370,6 @@ def encode(form, bases, mates, searched=bytes(MAP), hits=bytes(MAP)):
         block[SEARCHED_AT:CHECKSUM_AT] = bytes(searched) + bytes(hits)
     seal(block)
     return block
-
-
-def with_count(block, count):
-    """A molecule block with this number in the place of the number of arcs, and the right checksum."""
-    other = bytearray(block)
-    other[COUNT_AT:COUNT_END] = count.to_bytes(2, 'little')
-    seal(other)
-    return other
-
-
-def older(block):
-    """The block as it was written before 02, (vii): zero in the place of the number of arcs. The empty block stays."""
-    return with_count(block, 0) if any(block) else bytearray(block)
-
-
-def count_in(block):
-    """The number in the place of the number of arcs."""
-    return int.from_bytes(block[COUNT_AT:COUNT_END], 'little')
 
 
 def decode(form, block):
@@ -415,25 +389,11 @@ def fault(form, block):
     n = block[1]
     if not form.least <= n <= form.longest:
         return 1, 'the length is %d, and %d to %d are taken' % (n, form.least, form.longest)
-    for a, b in (*unused_head(form), (form.bases_at + n, form.mates_at), (form.mates_at + 2 * n, form.mates_end)):
+    for a, b in ((2, form.bases_at), (form.bases_at + n, form.mates_at), (form.mates_at + 2 * n, form.mates_end)):
         for i in range(a, b):
             if block[i] != 0:
                 return i, 'an unused byte is %d, not 0' % block[i]
-    return fault_of_strand(form, *decode(form, block)) or fault_of_count(form, block) or fault_of_end(form, block)
-
-
-def unused_head(form):
-    """The stretches of zero bytes before the bases. 02, (vii): bytes 4 and 5 of a molecule block leave the rule of zero bytes."""
-    return ((2, COUNT_AT), (COUNT_END, form.bases_at)) if has_count(form) else ((2, form.bases_at),)
-
-
-def fault_of_count(form, block):
-    """02, (vii): "Zero there stays sound for older blocks; any other number must be the true one." The mates are nested."""
-    if has_count(form) and count_in(block) != 0:
-        true = len(arcs(decode(form, block)[1]))
-        if count_in(block) != true:
-            return COUNT_AT, 'the number of arcs is %d, not %d' % (true, count_in(block))
-    return None
+    return fault_of_strand(form, *decode(form, block)) or fault_of_end(form, block)
 
 
 def fault_of_strand(form, bases, mates):
@@ -758,50 +718,6 @@ def self_test_of_blocks(rng):
             assert sound(form, encode(form, bases, mates)) == (row == 2 and form is not MOLECULE), row
 
 
-def self_test_of_counts(rng):
-    """02, (vii): the number of arcs in bytes 4 and 5, little-endian: zero or the true one, as one number, in a block of a catalog and in one handed in as
-    a motif. Bytes 2, 3 and 6 to 27 stay zero. What a block holds does not depend on it. Entries have no such bytes."""
-    for form in (MOLECULE, MOTIF):
-        for bases, mates, arcs_told in (('GC', [1, 0], 1), ('GAC', [2, 1, 0], 1), ('GGCC', [3, 2, 1, 0], 2), ('GCGC', [1, 0, 3, 2], 2),
-                                        ('GC', [0, 1], 0), ('A', [0], 0), ('A' * 160, list(range(159, -1, -1)), 80)):
-            block = encode(form, bases, mates)
-            assert (block[4], block[5]) == (arcs_told, 0) and count_in(block) == arcs_told
-            assert [c for c in range(65536) if c < 600 or c % 256 in (0, 1, arcs_told) if sound(form, bytes(with_count(block, c)))] == sorted({0, arcs_told})
-            assert decode(form, older(block)) == (bases, mates) and (older(block) == block) == (arcs_told == 0)
-            for i in [2, 3, *range(6, 28)]:
-                other = bytearray(changed(block, i, 1))
-                seal(other)
-                assert not sound(form, other), i
-        for _ in range(200):
-            bases, mates = random_motif(rng, form.longest) if form is MOTIF else random_strand(rng, form.longest)
-            block, true = encode(form, bases, mates), sum(mate != i for i, mate in enumerate(mates)) // 2
-            assert count_in(block) == true and sound(form, block) and holds(form, older(block))
-            c = rng.randrange(65536)
-            assert sound(form, with_count(block, c)) == (c in (0, true)) and not sound(form, with_count(block, true + 256))
-    for i in (COUNT_AT, COUNT_AT + 1):
-        other = bytearray(changed(encode(ENTRY, 'GC', [1, 0]), i, 1))
-        seal(other)
-        assert not sound(ENTRY, other)
-
-
-def self_test_of_older_blocks():
-    """Catalogs of older and new blocks, and motifs handed in as both: the same answers; a wrong number is unsound at its place."""
-    strands = ('GAC', [2, 1, 0]), ('GGC', [2, 1, 0]), ('GGCC', [3, 2, 1, 0])
-    new = [encode(MOLECULE, *strand) for strand in strands]
-    for mask in itertools.product((False, True), repeat=3):
-        catalog, cache, hits = bytearray().join(older(block) if old else block for old, block in zip(mask, new)), bytearray(2 * BLOCK), [7] * 6
-        kept = bytes(catalog)
-        assert query(catalog, cache, 'GC', [1, 0], work_size(2), hits) == (None, 3, {0, 1, 2}) and catalog == kept
-        motif = encode(MOTIF, 'GC', [0, 1])
-        assert batch(catalog, cache, older(motif) + motif, work_size(2), hits) == (None, 3, [2, 2], [3, 0]) and hits == [1, 2, 2, 1, 2, 7]
-        assert batch_refusal(catalog, cache, motif + with_count(encode(MOTIF, 'GC', [1, 0]), 2), work_size(2), 6) == (15, 0, 1)
-        put_block(catalog, 1, with_count(new[1], 2))
-        assert query_refusal(catalog, cache, 'GC', [1, 0], work_size(2), 3) == add_refusal(catalog, cache, 0, 'A', [0]) == (11, 2, 1)
-        put_block(catalog, 1, bytes(BLOCK))
-        assert add(catalog, cache, 1, 'GCGC', [1, 0, 3, 2]) is None and catalog[BLOCK + 4] == 2 and catalog[BLOCK + 5] == 0
-        assert catalog[:BLOCK] == kept[:BLOCK] and catalog[2 * BLOCK:] == kept[2 * BLOCK:]
-
-
 def self_test_of_short_blocks(rng):
     """02, (iii): a motif block of length 0, and an entry with length 0 and key 0. Each is no empty block, and unsound when one byte is another."""
     motif, entry, full = encode(MOTIF, *NO_BASES), encode(ENTRY, *NO_BASES), encode(ENTRY, *NO_BASES, b'\7' * MAP, b'\5' * MAP)
@@ -912,8 +828,6 @@ def self_test():
         folds.add(fold(mates))
     assert len(folds) > 20, folds
     self_test_of_blocks(rng)
-    self_test_of_counts(rng)
-    self_test_of_older_blocks()
     self_test_of_short_blocks(rng)
     self_test_of_story()
     self_test_of_batch_refusals()

@@ -6,7 +6,7 @@
 """
 import sys
 
-from lakhido_model import BLOCK, LONGEST_MOTIF, MOLECULE, MOST_SCREENED, MOTIF, NO_BASES, decode, embeds, encode, holds, older, sound, with_count
+from lakhido_model import BLOCK, LONGEST_MOTIF, MOLECULE, MOST_SCREENED, MOTIF, NO_BASES, decode, embeds, encode, holds, sound
 
 
 def output(data):
@@ -42,12 +42,6 @@ def self_test():
     assert output(t + u + one + t) == output(u + u + one + t) == 'hits 2 searched 3\n0\n2\n'
     small = bytes(encode(MOLECULE, 'Gt', [1, 0]))
     assert output(small + t) == 'bad motif\n' and output(t + u + small) == 'refused 11 2 1\n'
-    bond, hairpin = (bytes(encode(MOLECULE, *strand)) for strand in (('GC', [1, 0]), ('GAC', [2, 1, 0])))
-    for motif, molecule in ((bond, hairpin), (older(bond), hairpin), (bond, older(hairpin)), (older(bond), older(hairpin))):
-        assert output(bytes(motif + molecule + one)) == 'hits 1 searched 2\n0\n'
-    for count in (2, 256, 257):
-        assert output(bytes(with_count(bond, count)) + hairpin) == 'bad motif\n'
-        assert output(bond + one + bytes(with_count(hairpin, count))) == 'refused 11 2 1\n'
     assert output(none[:-4] + bytes(4) + one) == output(b'\x02' + none[1:] + one) == 'bad motif\n'
 
 

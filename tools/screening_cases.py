@@ -5,7 +5,7 @@ import os
 import random
 
 from dotbracket import block_of, motif_and_catalog, read_text
-from lakhido_model import BLOCK, MOST_SCREENED, blocks_in, few_letters, older, random_motif, random_strand, spellings, with_count
+from lakhido_model import BLOCK, MOST_SCREENED, few_letters, random_motif, random_strand, spellings
 from screen_reference import output
 
 MOST = (1 + MOST_SCREENED) * BLOCK
@@ -149,26 +149,6 @@ def spelled(cases, rng):
         assert len(told) == 1, told
 
 
-def counted(cases):
-    """02, (vii): the number of arcs in a motif block and in a molecule's: right, zero, wrong. The motif with its bond is in 1, 2 and 3."""
-    molecules = [block_of(*strand) for strand in (('GAC', [2, 1, 0]), ('GGCC', [3, 2, 1, 0]), ('GCGC', [1, 0, 3, 2]), ('GC', [0, 1]))]
-    for d, block in enumerate(molecules, 1):
-        cases.block(d, block)
-    for motif, true in ((('GC', [1, 0]), 1), (('GC', [0, 1]), 0), (('GGCC', [3, 2, 1, 0]), 2), (('', []), 0)):
-        for count in sorted({true, 0, 1, 2, 3, true + 256, 255, 256}):
-            cases.block(0, with_count(block_of(*motif), count))
-            cases.screen(5 * BLOCK)
-            assert (cases.told[-1].split('\n')[1] == 'bad motif') == (count not in (0, true))
-    cases.block(0, block_of('GC', [1, 0]))
-    for d, true in ((4, 0), (2, 2), (1, 1), (3, 2)):
-        for count in sorted({0, 1, 2, 3, true + 256} - {true}):
-            cases.block(d, with_count(molecules[d - 1], count))
-            cases.screen(5 * BLOCK)
-            assert (cases.told[-1].split('\n')[1] == 'refused 11 2 %d' % (d - 1)) == (count != 0)
-        cases.block(d, older(molecules[d - 1]))
-        cases.screen(5 * BLOCK)
-
-
 def unsound_places(cases, rng):
     """64 molecules; each in turn unsound, by a byte of its own; then two, of which the lower counts."""
     cases.same_bases(0, 2)
@@ -209,24 +189,16 @@ def example_input(name):
     return motif_and_catalog(*motif, *catalog)
 
 
-def older_input(data):
-    """The same input as it was before 02, (vii), without numbers of arcs."""
-    return b''.join(bytes(older(block)) for block in blocks_in(data))
-
-
 def files():
     rng, cases = random.Random(3), Cases()
-    trna, small_new = example_input('trna'), example_input('small')
-    small = older_input(small_new)  # on purpose: examples/README.md
-    assert output(small) == output(small_new) and small != small_new
+    small, trna = example_input('small'), example_input('trna')
     lengths(cases)
     no_bases(cases, rng)
     long_motifs(cases)
-    for data in (small, trna, small_new, older_input(trna)):
-        example(cases, data)
+    example(cases, small)
+    example(cases, trna)
     bonds(cases, rng)
     spelled(cases, rng)
-    counted(cases)
     unsound_places(cases, rng)
     text = ''.join(cases.lines)
     assert len(text) <= 65536, len(text)  # what the program reads

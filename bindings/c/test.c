@@ -1,5 +1,5 @@
 /* Calls each function of the library on document 01's small examples, some of the arcs and depth of a molecule, some of the tightest window, some of the
- * empty motif, some of batches, some of T and U and some of the number of arcs in a block, and prints ok. */
+ * empty motif and some of batches, and prints ok. */
 #include "lakhido.h"
 
 #include <stdio.h>
@@ -217,19 +217,10 @@ static void refused_buffers(void) {
     REFUSED(NOTHING_QUERIED, LAKHIDO_UNSOUND_BLOCK, LAKHIDO_NEITHER, 0);
 }
 
-/* Writes the number of arcs of a block, and its checksum. */
-static void put_arcs(uint8_t *block, size_t arcs) {
-    uint32_t sum = 0;
-    block[4] = arcs % 256;
-    block[5] = arcs / 256;
-    for (uint32_t i = 0; i < 508; i++) sum += (i + 1) * block[i];
-    for (int i = 0; i < 4; i++) block[508 + i] = sum >> 8 * i;
-}
-
 /* Writes motif t to its block, as docs/FORMAT.md says. */
 static void put_motif(int t, const uint8_t *bases, size_t bases_length, const uint16_t *mates, size_t mates_length) {
     uint8_t *block = motifs + t * LAKHIDO_BLOCK;
-    size_t arcs = 0;
+    uint32_t sum = 0;
     memset(block, 0, LAKHIDO_BLOCK);
     block[0] = 1;
     block[1] = bases_length;
@@ -237,9 +228,9 @@ static void put_motif(int t, const uint8_t *bases, size_t bases_length, const ui
     for (size_t i = 0; i < mates_length; i++) {
         block[188 + 2 * i] = mates[i] % 256;
         block[189 + 2 * i] = mates[i] / 256;
-        arcs += i < mates[i];
     }
-    put_arcs(block, arcs);
+    for (uint32_t i = 0; i < 508; i++) sum += (i + 1) * block[i];
+    for (int i = 0; i < 4; i++) block[508 + i] = sum >> 8 * i;
 }
 
 /* Puts a motif of n unbonded bases to block t. */
@@ -350,38 +341,6 @@ static void t_and_u(void) {
     BATCHED(lakhido_batch(CATALOG, CACHE, MOTIFS(2), QUERY_WORK, lists, 4), 2, (2, 2), (0, 2));
 }
 
-/* Add writes the number of arcs to bytes 4 and 5; zero there is an older block, which is sound, in a catalog and as a motif; no other number is. A motif handed
- * in as both is one motif. */
-static void arcs_in_blocks(void) {
-    static const size_t wrong[] = {1, 2, 4, 3 + 256, 768};
-    memset(catalog, 0, sizeof catalog);
-    memset(cache, 0, sizeof cache);
-    FOLDED(lakhido_add(CATALOG, CACHE, 0, THREE_ARCS), 0, 3, 2);
-    FOLDED(lakhido_add(CATALOG, CACHE, 1, BASES("GC"), MATES(0, 1)), 0, 0, 0);
-    HOLDS(catalog[2] == 0 && catalog[3] == 0 && catalog[4] == 3 && catalog[5] == 0 && catalog[6] == 0);
-    HOLDS(catalog[LAKHIDO_BLOCK + 4] == 0 && catalog[LAKHIDO_BLOCK + 5] == 0);
-    ACCEPTED(lakhido_query(CATALOG, CACHE, BASES("GC"), MATES(1, 0), QUERY_WORK, hits, 3), 1, 2);
-    for (size_t i = 0; i < sizeof wrong / sizeof *wrong; i++) {
-        put_arcs(catalog, wrong[i]);
-        REFUSED(lakhido_query(CATALOG, CACHE, BASES("GC"), MATES(1, 0), QUERY_WORK, hits, 3), LAKHIDO_UNSOUND_BLOCK, LAKHIDO_NEITHER, 0);
-    }
-    put_arcs(catalog, 0);
-    ACCEPTED(lakhido_query(CATALOG, CACHE, BASES("GC"), MATES(1, 0), QUERY_WORK, hits, 3), 1, 0);
-    put_arcs(catalog + LAKHIDO_BLOCK, 1);
-    REFUSED(lakhido_remove(CATALOG, CACHE, 0), LAKHIDO_UNSOUND_BLOCK, LAKHIDO_NEITHER, 1);
-    put_arcs(catalog + LAKHIDO_BLOCK, 0);
-
-    put_motif(0, THREE_ARCS);
-    put_motif(1, THREE_ARCS);
-    HOLDS(motifs[4] == 3 && !memcmp(motifs, motifs + LAKHIDO_BLOCK, LAKHIDO_BLOCK));
-    put_arcs(motifs, 0);
-    BATCHED(lakhido_batch(CATALOG, CACHE, MOTIFS(2), work, LAKHIDO_QUERY_WORK(6), lists, 4), 2, (1, 1), (2, 0));
-    for (size_t i = 0; i < sizeof wrong / sizeof *wrong; i++) {
-        put_arcs(motifs + LAKHIDO_BLOCK, wrong[i]);
-        NO_BATCH(lakhido_batch(CATALOG, CACHE, MOTIFS(2), work, LAKHIDO_QUERY_WORK(6), lists, 4), LAKHIDO_BAD_MOTIFS, LAKHIDO_MOTIF, 1);
-    }
-}
-
 int main(void) {
     strands();
     direct_calls();
@@ -395,7 +354,6 @@ int main(void) {
     most_motifs();
     refused_batches();
     t_and_u();
-    arcs_in_blocks();
     if (!failed) puts("ok");
     return failed;
 }

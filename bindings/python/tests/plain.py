@@ -88,10 +88,9 @@ def fault(bases: bytes, mates: list[int], most: int, *, may_be_empty: bool) -> t
 
 
 def block(bases: bytes, mates: list[int]) -> bytes:
-    """The block of a molecule or a motif, with the number of its arcs in bytes 4 and 5."""
+    """The block of a molecule or a motif."""
     content = bytearray(508)
     content[0], content[1] = 1, len(bases)
-    content[4:6] = sum(i < mate for i, mate in enumerate(mates)).to_bytes(2, 'little')
     content[28:28 + len(bases)] = bases
     for i, mate in enumerate(mates):
         content[188 + 2 * i], content[189 + 2 * i] = mate % 256, mate // 256

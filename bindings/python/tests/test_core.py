@@ -374,7 +374,7 @@ class BlockTest(Case):
     def test_examples(self):
         block = lakhido.encode(self.library, strand(b'GAC', [2, 1, 0]))
         listed = {i: byte for i, byte in enumerate(block) if byte}
-        self.assertEqual(listed, {0: 1, 1: 3, 4: 1, 28: 71, 29: 65, 30: 67, 188: 2, 190: 1, 508: 11, 509: 26})
+        self.assertEqual(listed, {0: 1, 1: 3, 28: 71, 29: 65, 30: 67, 188: 2, 190: 1, 508: 6, 509: 26})
         self.assertEqual({i: byte for i, byte in enumerate(lakhido.EMPTY_MOTIF) if byte}, {0: 1, 508: 1})
         self.assertEqual(len(lakhido.EMPTY_MOTIF), BLOCK)
 

@@ -276,8 +276,6 @@ pub fn verify(motif: Strand, molecule: Strand, places: &[u16]) -> Result<Verifie
 }
 
 /// Writes a molecule of 1 to [`MOLECULE_MOST`] bases to block `number` of the catalog, zeroes every unsound block of the cache, and gives the molecule's fold.
-/// The number of arcs also stands in bytes 4 and 5 of the block, the lower byte first. Zero there is an older block, or one without arcs; with any other number
-/// that is not the true one the block is unsound.
 ///
 /// Refused by the reasons 10, 11, 12, 13, then 1 to 7 of the molecule.
 pub fn add(catalog: &mut [u8], cache: &mut [u8], number: usize, molecule: Strand) -> Result<Fold, Refusal> {

@@ -143,8 +143,8 @@ module _ (p : ℕ → Bool) where
       omega (arith, ap length (select_yes p d (sym eb)), length-append (select d p) (d ∷ []))
   count_next d c r false e eb er = let y : r ≡ 0 = er ∙ choose_no false 1 0 refl in omega (arith, ap length (select_no p d (sym eb)))
 
-  pub count_end_lem : (d n c : ℕ) → n ≤ d → d ≤ n → c ≡ length (select d p) → c ≡ length (select n p)
-  count_end_lem d n c a b e = let q : d ≡ n = omega arith in e ∙ ap (λ (k : ℕ). length (select k p)) q
+  pub count_end : (d n c : ℕ) → n ≤ d → d ≤ n → c ≡ length (select d p) → c ≡ length (select n p)
+  count_end d n c a b e = let q : d ≡ n = omega arith in e ∙ ap (λ (k : ℕ). length (select k p)) q
 
 -- ---- a number written for each motif
 

@@ -2,44 +2,40 @@
 use Prim.Native.Nat.{ℕ}
 use mathlib.Core.Path.{◌≡◌, refl, sym, ap, ◌∙◌}
 use mathlib.Core.Bool.{Bool, true, false}
-use mathlib.Core.Logic.{◌⊎◌, ◌↔◌, ⊎_elim, inl, inr}
+use mathlib.Core.Logic.{◌⊎◌, inl, inr}
 use mathlib.Core.List.{List}
 use Rattle.strand.specs.Strands.{Strand, Proper, least_motif}
 use Rattle.refusals.specs.Rules.{motif_side}
 use Rattle.octets.specs.Octets.{Bytes}
 use Rattle.block.specs.Content.{entry_bases, empty_block, is_empty, molecule_in, motif_in, searched_in, hit_in}
-use Rattle.block.specs.Motif.{motif_handed_in, encode_motif, encode_older_motif, sound_motif, holds_motif}
+use Rattle.block.specs.Motif.{motif_handed_in, encode_motif, sound_motif, holds_motif}
 use Rattle.block.specs.Block.{sound_molecule, sound_entry}
 use Rattle.block.specs.Statements.{HoldsMolecule, HoldsMotif, HoldsEntry, MoleculeSound, MotifSound, MotifHeld, EntrySound, EntryBack, Claims}
 use Rattle.block.proofs.ContentLaws as law
 use Rattle.block.proofs.EmptyMotif.{empty_motif_lem}
 use Rattle.block.proofs.Examples.{layout}
-use Rattle.strand.specs.Folds.{arc_count, IsArcCount}
-use Rattle.strand.proofs.FoldLaws.{arcs_most, arcs_only}
 
 molecule_says : (s : List ℕ) → Bytes s → MoleculeSound s
 molecule_says s bytes = ((λ ok. to ok (is_empty s) refl), from)
   where
     to : sound_molecule s ≡ true → (b : Bool) → is_empty s ≡ b → (s ≡ empty_block) ⊎ ((q : Strand) × HoldsMolecule s q)
     to ok true e = inl (law.empty_is s (law.molecule_size s ok) e)
-    to ok false e = inr (molecule_in s, record { proper = law.molecule_proper s ok e; encoded = law.molecule_again s ok e bytes })
+    to ok false e = inr (molecule_in s, record { proper = law.molecule_proper s ok e; encoded = sym (law.molecule_again s ok e bytes) })
 
     from : (s ≡ empty_block) ⊎ ((q : Strand) × HoldsMolecule s q) → sound_molecule s ≡ true
     from (inl e) = ap sound_molecule e ∙ law.empty_molecule
-    from (inr (q, h)) =
-        ⊎_elim (λ e. ap sound_molecule e ∙ law.molecule_sound q h.proper) (λ e. ap sound_molecule e ∙ law.older_sound q h.proper) h.encoded
+    from (inr (q, h)) = ap sound_molecule h.encoded ∙ law.molecule_sound q h.proper
 
 motif_says : (s : List ℕ) → Bytes s → MotifSound s
 motif_says s bytes = ((λ ok. to ok (is_empty s) refl), from)
   where
     to : sound_motif s ≡ true → (b : Bool) → is_empty s ≡ b → (s ≡ empty_block) ⊎ ((q : Strand) × HoldsMotif s q)
     to ok true e = inl (law.empty_is s (law.motif_size s ok) e)
-    to ok false e = inr (motif_handed_in s, record { proper = law.motif_proper s ok e; encoded = law.motif_again s ok e bytes })
+    to ok false e = inr (motif_handed_in s, record { proper = law.motif_proper s ok e; encoded = sym (law.motif_again s ok e bytes) })
 
     from : (s ≡ empty_block) ⊎ ((q : Strand) × HoldsMotif s q) → sound_motif s ≡ true
     from (inl e) = ap sound_motif e ∙ law.empty_motif_lem
-    from (inr (q, h)) =
-        ⊎_elim (λ e. ap sound_motif e ∙ law.motif_sound q h.proper) (λ e. ap sound_motif e ∙ law.older_motif_sound q h.proper) h.encoded
+    from (inr (q, h)) = ap sound_motif h.encoded ∙ law.motif_sound q h.proper
 
 motif_held : (s : List ℕ) → Bytes s → MotifHeld s
 motif_held s bytes = (to, from)
@@ -47,14 +43,10 @@ motif_held s bytes = (to, from)
     to : holds_motif s ≡ true → (q : Strand) × HoldsMotif s q
     to h =
         let a = law.held_sound s h in
-        (motif_handed_in s, record { proper = law.motif_proper s a.0 a.1; encoded = law.motif_again s a.0 a.1 bytes })
+        (motif_handed_in s, record { proper = law.motif_proper s a.0 a.1; encoded = sym (law.motif_again s a.0 a.1 bytes) })
 
     from : ((q : Strand) × HoldsMotif s q) → holds_motif s ≡ true
-    from (q, h) =
-        ⊎_elim
-        (λ e. ap holds_motif e ∙ law.sound_held (encode_motif q) (law.motif_sound q h.proper) (law.motif_full q h.proper))
-        (λ e. ap holds_motif e ∙ law.sound_held (encode_older_motif q) (law.older_motif_sound q h.proper) (law.older_motif_full q h.proper))
-        h.encoded
+    from (q, h) = ap holds_motif h.encoded ∙ law.sound_held (encode_motif q) (law.motif_sound q h.proper) (law.motif_full q h.proper)
 
 entry_says : (s : List ℕ) → Bytes s → EntrySound s
 entry_says s bytes = ((λ ok. to ok (is_empty s) refl), from)
@@ -86,17 +78,6 @@ entry_back q ok searched hits =
       forgotten = law.entry_forgot q ok searched hits;
     }
 
--- A number that is the number of arcs.
-counted : {mates : List ℕ} {c : ℕ} → arc_count mates ≡ c → IsArcCount mates c
-counted {mates} e = rw e at (arcs_most mates)
-
--- The same of what a number decides.
-or_count : {A : Type 0} (q : Strand) (c : ℕ) → A ↔ ((c ≡ 0) ⊎ (c ≡ arc_count q.mates)) → A ↔ ((c ≡ 0) ⊎ IsArcCount q.mates c)
-or_count q c h = (
-  (λ a. ⊎_elim inl (λ e. inr (counted (sym e))) (h.0 a)),
-  ⊎_elim (λ e. h.1 (inl e)) (λ I. h.1 (inr (arcs_only q.mates I))),
-)
-
 pub claims : Claims
 claims =
     record {
@@ -104,13 +85,8 @@ claims =
       motif_sound = motif_says;
       motif_held = motif_held;
       entry_sound = entry_says;
-      molecule_back = λ q ok. (law.molecule_back q ok, law.older_back q ok);
-      motif_back = λ q ok. (law.motif_back q ok, law.older_motif_back q ok);
-      count_written = λ q ok. counted (sym (law.molecule_counted q ok));
-      molecule_count = λ s ok. ⊎_elim inl (λ e. inr (counted (sym e))) (law.molecule_count_is s ok);
-      motif_count = λ s ok. ⊎_elim inl (λ e. inr (counted (sym e))) (law.motif_count_is s ok);
-      count_decides = λ q ok c hc. or_count q c (law.molecule_right q ok c hc);
-      motif_count_decides = λ q ok c hc. or_count q c (law.motif_right q ok c hc);
+      molecule_back = law.molecule_back;
+      motif_back = law.motif_back;
       entry_back = entry_back;
       molecule_altered = λ s ok i v. law.molecule_changed s i v ok;
       motif_altered = λ s ok i v. law.motif_changed s i v ok;

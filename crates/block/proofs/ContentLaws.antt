@@ -1,8 +1,8 @@
--- The laws that the crates above go by: what is encoded is sound and is decoded again, a sound block is an encoding of what it holds,
+-- The laws that the crates above go by: what is encoded is sound and is decoded again, a sound block is the encoding of what it holds,
 -- a number is taken out of an entry, one changed byte makes a sound block unsound. They see layouts through these only.
 use mathlib.Core.Path.{◌≡◌, refl, sym, ap, ◌∙◌}
 use mathlib.Core.Bool.{Bool, true, false, not, ◌||◌, ◌&&◌}
-use mathlib.Core.Logic.{◌⊎◌, ◌↔◌, ⊎_elim, inl, inr}
+use mathlib.Core.Logic.{⊎_elim}
 use mathlib.Core.List.{List, [], ◌++◌, append_assoc}
 use Prim.Native.Nat.{ℕ, suc, ◌+◌, ◌-◌, ◌<◌, ◌≤◌}
 use native.Mathlib.Omega.{arith}
@@ -12,21 +12,19 @@ use Rattle.lists.specs.Vocabulary.{nth}
 use Rattle.strand.specs.Strands.{Strand, strand_of, Proper, least_motif, least_molecule}
 use Rattle.refusals.specs.Rules.{molecule_side, motif_side}
 use Rattle.lists.proofs.ListLaws.{every_at, never, zeros_at, zeros_not, zeros_zero, zeros_are, by_bool, choose_yes, choose_no}
-use Rattle.octets.specs.Octets.{Bytes, word16, map_bit, map_bytes, without, clear_map}
+use Rattle.octets.specs.Octets.{Bytes, map_bit, map_bytes, without, clear_map}
 use Rattle.block.specs.Content.{with_checksum, checksum_ok, rechecked, Kind, block_bases, entry_bases, molecule_kind, entry_kind, empty_block, is_empty}
 use Rattle.block.specs.Content.{length_in, strand_in, molecule_in, motif_in, searched_in, hit_in, content_of, strand_block, entry_with}
-use Rattle.block.specs.Content.{searched_at, hit_at, count_at, count_end, molecule_block, encode_molecule, encode_older, encode_entry}
-use Rattle.block.specs.Motif.{motif_kind, motif_handed_in, motif_block, encode_motif, encode_older_motif, sound_motif}
+use Rattle.block.specs.Content.{searched_at, hit_at, encode_molecule, encode_entry}
+use Rattle.block.specs.Motif.{motif_kind, motif_handed_in, encode_motif, sound_motif}
 use Rattle.block.specs.Block.{hit_ok, hits_ok, sound_molecule, sound_entry, forgot, cleaned}
 use Rattle.block.proofs.SoundLaws.{Content, Sound, blank, filled, strand_zero, entry_zero, strand_size, strand_is, molecule_is, entry_is}
-use Rattle.block.proofs.SoundLaws.{entry_hits_ok, strand_count_ok, strand_count_is}
-use Rattle.strand.specs.Folds.{arc_count}
-use Rattle.strand.proofs.FoldLaws.{arcs_few}
+use Rattle.block.proofs.SoundLaws.{entry_hits_ok}
 pub use Rattle.block.proofs.SoundLaws.{molecule_size, entry_size, held_sound, sound_held}
 pub use Rattle.block.proofs.Altered.{molecule_changed, motif_changed, entry_changed}
 use Rattle.block.proofs.RoundTrip as trip
 use Rattle.block.proofs.EntryLaws as entry
-use Rattle.block.proofs.EncodedLaws.{strand_proper, counted_same, entry_same}
+use Rattle.block.proofs.EncodedLaws.{strand_proper, strand_same, entry_same}
 use lib.Dec.{eqb}
 use borrow.Author.Tests.{eq-eqb, ne_eqb}
 
@@ -63,83 +61,43 @@ first_byte : (k : Kind) (own bases mates t : List ℕ) → nth (content_of k own
 unfolding content_of
 first_byte k own bases mates t = refl
 
-arcs_small : (side least : ℕ) (q : Strand) → Proper side least block_bases q.bases q.mates → arc_count q.mates < 65536
-arcs_small side least q ok = omega (arith, ok.small, ok.same, arcs_few q.mates)
-
--- With the number of its arcs, and the older one.
 module _ (q : Strand) (ok : Proper molecule_side least_molecule block_bases q.bases q.mates) where
   pub molecule_length : length (encode_molecule q) ≡ 512
   unfolding encode_molecule
-  molecule_length = trip.block_length molecule_kind _ q.bases q.mates refl (omega arith) (omega arith) ok (omega arith)
-
-  -- With any number that two bytes hold: it is sound with zero and with the number of arcs, and with no other.
-  pub molecule_right : (c : ℕ) → c < count_end → (sound_molecule (molecule_block c q) ≡ true) ↔ ((c ≡ 0) ⊎ (c ≡ arc_count q.mates))
-  unfolding sound_molecule
-  molecule_right c hc = trip.counted_tells molecule_kind c q.bases q.mates refl hc (omega arith) (omega arith) ok (omega arith) (omega arith)
+  molecule_length = trip.block_length molecule_kind [] q.bases q.mates refl (omega arith) (omega arith) ok (omega arith)
 
   pub molecule_sound : sound_molecule (encode_molecule q) ≡ true
-  unfolding encode_molecule
-  molecule_sound = (molecule_right (arc_count q.mates) (arcs_small molecule_side least_molecule q ok)).1 (inr refl)
-
-  pub older_sound : sound_molecule (encode_older q) ≡ true
-  unfolding encode_older
-  older_sound = (molecule_right 0 (omega arith)).1 (inl refl)
+  unfolding encode_molecule sound_molecule
+  molecule_sound = trip.block_sound molecule_kind [] q.bases q.mates refl (omega arith) (omega arith) ok (omega arith) (omega arith) trip.small_none
 
   -- Decoded again.
   pub molecule_back : molecule_in (encode_molecule q) ≡ q
   unfolding molecule_in encode_molecule
-  molecule_back = trip.block_back molecule_kind _ q.bases q.mates refl (omega arith) (omega arith) ok (omega arith)
-
-  pub older_back : molecule_in (encode_older q) ≡ q
-  unfolding molecule_in encode_older
-  older_back = trip.block_back molecule_kind _ q.bases q.mates refl (omega arith) (omega arith) ok (omega arith)
+  molecule_back = trip.block_back molecule_kind [] q.bases q.mates refl (omega arith) (omega arith) ok (omega arith)
 
   pub molecule_full : is_empty (encode_molecule q) ≡ false
   molecule_full =
       not_empty (encode_molecule q) 0 molecule_length
-      (unfold encode_molecule strand_block with_checksum in (first_byte molecule_kind _ q.bases q.mates _))
-
-  -- The number of arcs stands in it.
-  pub molecule_counted : word16 (encode_molecule q) count_at ≡ arc_count q.mates
-  unfolding encode_molecule
-  molecule_counted = trip.count_back molecule_kind (arc_count q.mates) q.bases q.mates refl (arcs_small molecule_side least_molecule q ok)
+      (unfold encode_molecule strand_block with_checksum in (first_byte molecule_kind [] q.bases q.mates _))
 
 -- The same of the block that hands a motif in.
 module _ (q : Strand) (ok : Proper motif_side least_motif block_bases q.bases q.mates) where
   pub motif_length : length (encode_motif q) ≡ 512
   unfolding encode_motif
-  motif_length = trip.block_length motif_kind _ q.bases q.mates refl (omega arith) (omega arith) ok (omega arith)
-
-  pub motif_right : (c : ℕ) → c < count_end → (sound_motif (motif_block c q) ≡ true) ↔ ((c ≡ 0) ⊎ (c ≡ arc_count q.mates))
-  unfolding sound_motif
-  motif_right c hc = trip.counted_tells motif_kind c q.bases q.mates refl hc (omega arith) (omega arith) ok (omega arith) (omega arith)
+  motif_length = trip.block_length motif_kind [] q.bases q.mates refl (omega arith) (omega arith) ok (omega arith)
 
   pub motif_sound : sound_motif (encode_motif q) ≡ true
-  unfolding encode_motif
-  motif_sound = (motif_right (arc_count q.mates) (arcs_small motif_side least_motif q ok)).1 (inr refl)
-
-  pub older_motif_sound : sound_motif (encode_older_motif q) ≡ true
-  unfolding encode_older_motif
-  older_motif_sound = (motif_right 0 (omega arith)).1 (inl refl)
+  unfolding encode_motif sound_motif
+  motif_sound = trip.block_sound motif_kind [] q.bases q.mates refl (omega arith) (omega arith) ok (omega arith) (omega arith) trip.small_none
 
   pub motif_back : motif_handed_in (encode_motif q) ≡ q
   unfolding motif_handed_in encode_motif
-  motif_back = trip.block_back motif_kind _ q.bases q.mates refl (omega arith) (omega arith) ok (omega arith)
-
-  pub older_motif_back : motif_handed_in (encode_older_motif q) ≡ q
-  unfolding motif_handed_in encode_older_motif
-  older_motif_back = trip.block_back motif_kind _ q.bases q.mates refl (omega arith) (omega arith) ok (omega arith)
+  motif_back = trip.block_back motif_kind [] q.bases q.mates refl (omega arith) (omega arith) ok (omega arith)
 
   pub motif_full : is_empty (encode_motif q) ≡ false
   motif_full =
       not_empty (encode_motif q) 0 motif_length
-      (unfold encode_motif strand_block with_checksum in (first_byte motif_kind _ q.bases q.mates _))
-
-  pub older_motif_full : is_empty (encode_older_motif q) ≡ false
-  unfolding encode_older_motif
-  older_motif_full =
-      not_empty (encode_older_motif q) 0 (trip.block_length motif_kind _ q.bases q.mates refl (omega arith) (omega arith) ok (omega arith))
-      (unfold strand_block with_checksum in (first_byte motif_kind _ q.bases q.mates _))
+      (unfold encode_motif strand_block with_checksum in (first_byte motif_kind [] q.bases q.mates _))
 
 -- A block that hands a motif in has the bytes of the molecule block with the same bases and mates.
 pub motif_bytes : (q : Strand) → encode_motif q ≡ encode_molecule q
@@ -226,23 +184,18 @@ module _ (s : List ℕ) (ok : sound_molecule s ≡ true) where
   pub molecule_count : length_in s ≡ length (molecule_in s).bases
   molecule_count = bases_count s (molecule_size s ok) molecule_fits
 
-  -- The molecule held is a proper one, and the block is one of its encodings.
+  -- The molecule held is a proper one, and the block is its encoding.
   module _ (full : is_empty s ≡ false) where
     pub molecule_proper : Proper molecule_side least_molecule block_bases (molecule_in s).bases (molecule_in s).mates
     unfolding molecule_in
     molecule_proper =
         strand_proper molecule_kind s (omega arith) (omega arith) (omega (arith, molecule_size s ok)) (content_of_lem molecule_kind s full (molecule_is s ok)).0
 
-    pub molecule_again : Bytes s → (s ≡ encode_molecule (molecule_in s)) ⊎ (s ≡ encode_older (molecule_in s))
-    unfolding encode_molecule encode_older molecule_in sound_molecule
+    pub molecule_again : Bytes s → encode_molecule (molecule_in s) ≡ s
+    unfolding encode_molecule molecule_in
     molecule_again bytes =
         let r = content_of_lem molecule_kind s full (molecule_is s ok) in
-        counted_same s bytes (molecule_size s ok) r.1 molecule_kind refl (omega arith) refl r.0 (strand_count_ok molecule_kind s ok full)
-
-  -- The number of arcs in it is zero, or the true one.
-  pub molecule_count_is : (word16 s count_at ≡ 0) ⊎ (word16 s count_at ≡ arc_count (molecule_in s).mates)
-  unfolding molecule_in strand_in sound_molecule
-  molecule_count_is = strand_count_is molecule_kind s ok
+        strand_same s bytes (molecule_size s ok) r.1 molecule_kind (omega arith) (omega arith) (omega arith) r.0
 
 -- A sound block of a catalog is empty exactly when its byte 0 is 0; a byte 0 other than 0 and 1 makes a block unsound.
 pub molecule_first : (s : List ℕ) → sound_molecule s ≡ true → eqb (nth s 0) 0 ≡ is_empty s
@@ -273,21 +226,17 @@ module _ (s : List ℕ) (ok : sound_motif s ≡ true) where
   pub motif_fits : length_in s ≤ 160
   motif_fits = fits_in motif_kind s motif_is
 
-  -- The motif handed in is a proper one, and the block is one of its encodings.
+  -- The motif handed in is a proper one, and the block is its encoding.
   module _ (full : is_empty s ≡ false) where
     pub motif_proper : Proper motif_side least_motif block_bases (motif_handed_in s).bases (motif_handed_in s).mates
     unfolding motif_handed_in
     motif_proper = strand_proper motif_kind s (omega arith) (omega arith) (omega (arith, motif_size)) (content_of_lem motif_kind s full motif_is).0
 
-    pub motif_again : Bytes s → (s ≡ encode_motif (motif_handed_in s)) ⊎ (s ≡ encode_older_motif (motif_handed_in s))
-    unfolding encode_motif encode_older_motif motif_handed_in sound_motif
+    pub motif_again : Bytes s → encode_motif (motif_handed_in s) ≡ s
+    unfolding encode_motif motif_handed_in
     motif_again bytes =
         let r = content_of_lem motif_kind s full motif_is in
-        counted_same s bytes motif_size r.1 motif_kind refl (omega arith) refl r.0 (strand_count_ok motif_kind s ok full)
-
-  pub motif_count_is : (word16 s count_at ≡ 0) ⊎ (word16 s count_at ≡ arc_count (motif_handed_in s).mates)
-  unfolding motif_handed_in strand_in sound_motif
-  motif_count_is = strand_count_is motif_kind s ok
+        strand_same s bytes motif_size r.1 motif_kind (omega arith) (omega arith) (omega arith) r.0
 
 module _ (s : List ℕ) (ok : sound_entry s ≡ true) where
   pub entry_fits : length_in s ≤ 120

@@ -6,15 +6,14 @@ use mathlib.Core.Bool.{Bool, true, false, not}
 use mathlib.Core.List.{List, [], ◌∷◌, ◌++◌}
 use native.Mathlib.Omega.{arith}
 use lib.ListN.{length, replicate}
-use Rattle.lists.specs.Vocabulary.{same_list, select}
+use Rattle.lists.specs.Vocabulary.{same_list}
 use Rattle.strand.specs.Strands.{Strand, empty_motif, same_strand, Proper, least_motif}
 use Rattle.strand.proofs.VerdictLaws.{accepted_proper, empty_passes, same_strand_eq}
 use Rattle.refusals.specs.Rules.{motif_side}
 use Rattle.lists.proofs.ListLaws.{by_bool, never, and_right, length_tab}
 use Rattle.octets.specs.Octets.{bytes_of, map_bytes}
 use Rattle.block.specs.Content.{with_checksum, block_bases, entry_bases, molecule_kind, empty_block, is_empty, length_in, keeps_motif, content_of}
-use Rattle.block.specs.Content.{strand_in, motif_in, count_bytes, strand_block, entry_with, encode_entry}
-use Rattle.strand.specs.Folds.{arc_count}
+use Rattle.block.specs.Content.{strand_in, motif_in, strand_block, entry_with, encode_entry}
 use Rattle.block.specs.Motif.{motif_kind, encode_motif, holds_motif}
 use Rattle.block.specs.Block.{sound_molecule}
 use Rattle.block.specs.Statements.{EmptyMotifBlocks}
@@ -48,8 +47,8 @@ unfolding keeps_motif
 not_kept q = rw law.empty_empty
 
 block : encode_motif empty_motif ≡ (1 ∷ replicate 507 0) ++ (1 ∷ 0 ∷ 0 ∷ 0 ∷ [])
-unfolding encode_motif strand_block content_of bytes_of weighed arc_count select
-block = check_walk (content_of motif_kind (count_bytes 0) [] []) refl
+unfolding encode_motif strand_block content_of bytes_of weighed
+block = check_walk (content_of motif_kind [] [] []) refl
 
 handed_in_lem : holds_motif (encode_motif empty_motif) ≡ true
 handed_in_lem =

@@ -1,7 +1,6 @@
--- A block that passes the rules is an encoding of what it holds.
+-- A block that passes the rules is the encoding of what it holds.
 use mathlib.Core.Path.{◌≡◌, refl, sym, ap, ap₂, ◌∙◌}
 use mathlib.Core.Bool.{true}
-use mathlib.Core.Logic.{◌⊎◌, ⊎_elim, inl, inr}
 use mathlib.Core.List.{List, [], ◌∷◌, ◌++◌}
 use Prim.Native.Nat.{ℕ, zero, suc, ◌+◌, ◌-◌, ◌*◌, ◌/◌, ◌%◌, ◌<◌, ◌≤◌}
 use native.Mathlib.Omega.{arith}
@@ -10,19 +9,17 @@ use lib.Seq.{take-add, drop-cons, drop-drop, length-take-le, get_or-take, get_or
 use borrow.Author.Tests.{eqb-true}
 use Rattle.lists.specs.Vocabulary.{nth, between, all, tab}
 use Rattle.strand.specs.Strands.{Proper}
-use Rattle.lists.proofs.ListLaws.{length_tab, zeros_are, and_true}
+use Rattle.lists.proofs.ListLaws.{length_tab, zeros_are}
 use Rattle.strand.proofs.VerdictLaws.{nested_yes}
 use Rattle.octets.specs.Octets.{Bytes, is_zero, word16, word32, bytes32, words, bytes_of, bit_of, map_bit, map_bytes}
 use Rattle.block.specs.Content.{sum_to, checksum_of, checksum_ok, with_checksum, Kind, entry_kind, mates_at, length_in, strand_in, padded, head_of, content_of}
-use Rattle.block.specs.Content.{strand_block, entry_with, count_bytes, mates_in}
-use Rattle.block.specs.Block.{count_right, count_ok}
-use Rattle.strand.specs.Folds.{arc_count}
+use Rattle.block.specs.Content.{strand_block, entry_with}
 use Rattle.block.proofs.PartLaws.{mates_end, own_in}
 use Rattle.octets.proofs.ByteLaws.{small_drop, small_between}
 use Rattle.block.proofs.SumLaws.{sum_append}
 use Rattle.octets.proofs.MapLaws.{map_is, map_ext}
 use Rattle.octets.proofs.ScanLaws.{bytes_append, length_bytes}
-use Rattle.block.proofs.SoundLaws.{Content, count_is}
+use Rattle.block.proofs.SoundLaws.{Content}
 
 -- ---- parts that lie side by side
 
@@ -240,48 +237,15 @@ map_again at s small h = sym (map_is m len (small_between at (at + 64) s small) 
         zero_plus : 0 + d / 8 ≡ d / 8
         zero_plus = omega arith
 
--- ---- the number of arcs
-
--- The own bytes of a block with a strand are two zeros and the number of arcs.
-own_again : (k : Kind) (s : List ℕ) → Bytes s → length s ≡ 512 → k.blank ≡ 6 → all is_zero (between 2 4 s) ≡ true → own_in k s ≡ count_bytes (word16 s 4)
-unfolding word16
-own_again k s small hs hb z =
-    ap (λ (n : ℕ). between 2 n s) hb
-    ∙ sym (cut 2 4 6 s (omega arith) (omega arith))
-    ∙ ap₂ (λ (x y : List ℕ). x ++ y) (sym (zeros_between 2 4 s (omega arith) z))
-    (take_two (drop 4 s) (omega (arith, length-drop 4 s))
-    ∙ ap₂ (λ (a b : ℕ). a ∷ b ∷ []) (get_or-drop 4 s 0 0) (get_or-drop 4 s 1 0)
-    ∙ sym (two_bytes (nth s 4) (nth s 5) (small 4) (small 5)))
-
 -- ---- the whole block
 
 -- A block of a strand with the bytes of its own that stand in it.
 module _ (s : List ℕ) (small : Bytes s) (hs : length s ≡ 512) (ok : checksum_ok s ≡ true) where
-  strand_same : (k : Kind) → 2 ≤ k.blank → k.blank ≤ k.start → mates_end k ≡ 508 → Content k s
+  pub strand_same : (k : Kind) → 2 ≤ k.blank → k.blank ≤ k.start → mates_end k ≡ 508 → Content k s
       → strand_block k (own_in k s) (strand_in k s).bases (strand_in k s).mates ≡ s
   unfolding strand_block
   strand_same k h2 ha he c =
       ap with_checksum (content_again k s h2 ha (omega arith) c small ∙ ap (λ (n : ℕ). take n s) he) ∙ checksum_again s small hs ok
-
-  -- It is the one with the number of arcs, or the one with zero there.
-  pub counted_same : (k : Kind) → k.blank ≡ 6 → 6 ≤ k.start → mates_end k ≡ 508 → Content k s → count_ok k s ≡ true
-      → (s ≡ strand_block k (count_bytes (arc_count (strand_in k s).mates)) (strand_in k s).bases (strand_in k s).mates)
-      ⊎ (s ≡ strand_block k (count_bytes 0) (strand_in k s).bases (strand_in k s).mates)
-  unfolding count_ok strand_in
-  counted_same k hb ha he c count =
-      let x = and_true (all is_zero (between 2 4 s)) (count_right (word16 s 4) (mates_in k s)) count in
-      ⊎_elim (λ e. inr (same x.0 ∙ numbered e)) (λ e. inl (same x.0 ∙ numbered e)) (count_is (word16 s 4) (mates_in k s) x.1)
-    where
-      with : ℕ → List ℕ
-      with n = strand_block k (count_bytes n) (strand_in k s).bases (strand_in k s).mates
-
-      same : all is_zero (between 2 4 s) ≡ true → s ≡ with (word16 s 4)
-      same z =
-          sym (strand_same k (omega arith) (omega arith) he c)
-          ∙ ap (λ (own : List ℕ). strand_block k own (strand_in k s).bases (strand_in k s).mates) (own_again k s small hs hb z)
-
-      numbered : {n : ℕ} → word16 s 4 ≡ n → with (word16 s 4) ≡ with n
-      numbered e = ap with e
 
   pub entry_same : Content entry_kind s
       → entry_with (own_in entry_kind s) (strand_in entry_kind s).bases (strand_in entry_kind s).mates (map_bytes (map_bit s 380)) (map_bytes (map_bit s 444)) ≡ s

@@ -3,28 +3,17 @@ use Prim.Native.Nat.{ℕ}
 use mathlib.Core.Path.{◌≡◌, refl, ap}
 use mathlib.Core.Bool.{Bool}
 use mathlib.Core.List.{List, [], ◌∷◌}
-use Rattle.lists.specs.Vocabulary.{between, select, choose}
+use Rattle.lists.specs.Vocabulary.{between}
 use Rattle.octets.specs.Octets.{word32, bytes_of}
 use Rattle.block.specs.Content.{checksum_at, with_checksum, molecule_kind, content_of, strand_block, entry_with, encode_molecule}
-use Rattle.block.specs.Content.{count_bytes, encode_older, encode_entry}
-use Rattle.strand.specs.Folds.{arc_count, begins}
+use Rattle.block.specs.Content.{encode_entry}
 use Rattle.block.specs.Examples.{strand_a, strand_gc, LayoutExamples}
 use Rattle.block.proofs.SumLaws.{weighed}
 use Rattle.block.proofs.PartLaws.{check_walk}
 
 pub checksum_of_a : word32 (encode_molecule strand_a) checksum_at ≡ 1888
-unfolding encode_molecule strand_block content_of bytes_of weighed word32 arc_count begins select choose
-checksum_of_a = ap (λ (s : List ℕ). word32 s checksum_at) (check_walk (content_of molecule_kind (count_bytes 0) (65 ∷ []) (0 ∷ [])) refl)
-
--- ---- where the number of arcs lies: 4 and 5 in a molecule block
-
-molecule_count : between 2 6 (encode_molecule strand_gc) ≡ 0 ∷ 0 ∷ 1 ∷ 0 ∷ []
-unfolding encode_molecule strand_block with_checksum content_of arc_count begins select choose
-molecule_count = refl
-
-older_count : between 2 6 (encode_older strand_gc) ≡ 0 ∷ 0 ∷ 0 ∷ 0 ∷ []
-unfolding encode_older strand_block with_checksum content_of
-older_count = refl
+unfolding encode_molecule strand_block content_of bytes_of weighed word32
+checksum_of_a = ap (λ (s : List ℕ). word32 s checksum_at) (check_walk (content_of molecule_kind [] (65 ∷ []) (0 ∷ [])) refl)
 
 -- ---- where bases and mates lie: 28 and 188 in a molecule block, 20 and 140 in an entry
 
@@ -51,8 +40,6 @@ layout =
       checksum_of_a = checksum_of_a;
       molecule_bases = molecule_bases;
       molecule_mates = molecule_mates;
-      molecule_count = molecule_count;
-      older_count = older_count;
       entry_bases_lem = entry_bases_lem;
       entry_mates = entry_mates;
     }

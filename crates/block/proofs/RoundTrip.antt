@@ -19,16 +19,13 @@ use Rattle.lists.proofs.ListLaws.{length_tab, nth_tab, every_at, zeros_zero}
 use Rattle.strand.proofs.VerdictLaws.{nested_test}
 use Rattle.octets.specs.Octets.{Bytes, is_zero, word16, word32, bytes32, words, bytes_of}
 use Rattle.block.specs.Content.{sum_to, checksum_of, checksum_ok, with_checksum, Kind, mates_at, length_in, mates_in, strand_in, padded, head_of, content_of}
-use Rattle.block.specs.Content.{strand_block, count_bytes}
-use Rattle.block.proofs.PartLaws.{mates_end, regroup, length_content, length_padded, length_head}
-use Rattle.block.specs.Block.{bytes_with, bytes_ok, content_ok, count_ok, count_right, sound_strand}
+use Rattle.block.specs.Content.{strand_block}
+use Rattle.block.proofs.PartLaws.{mates_end, own_in, regroup, length_content, length_padded, length_head}
+use Rattle.block.specs.Block.{bytes_with, bytes_ok, content_ok, sound_strand}
 use Rattle.octets.proofs.ByteLaws.{small_append, small_zeros, small_bytes}
 use Rattle.block.proofs.SumLaws.{sum_append, sum_small}
 use Rattle.octets.proofs.ScanLaws.{length_bytes}
-use Rattle.block.proofs.SoundLaws.{all_but_unused, unused_mates, all_but_mates, all_but_nested, strand_rules_lem, strand_count_is, count_older, count_true}
-use Rattle.strand.specs.Folds.{arc_count}
-use mathlib.Core.Logic.{◌⊎◌, ◌↔◌, ⊎_elim}
-use Rattle.lists.specs.Vocabulary.{every}
+use Rattle.block.proofs.SoundLaws.{all_but_unused, unused_mates, all_but_mates, all_but_nested, strand_rules_lem}
 
 -- ---- two-byte numbers
 
@@ -174,6 +171,10 @@ module _ (k : Kind) (own bases mates t : List ℕ) (ho : 2 + length own ≡ k.bl
       ∙ ap₂ (λ (x y : ℕ). x + y) front (length_bytes mates ∙ ap (λ (n : ℕ). 2 * n) hm))
       (length-replicate (2 * k.most - length (bytes_of mates)) 0 ∙ omega (arith, length_bytes mates))
 
+  -- The kind's own bytes come back too.
+  pub own_back : own_in k block ≡ own
+  own_back = part_at 2 k.blank block (k.mark ∷ length bases ∷ []) own (Z₀ ++ (padded k.most bases ++ (M ++ t))) cut_0 refl (omega arith)
+
   pub strand_back : strand_in k block ≡ strand_of bases mates
   unfolding strand_in
   strand_back =
@@ -218,16 +219,9 @@ small_content k own bases mates hk ho hn letters =
     head (suc zero) = hn
     head (suc (suc i)) = small_append own _ ho (small_zeros (k.start - 2 - length own)) i
 
--- No bytes of its own; the own bytes of a block with a strand, which has the number c.
+-- No bytes of its own.
 pub small_none : Bytes []
 small_none i = lit< tt
-
-pub small_count : (c : ℕ) → Bytes (count_bytes c)
-small_count c zero = lit< tt
-small_count c (suc zero) = lit< tt
-small_count c (suc (suc zero)) = omega arith
-small_count c (suc (suc (suc zero))) = omega arith
-small_count c (suc (suc (suc (suc i)))) = lit< tt
 
 -- ---- the checksum
 
@@ -265,45 +259,10 @@ module _ (k : Kind) (own bases mates : List ℕ) (ho : 2 + length own ≡ k.blan
   unfolding strand_block with_checksum
   content_part = content_sound k own bases mates _ ho ha hk P
 
-  block_sound : k.mark < 256 → Bytes own → count_ok k (strand_block k own bases mates) ≡ true → sound_strand k (strand_block k own bases mates) ≡ true
-  block_sound h small count = strand_rules_lem k (strand_block k own bases mates) block_length content_part count check_part
+  pub block_sound : k.mark < 256 → Bytes own → sound_strand k (strand_block k own bases mates) ≡ true
+  block_sound h small = strand_rules_lem k (strand_block k own bases mates) block_length content_part check_part
     where
       check_part : checksum_ok (strand_block k own bases mates) ≡ true
       check_part =
           unfold strand_block in
           (check_sound (content_of k own bases mates) body (small_content k own bases mates h small (omega (arith, P.small)) P.letters))
-
--- ---- the number of arcs in the block of a strand
-
--- A kind with bytes 2 to 5 of its own, and a number of arcs that two bytes hold.
-module _ (k : Kind) (c : ℕ) (bases mates : List ℕ) (hb : k.blank ≡ 6) (hc : c < 65536) where
-  pub count_back : word16 (strand_block k (count_bytes c) bases mates) 4 ≡ c
-  unfolding strand_block with_checksum content_of word16
-  count_back = omega arith
-
-  spare_part : all is_zero (between 2 4 (strand_block k (count_bytes c) bases mates)) ≡ true
-  unfolding strand_block with_checksum content_of every
-  spare_part = refl
-
-  module _ (ha : k.blank ≤ k.start) (hk : k.most ≤ 160) (P : Proper k.side k.least k.most bases mates)
-      (he : k.start + 3 * k.most ≡ 508) (hm : k.mark < 256) where
-    mates_in_lem : mates_in k (strand_block k (count_bytes c) bases mates) ≡ mates
-    unfolding strand_block with_checksum
-    mates_in_lem = mates_back k (count_bytes c) bases mates _ (sym hb) ha hk P
-
-    count_sound : count_right c mates ≡ true → count_ok k (strand_block k (count_bytes c) bases mates) ≡ true
-    unfolding count_ok
-    count_sound h = rw (spare_part, count_back, mates_in_lem) h
-
-    -- No other number is sound.
-    counted_right : sound_strand k (strand_block k (count_bytes c) bases mates) ≡ true → (c ≡ 0) ⊎ (c ≡ arc_count mates)
-    counted_right ok = rw (count_back, mates_in_lem) at (strand_count_is k (strand_block k (count_bytes c) bases mates) ok)
-
-    counted_sound : count_right c mates ≡ true → sound_strand k (strand_block k (count_bytes c) bases mates) ≡ true
-    counted_sound h = block_sound k (count_bytes c) bases mates (sym hb) ha hk P he hm (small_count c) (count_sound h)
-
-    pub counted_tells : (sound_strand k (strand_block k (count_bytes c) bases mates) ≡ true) ↔ ((c ≡ 0) ⊎ (c ≡ arc_count mates))
-    counted_tells = (
-      counted_right,
-      ⊎_elim (λ e. counted_sound (sym (count_older c mates e))) (λ e. counted_sound (count_true c mates e)),
-    )

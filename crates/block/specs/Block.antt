@@ -5,9 +5,7 @@ use Rattle.letters.specs.Letters.{is_letter}
 use Rattle.strand.specs.Strands.{is_nested}
 use Rattle.octets.specs.Octets.{is_zero, map_bit, clear_map, map_bits}
 use Rattle.block.specs.Content.{block_size, checksum_ok, rechecked, Kind, molecule_kind, entry_kind, mates_at, searched_at, hit_at, is_empty, length_in}
-use Rattle.block.specs.Content.{mates_in, count_at}
-use Rattle.strand.specs.Folds.{arc_count}
-use Rattle.octets.specs.Octets.{word16}
+use Rattle.block.specs.Content.{mates_in}
 
 -- Block d of a buffer.
 abbrev pub block_of : ℕ → List ℕ → List ℕ
@@ -55,14 +53,6 @@ bytes_ok k s = bytes_with k (length_in s) s
 unfoldable pub content_ok : Kind → List ℕ → Bool
 content_ok k s = bytes_ok k s && is_nested (mates_in k s)
 
--- 02, (vii), of the number of arcs: "Zero there stays sound for older blocks; any other number must be the true one."
-unfoldable pub count_right : ℕ → List ℕ → Bool
-count_right c mates = eqb c 0 || eqb c (arc_count mates)
-
--- The own bytes of a block with a strand: bytes 2 and 3 are zero, and the number in bytes 4 and 5 is right.
-unfoldable pub count_ok : Kind → List ℕ → Bool
-count_ok k s = all is_zero (between 2 count_at s) && count_right (word16 s count_at) (mates_in k s)
-
 -- A hit bit needs its searched bit: bit d, and every bit.
 unfoldable pub hit_ok : List ℕ → ℕ → Bool
 hit_ok s d = not (map_bit s hit_at d) || map_bit s searched_at d
@@ -72,7 +62,7 @@ hits_ok s = every map_bits (hit_ok s)
 
 -- All the rules for a block that is not empty: of a strand, and of a cache.
 unfoldable pub strand_rules : Kind → List ℕ → Bool
-strand_rules k s = content_ok k s && count_ok k s && checksum_ok s
+strand_rules k s = content_ok k s && checksum_ok s
 
 unfoldable pub entry_rules : List ℕ → Bool
 entry_rules s = content_ok entry_kind s && hits_ok s && checksum_ok s

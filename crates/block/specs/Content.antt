@@ -1,11 +1,10 @@
 -- The checksum of a block (01: its check), what a block holds, and the block that holds it: molecule blocks and cache entries (01: kept blocks).
-use Rattle.std.specs.Prelude.{ℕ, zero, suc, ◌+◌, ◌*◌, ◌-◌, ◌/◌, ◌%◌, List, ◌++◌, [], ◌∷◌, Bool, ◌&&◌, not, eqb, length, drop, replicate}
+use Rattle.std.specs.Prelude.{ℕ, zero, suc, ◌+◌, ◌*◌, ◌-◌, List, ◌++◌, [], ◌∷◌, Bool, ◌&&◌, not, eqb, length, drop, replicate}
 use Rattle.std.proofs.lemmas.List.Edits.{sets}
 use Rattle.lists.specs.Vocabulary.{nth, between, all}
 use Rattle.octets.specs.Octets.{word32, bytes32, is_zero, words, bytes_of, map_bit, map_bytes}
 use Rattle.strand.specs.Strands.{Strand, same_strand, least_motif, least_molecule}
 use Rattle.refusals.specs.Rules.{motif_side, molecule_side}
-use Rattle.strand.specs.Folds.{arc_count}
 
 -- A block has 512 bytes, and its checksum stands in bytes 508 to 511.
 abbrev pub block_size : ℕ
@@ -51,10 +50,9 @@ abbrev pub entry_bases : ℕ
 entry_bases = 120
 
 -- 01: "Molecule block: byte 0 is 1; byte 1 the length; 2 to 27 zero; bases from 28 .. Kept block: byte 0 is 2; byte 1 the motif's length; 2 to 19
--- zero; bases from 20". 02, (vii): "Add writes" the number of arcs "to bytes 4 and 5 of the molecule block, little-endian, which leave the rule of zero bytes."
--- So bytes 2 to 5 are a molecule block's own; an entry has none.
+-- zero; bases from 20". Neither has bytes of its own.
 abbrev pub molecule_kind : Kind
-molecule_kind = record { mark = 1; side = molecule_side; least = least_molecule; most = block_bases; blank = 6; start = 28 }
+molecule_kind = record { mark = 1; side = molecule_side; least = least_molecule; most = block_bases; blank = 2; start = 28 }
 
 abbrev pub entry_kind : Kind
 entry_kind = record { mark = 2; side = motif_side; least = least_motif; most = entry_bases; blank = 2; start = 20 }
@@ -62,16 +60,6 @@ entry_kind = record { mark = 2; side = motif_side; least = least_motif; most = e
 -- The mates follow the places for bases, two bytes each: from 188 and from 140. They end at 508 and at 380.
 abbrev pub mates_at : Kind → ℕ
 mates_at k = k.start + k.most
-
--- The number of arcs is bytes 4 and 5 of a molecule block; two bytes hold numbers below 65,536. Its own bytes with the number c there: bytes 2 and 3 are zero.
-abbrev pub count_at : ℕ
-count_at = 4
-
-abbrev pub count_end : ℕ
-count_end = 65536
-
-abbrev pub count_bytes : ℕ → List ℕ
-count_bytes c = 0 ∷ 0 ∷ c % 256 ∷ c / 256 % 256 ∷ []
 
 -- The searched map is bytes 380 to 443 of a cache entry, the hit map bytes 444 to 507.
 abbrev pub searched_at : ℕ
@@ -138,16 +126,9 @@ strand_block k own bases mates = with_checksum (content_of k own bases mates)
 unfoldable pub entry_with : List ℕ → List ℕ → List ℕ → List ℕ → List ℕ → List ℕ
 entry_with own bases mates searched hits = with_checksum (content_of entry_kind own bases mates ++ searched ++ hits)
 
--- The block of a molecule with the number c in bytes 4 and 5: it is the number of arcs, and in older blocks zero.
-abbrev pub molecule_block : ℕ → Strand → List ℕ
-molecule_block c q = strand_block molecule_kind (count_bytes c) q.bases q.mates
-
+-- The block of a molecule; the entry of a motif, with its searched numbers and its hits as sets.
 unfoldable pub encode_molecule : Strand → List ℕ
-encode_molecule q = molecule_block (arc_count q.mates) q
+encode_molecule q = strand_block molecule_kind [] q.bases q.mates
 
-unfoldable pub encode_older : Strand → List ℕ
-encode_older q = molecule_block 0 q
-
--- The entry of a motif, with its searched numbers and its hits as sets.
 unfoldable pub encode_entry : Strand → (ℕ → Bool) → (ℕ → Bool) → List ℕ
 encode_entry p searched hits = entry_with [] p.bases p.mates (map_bytes searched) (map_bytes hits)

@@ -1,9 +1,9 @@
--- Example blocks: 01's check of the block of A, and where the number of arcs, bases and mates lie, for GC with an arc.
+-- Example blocks: 01's check of the block of A, and where bases and mates lie, for GC with an arc.
 use Rattle.std.specs.Prelude.{ℕ, ◌≡◌, Bool, [], ◌∷◌}
 use Rattle.lists.specs.Vocabulary.{between}
 use Rattle.strand.specs.Strands.{Strand, strand_of}
 use Rattle.octets.specs.Octets.{word32}
-use Rattle.block.specs.Content.{checksum_at, encode_molecule, encode_older, encode_entry}
+use Rattle.block.specs.Content.{checksum_at, encode_molecule, encode_entry}
 
 -- A, mate 0, and GC, mates 1 0. The letters: A 65, C 67, G 71.
 abbrev pub strand_a : Strand
@@ -18,8 +18,5 @@ pub record LayoutExamples : Type 0 where
   pub checksum_of_a : word32 (encode_molecule strand_a) checksum_at ≡ 1888
   pub molecule_bases : between 28 30 (encode_molecule strand_gc) ≡ 71 ∷ 67 ∷ []
   pub molecule_mates : between 188 192 (encode_molecule strand_gc) ≡ 1 ∷ 0 ∷ 0 ∷ 0 ∷ []
-  -- 02, (vii): the number of arcs in "bytes 4 and 5 of the molecule block, little-endian"; zero in older blocks
-  pub molecule_count : between 2 6 (encode_molecule strand_gc) ≡ 0 ∷ 0 ∷ 1 ∷ 0 ∷ []
-  pub older_count : between 2 6 (encode_older strand_gc) ≡ 0 ∷ 0 ∷ 0 ∷ 0 ∷ []
   pub entry_bases_lem : (searched hits : ℕ → Bool) → between 20 22 (encode_entry strand_gc searched hits) ≡ 71 ∷ 67 ∷ []
   pub entry_mates : (searched hits : ℕ → Bool) → between 140 144 (encode_entry strand_gc searched hits) ≡ 1 ∷ 0 ∷ 0 ∷ 0 ∷ []

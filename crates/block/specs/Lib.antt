@@ -1,4 +1,4 @@
--- The definitions in reading order. Motif is for the screen program and for batches, Inner and Walk for the contracts inside this crate.
+-- The definitions in reading order. Motif is for the screen program, Inner and Walk for the contracts inside this crate.
 pub mod Content
 pub mod Block
 pub mod Motif

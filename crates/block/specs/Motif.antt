@@ -1,27 +1,20 @@
--- A block handed in as a motif: the screen program reads one, a batch reads 1 to 16. It is laid out as a molecule block, with the number of arcs or zero in
--- bytes 4 and 5; its letters and its least length are a motif's.
-use Rattle.std.specs.Prelude.{ℕ, List, Bool, not, ◌&&◌}
+-- A block handed in as a motif: the screen program reads one, a batch reads 1 to 16. It is laid out as a molecule block; its letters and its least length are
+-- a motif's.
+use Rattle.std.specs.Prelude.{ℕ, List, [], Bool, not, ◌&&◌}
 use Rattle.refusals.specs.Rules.{motif_side}
 use Rattle.strand.specs.Strands.{Strand, least_motif}
-use Rattle.block.specs.Content.{Kind, block_bases, count_bytes, is_empty, strand_in, strand_block}
+use Rattle.block.specs.Content.{Kind, block_bases, is_empty, strand_in, strand_block}
 use Rattle.block.specs.Block.{sound_strand}
-use Rattle.strand.specs.Folds.{arc_count}
 
 abbrev pub motif_kind : Kind
-motif_kind = record { mark = 1; side = motif_side; least = least_motif; most = block_bases; blank = 6; start = 28 }
+motif_kind = record { mark = 1; side = motif_side; least = least_motif; most = block_bases; blank = 2; start = 28 }
 
--- The motif of such a block; the block of a motif with the number c in bytes 4 and 5; the one with the number of its arcs, and the older one.
+-- The motif of such a block; the block that hands a motif in.
 unfoldable pub motif_handed_in : List ℕ → Strand
 motif_handed_in s = strand_in motif_kind s
 
-abbrev pub motif_block : ℕ → Strand → List ℕ
-motif_block c p = strand_block motif_kind (count_bytes c) p.bases p.mates
-
 unfoldable pub encode_motif : Strand → List ℕ
-encode_motif p = motif_block (arc_count p.mates) p
-
-unfoldable pub encode_older_motif : Strand → List ℕ
-encode_older_motif p = motif_block 0 p
+encode_motif p = strand_block motif_kind [] p.bases p.mates
 
 -- It is sound; it holds a motif: sound, and not a block of zeros. 02, (iii): a "motif block may have length 0", and then holds the motif with no bases.
 unfoldable pub sound_motif : List ℕ → Bool

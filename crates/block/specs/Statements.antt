@@ -4,23 +4,22 @@ use Rattle.std.specs.Prelude.{ℕ, ◌<◌, ◌≡◌, Bool, true, false, ◌⊎
 use Rattle.lists.specs.Vocabulary.{nth}
 use Rattle.strand.specs.Strands.{Strand, empty_motif, Proper, least_motif, least_molecule}
 use Rattle.refusals.specs.Rules.{motif_side, molecule_side}
-use Rattle.octets.specs.Octets.{Bytes, word16, map_bits, map_bytes, without}
+use Rattle.octets.specs.Octets.{Bytes, map_bits, map_bytes, without}
 use Rattle.block.specs.Content.{block_size, block_bases, entry_bases, empty_block, is_empty, length_in, molecule_in, motif_in, searched_in, hit_in, keeps_motif}
-use Rattle.block.specs.Content.{with_checksum, count_at, count_end, molecule_block, encode_molecule, encode_older, encode_entry}
-use Rattle.block.specs.Motif.{motif_handed_in, motif_block, encode_motif, encode_older_motif, sound_motif, holds_motif}
+use Rattle.block.specs.Content.{with_checksum, encode_molecule, encode_entry}
+use Rattle.block.specs.Motif.{motif_handed_in, encode_motif, sound_motif, holds_motif}
 use Rattle.block.specs.Block.{sound_molecule, sound_entry, forgot}
 use Rattle.block.specs.Examples.{LayoutExamples}
-use Rattle.strand.specs.Folds.{IsArcCount}
 
--- The block holds a proper molecule of 1 to 160 bases, and is one of its two encodings: with the number of its arcs, or the older one.
+-- The block holds a proper molecule of 1 to 160 bases, and is its encoding.
 pub record HoldsMolecule (s : List ℕ) (q : Strand) : Type 0 where
   pub proper : Proper molecule_side least_molecule block_bases q.bases q.mates
-  pub encoded : (s ≡ encode_molecule q) ⊎ (s ≡ encode_older q)
+  pub encoded : s ≡ encode_molecule q
 
 -- The same of a block handed in as a motif, which may have no bases.
 pub record HoldsMotif (s : List ℕ) (q : Strand) : Type 0 where
   pub proper : Proper motif_side least_motif block_bases q.bases q.mates
-  pub encoded : (s ≡ encode_motif q) ⊎ (s ≡ encode_older_motif q)
+  pub encoded : s ≡ encode_motif q
 
 -- The block holds a proper motif of at most 120 bases with its searched numbers and its hits, each of them searched, and is their encoding.
 pub record HoldsEntry (s : List ℕ) (q : Strand) (searched hits : ℕ → Bool) : Type 0 where
@@ -28,14 +27,14 @@ pub record HoldsEntry (s : List ℕ) (q : Strand) (searched hits : ℕ → Bool)
   pub within : (d : ℕ) → d < map_bits → hits d ≡ true → searched d ≡ true
   pub encoded : s ≡ encode_entry q searched hits
 
--- A block is sound exactly when it is empty, or is an encoding of what a block of its buffer may hold.
+-- A block is sound exactly when it is empty, or is the encoding of what a block of its buffer may hold.
 abbrev pub MoleculeSound : List ℕ → Type 0
 MoleculeSound s = (sound_molecule s ≡ true) ↔ ((s ≡ empty_block) ⊎ ((q : Strand) × HoldsMolecule s q))
 
 abbrev pub MotifSound : List ℕ → Type 0
 MotifSound s = (sound_motif s ≡ true) ↔ ((s ≡ empty_block) ⊎ ((q : Strand) × HoldsMotif s q))
 
--- A block hands a motif in exactly when it is an encoding of one.
+-- A block hands a motif in exactly when it is the encoding of one.
 abbrev pub MotifHeld : List ℕ → Type 0
 MotifHeld s = (holds_motif s ≡ true) ↔ ((q : Strand) × HoldsMotif s q)
 
@@ -44,27 +43,12 @@ EntrySound s =
     (sound_entry s ≡ true)
     ↔ ((s ≡ empty_block) ⊎ ((q : Strand) × ((searched : ℕ → Bool) × ((hits : ℕ → Bool) × HoldsEntry s q searched hits))))
 
--- 01, Molecule block: the block gives back its molecule, and so does the older one.
+-- 01, Molecule block: the block gives back its molecule.
 abbrev pub MoleculeBack : Strand → Type 0
-MoleculeBack q = (molecule_in (encode_molecule q) ≡ q) × (molecule_in (encode_older q) ≡ q)
+MoleculeBack q = molecule_in (encode_molecule q) ≡ q
 
 abbrev pub MotifBack : Strand → Type 0
-MotifBack q = (motif_handed_in (encode_motif q) ≡ q) × (motif_handed_in (encode_older_motif q) ≡ q)
-
--- 02, (vii): bytes 4 and 5 of the block that add writes are the number of arcs.
-abbrev pub CountWritten : Strand → Type 0
-CountWritten q = IsArcCount q.mates (word16 (encode_molecule q) count_at)
-
--- "Zero there stays sound for older blocks; any other number must be the true one." Of any sound block, whose mates are these; and of the block of a
--- molecule, or of a motif, with any number c that two bytes hold, all else in it being right.
-abbrev pub CountTrue : List ℕ → List ℕ → Type 0
-CountTrue s mates = (word16 s count_at ≡ 0) ⊎ IsArcCount mates (word16 s count_at)
-
-abbrev pub CountDecides : Strand → ℕ → Type 0
-CountDecides q c = (sound_molecule (molecule_block c q) ≡ true) ↔ ((c ≡ 0) ⊎ IsArcCount q.mates c)
-
-abbrev pub MotifCountDecides : Strand → ℕ → Type 0
-MotifCountDecides q c = (sound_motif (motif_block c q) ≡ true) ↔ ((c ≡ 0) ⊎ IsArcCount q.mates c)
+MotifBack q = motif_handed_in (encode_motif q) ≡ q
 
 -- 01, Kept block: the entry gives back its motif, and of each number whether it was searched and whether it is a hit. 01, Remove: with bit d
 -- cleared in both maps it is the entry of the two sets without d.
@@ -110,11 +94,6 @@ pub record Claims : Type 0 where
   pub entry_sound : (s : List ℕ) → Bytes s → EntrySound s
   pub molecule_back : (q : Strand) → Proper molecule_side least_molecule block_bases q.bases q.mates → MoleculeBack q
   pub motif_back : (q : Strand) → Proper motif_side least_motif block_bases q.bases q.mates → MotifBack q
-  pub count_written : (q : Strand) → Proper molecule_side least_molecule block_bases q.bases q.mates → CountWritten q
-  pub molecule_count : (s : List ℕ) → sound_molecule s ≡ true → CountTrue s (molecule_in s).mates
-  pub motif_count : (s : List ℕ) → sound_motif s ≡ true → CountTrue s (motif_handed_in s).mates
-  pub count_decides : (q : Strand) → Proper molecule_side least_molecule block_bases q.bases q.mates → (c : ℕ) → c < count_end → CountDecides q c
-  pub motif_count_decides : (q : Strand) → Proper motif_side least_motif block_bases q.bases q.mates → (c : ℕ) → c < count_end → MotifCountDecides q c
   pub entry_back : (q : Strand) → Proper motif_side least_motif entry_bases q.bases q.mates → (searched hits : ℕ → Bool) → EntryBack q searched hits
   pub molecule_altered : (s : List ℕ) → sound_molecule s ≡ true → MoleculeAltered s
   pub motif_altered : (s : List ℕ) → sound_motif s ≡ true → MotifAltered s

@@ -1,9 +1,6 @@
--- Only the walk over the content of a block needs this file: what a byte adds at most, what mates add to the sum by their low bytes, and what is asked of them.
-use Rattle.std.specs.Prelude.{ℕ, zero, suc, ◌+◌, ◌*◌, ◌/◌, ◌%◌, ◌<◌, List, eqb, Bool, ◌&&◌, ◌||◌}
-use Rattle.lists.specs.Vocabulary.{nth, choose}
-use Rattle.strand.specs.Strands.{is_nested}
-use Rattle.block.specs.Content.{count_at}
-use Rattle.block.specs.Block.{count_right}
+-- Only the walk over the content of a block needs this file: what a byte adds at most, and what mates add to the sum by their low bytes.
+use Rattle.std.specs.Prelude.{ℕ, zero, suc, ◌+◌, ◌*◌, ◌%◌, ◌<◌, List}
+use Rattle.lists.specs.Vocabulary.{nth}
 
 -- The greatest weight, 508, times the greatest byte, 255.
 abbrev pub most_term : ℕ
@@ -17,15 +14,3 @@ low_sum at mates (suc n) = low_sum at mates n + (at + 2 * n + 1) * (nth mates n 
 -- The first n mates have high bytes 0.
 abbrev pub OneByte : List ℕ → ℕ → Type 0
 OneByte mates n = (i : ℕ) → i < n → nth mates i < 256
-
--- Where the walk finds the zero bytes of a block that names c arcs: behind the number, and at it where it is zero.
-unfoldable pub blank_at : ℕ → ℕ
-blank_at c = choose (eqb c 0) count_at 6
-
--- c is 0 or half of the number of bonded bases: in nested mates that is the number of arcs.
-unfoldable pub count_by_bonds : ℕ → ℕ → Bool
-count_by_bonds c bonded = eqb c 0 || eqb c (bonded / 2)
-
--- The mates of a block that names c arcs: nested, and the number is right.
-unfoldable pub mates_ok : ℕ → List ℕ → Bool
-mates_ok c mates = is_nested mates && count_right c mates

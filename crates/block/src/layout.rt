@@ -6,20 +6,10 @@ pub const BLOCK_SIZE: usize = 512;
 
 pub const CHECKSUM_AT: usize = 508;
 
-// Where a kind's own bytes begin: behind byte 0 and the length.
-pub const OWN_AT: usize = 2;
-
-// Molecule block: byte 0, where its zero bytes and its bases begin, and its places for bases, which its mates follow. Read as two-byte numbers from byte 0
-// on, number 1 (bytes 2 and 3) is zero, and number 2 (bytes 4 and 5) is the number of arcs, or zero.
+// Molecule block: byte 0, where its zero bytes and its bases begin, and its places for bases, which its mates follow.
 pub const MOLECULE_MARK: u8 = 1;
 
-pub const COUNT_AT: usize = 4;
-
-pub const STRAND_BLANK: usize = 6;
-
-pub const SPARE_WORD: usize = 1;
-
-pub const COUNT_WORD: usize = 2;
+pub const MOLECULE_BLANK: usize = 2;
 
 pub const MOLECULE_START: usize = 28;
 
@@ -27,6 +17,8 @@ pub const BLOCK_BASES: usize = 160;
 
 // A block handed in as a motif is laid out alike, with as many places.
 pub const MOTIF_MARK: u8 = 1;
+
+pub const MOTIF_BLANK: usize = 2;
 
 pub const MOTIF_START: usize = 28;
 

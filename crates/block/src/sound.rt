@@ -1,35 +1,26 @@
 // The soundness test of a block: one walk over its content, which also gathers the sum that the checksum must be.
 ghost use Rattle.std.specs.Prelude.{◌≡◌, true, false, ◌&&◌, ◌+◌, ◌*◌, ◌≤◌, ◌<◌, length, drop};
-ghost use Rattle.octets.specs.Octets.{word16, words};
-ghost use Rattle.block.specs.Content.{block_size, checksum_at, block_bases, sum_to, mates_in};
+ghost use Rattle.strand.specs.Strands.{is_nested};
+ghost use Rattle.octets.specs.Octets.{words};
+ghost use Rattle.block.specs.Content.{block_size, checksum_at, block_bases, sum_to};
 ghost use Rattle.block.specs.Inner.{kind_of};
-ghost use Rattle.block.specs.Block.{block_of, base_bytes_ok, mate_bytes_ok, content_ok, count_right, sound_strand, sound_molecule, sound_entry};
+ghost use Rattle.block.specs.Block.{block_of, base_bytes_ok, mate_bytes_ok, content_ok, sound_strand, sound_molecule, sound_entry};
 ghost use Rattle.block.specs.Motif.{sound_motif, holds_motif};
-ghost use Rattle.block.specs.Walk.{mates_ok, blank_at};
 
 use crate::checksum::checksum_in;
 use crate::walk::Passed;
 use crate::{layout, walk};
 use refusals::numbers;
 
-// The bytes from `blank` to where the mates begin, of n bases with room for `most` from `start` on: zeros up to the bases, letters of the side, zeros in
-// unused places.
-fn base_bytes(
-    s: &[u8],
-    side: u8,
-    blank: usize,
-    start: usize,
-    most: usize,
-    n: usize,
-    sum: u32,
-) -> Passed
-    requires s_len { (length s.now ≡ block_size) × (blank ≤ start) × (start + most ≤ checksum_at) × (n ≤ most) }
-    requires sum_value { sum ≡ sum_to s.now blank }
+// The bytes up to where the mates begin, of n bases with room for `most` from `start` on: the kind's own up to `blank`, zeros up to the bases, letters of
+// the side, zeros in unused places.
+fn base_bytes(s: &[u8], side: u8, blank: usize, start: usize, most: usize, n: usize) -> Passed
+    requires { (length s.now ≡ block_size) × (blank ≤ start) × (start + most ≤ checksum_at) × (n ≤ most) }
     ensures ok_value { result.ok ≡ base_bytes_ok side blank start most n s.now }
-    ensures sum_value_2 { result.ok ≡ true → result.sum ≡ sum_to s.now (start + most) }
+    ensures sum_value { result.ok ≡ true → result.sum ≡ sum_to s.now (start + most) }
 {
     let e = start + n;
-    let head = walk::zeros(s, blank, start, sum);
+    let head = walk::zeros(s, blank, start, walk::gather(s, 0, blank, 0));
     if !head.ok {
         return head;
     }
@@ -40,14 +31,14 @@ fn base_bytes(
     walk::zeros(s, e, start + most, bases.sum)
 }
 
-// The bytes of n mates, with room for `most` from `at` on: nested mates with `count` arcs if it is not 0, zeros in unused places.
-fn mate_bytes(s: &[u8], at: usize, most: usize, n: usize, count: u16, sum: u32) -> Passed
+// The bytes of n mates, with room for `most` from `at` on: nested mates, zeros in unused places.
+fn mate_bytes(s: &[u8], at: usize, most: usize, n: usize, sum: u32) -> Passed
     requires s_len { (length s.now ≡ block_size) × (at + 2 * most ≤ checksum_at) × (n ≤ most) × (most ≤ block_bases) × (at + 2 * block_bases ≤ block_size) }
     requires sum_value { sum ≡ sum_to s.now at }
-    ensures ok_value { result.ok ≡ (mate_bytes_ok at most n s.now && mates_ok count (words n (drop at s.now))) }
+    ensures ok_value { result.ok ≡ (mate_bytes_ok at most n s.now && is_nested (words n (drop at s.now))) }
     ensures sum_value_2 { result.ok ≡ true → result.sum ≡ sum_to s.now (at + 2 * most) }
 {
-    let mates = walk::mates(s, at, n, count, sum);
+    let mates = walk::mates(s, at, n, sum);
     if !mates.ok {
         return mates;
     }
@@ -61,8 +52,7 @@ fn refused() -> Passed
     Passed { sum: 0, ok: false }
 }
 
-// The content of a block of the kind with these numbers, up to where its mates end; the block names `count` arcs, 0 where it names none, and `sum` is the sum
-// over the bytes before `blank`.
+// The content of a block of the kind with these numbers, up to where its mates end.
 fn content(
     s: &[u8],
     mark: u8,
@@ -71,15 +61,11 @@ fn content(
     most: usize,
     blank: usize,
     start: usize,
-    count: u16,
-    sum: u32,
 ) -> Passed
     requires s_len { (length s.now ≡ block_size) × (blank ≤ start) × (most ≤ block_bases) × (start + 3 * most ≤ checksum_at) }
     requires block_bases_bound { start + most + 2 * block_bases ≤ block_size }
-    requires sum_value { sum ≡ sum_to s.now blank }
-    ensures ok_value { result.ok ≡ (content_ok (kind_of mark side least most blank start) s.now
-        && count_right count (mates_in (kind_of mark side least most blank start) s.now)) }
-    ensures sum_value_2 { result.ok ≡ true → result.sum ≡ sum_to s.now (start + 3 * most) }
+    ensures ok_value { result.ok ≡ content_ok (kind_of mark side least most blank start) s.now }
+    ensures sum_value { result.ok ≡ true → result.sum ≡ sum_to s.now (start + 3 * most) }
 {
     let k = s[0];
     if k != mark {
@@ -92,41 +78,27 @@ fn content(
     if most < n {
         return refused();
     }
-    let bases = base_bytes(s, side, blank, start, most, n, sum);
+    let bases = base_bytes(s, side, blank, start, most, n);
     if !bases.ok {
         return bases;
     }
-    mate_bytes(s, start + most, most, n, count, bases.sum)
+    mate_bytes(s, start + most, most, n, bases.sum)
 }
 
-// Where the zero bytes begin in a block that names `count` arcs: behind that number, and at it where it is zero. An older block then has 24 of them, which the
-// processor takes eight at a time.
-fn blank_at(count: u16) -> usize
-    ensures { result ≡ blank_at count }
-{
-    if count == 0 {
-        return layout::COUNT_AT;
-    }
-    layout::STRAND_BLANK
-}
-
-// The sum over the bytes before these, of which 2 and 3, being zero, add nothing.
-fn head(s: &[u8], count: u16) -> u32
-    requires { (length s.now ≡ block_size) × (word16 s.now 2 ≡ 0) }
-    ensures { result ≡ sum_to s.now (blank_at count) }
-{
-    if count == 0 {
-        return walk::gather(s, 0, layout::OWN_AT, 0);
-    }
-    walk::gather(s, 0, layout::STRAND_BLANK, 0)
-}
-
-// Whether s is a sound block of strands, of the kind with these numbers, whose own bytes are 2 to 5. Byte 0 of such a block is not 0, so a block that begins
-// with 0 is sound exactly when it is empty.
-fn sound_strand(s: &[u8], mark: u8, side: u8, least: usize, most: usize, start: usize) -> bool
-    requires mark_nonzero { (0 < mark) × (6 ≤ start) × (most ≤ block_bases) × (start + 3 * most ≡ checksum_at) }
+// Whether s is a sound block of strands, of the kind with these numbers. Byte 0 of such a block is not 0, so a block that begins with 0 is sound exactly
+// when it is empty.
+fn sound_strand(
+    s: &[u8],
+    mark: u8,
+    side: u8,
+    least: usize,
+    most: usize,
+    blank: usize,
+    start: usize,
+) -> bool
+    requires mark_nonzero { (0 < mark) × (blank ≤ start) × (most ≤ block_bases) × (start + 3 * most ≡ checksum_at) }
     requires block_bases_bound { start + most + 2 * block_bases ≤ block_size }
-    ensures { result ≡ sound_strand (kind_of mark side least most 6 start) s.now }
+    ensures { result ≡ sound_strand (kind_of mark side least most blank start) s.now }
 {
     if s.len() != layout::BLOCK_SIZE {
         return false;
@@ -134,13 +106,7 @@ fn sound_strand(s: &[u8], mark: u8, side: u8, least: usize, most: usize, start: 
     if s[0] == 0 {
         return octets::scan::all_zero(s);
     }
-    if octets::scan::word_at(s, layout::SPARE_WORD) != 0 {
-        return false;
-    }
-    let count = octets::scan::word_at(s, layout::COUNT_WORD);
-    let blank = blank_at(count);
-    let sum = head(s, count);
-    let content = content(s, mark, side, least, most, blank, start, count, sum);
+    let content = content(s, mark, side, least, most, blank, start);
     if !content.ok {
         return false;
     }
@@ -157,6 +123,7 @@ pub fn sound_molecule(s: &[u8]) -> bool
         numbers::MOLECULE,
         strand::LEAST_MOLECULE,
         layout::BLOCK_BASES,
+        layout::MOLECULE_BLANK,
         layout::MOLECULE_START,
     )
 }
@@ -171,6 +138,7 @@ pub fn sound_motif(s: &[u8]) -> bool
         numbers::MOTIF,
         strand::LEAST_MOTIF,
         layout::BLOCK_BASES,
+        layout::MOTIF_BLANK,
         layout::MOTIF_START,
     )
 }
@@ -195,7 +163,6 @@ pub fn sound_entry(s: &[u8]) -> bool
     if s[0] == 0 {
         return octets::scan::all_zero(s);
     }
-    let sum = walk::gather(s, 0, layout::ENTRY_BLANK, 0);
     let content = content(
         s,
         layout::ENTRY_MARK,
@@ -204,8 +171,6 @@ pub fn sound_entry(s: &[u8]) -> bool
         layout::ENTRY_BASES,
         layout::ENTRY_BLANK,
         layout::ENTRY_START,
-        0,
-        sum,
     );
     if !content.ok {
         return false;

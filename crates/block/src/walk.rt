@@ -6,11 +6,10 @@ ghost use Rattle.lists.specs.Vocabulary.{all, between, choose, nth};
 ghost use Rattle.lists.proofs.ListLaws.{Tells};
 ghost use Rattle.letters.specs.Letters.{is_letter};
 ghost use Rattle.strand.specs.Strands.{is_nested, Inside};
-ghost use Rattle.strand.specs.Levels.{bonded_count};
 ghost use Rattle.octets.specs.Octets.{is_zero, words};
 ghost use Rattle.block.specs.Content.{block_size, checksum_at, block_bases, searched_at, sum_to};
 ghost use Rattle.block.specs.Block.{hits_ok};
-ghost use Rattle.block.specs.Walk.{most_term, low_sum, OneByte, count_by_bonds, mates_ok};
+ghost use Rattle.block.specs.Walk.{most_term, low_sum, OneByte};
 
 use crate::layout;
 use letters;
@@ -45,8 +44,7 @@ fn one_if(ok: bool) -> u8
     if ok { 1 } else { 0 }
 }
 
-// Bytes a to before e, under no rule of this walk: the kind, the length and the kind's own bytes, which are read by themselves, and all bytes where a checksum
-// is written.
+// Bytes a to before e, under no rule of this walk: the kind and the length, which have been read, and all bytes where a checksum is written.
 pub(crate) fn gather(s: &[u8], a: usize, e: usize, sum: u32) -> u32
     requires a_le_e { (a ≤ e) × (e ≤ checksum_at) × (e ≤ length s.now) }
     requires sum_value { sum ≡ sum_to s.now a }
@@ -130,14 +128,13 @@ fn weigh(mates: &[u16], at: usize, sum: u32) -> Passed
     }
 }
 
-// Whether mates in range, `bonded` of which are not their own, are mutual and nested.
-fn nested(mates: &[u16], bonded: u16) -> bool
+// Whether mates in range are mutual and nested.
+fn nested(mates: &[u16]) -> bool
     requires mates_len_bound { length mates.now ≤ block_bases }
     requires inside { Inside (nth mates.now) (length mates.now) }
-    requires bonded_value { bonded ≡ bonded_count mates.now }
     ensures { result ≡ is_nested mates.now }
 {
-    if bonded == 0 {
+    if levels::all_unbonded(mates) {
         return true;
     }
     let n = mates.len();
@@ -146,51 +143,34 @@ fn nested(mates: &[u16], bonded: u16) -> bool
     levels::is_nested(mates, &mut own[..n], &mut told[..n])
 }
 
-// Whether the number of arcs that a block names is right, where `bonded` of its nested mates are not their own: 0, or half of these, since an arc has two ends.
-fn count_right(count: u16, bonded: u16) -> bool
-    ensures { result ≡ count_by_bonds count bonded }
-{
-    if count == 0 {
-        return true;
-    }
-    count == bonded / 2
-}
-
-// Mates that have been read, of a block that names `count` arcs: they must be nested, and the number right.
-fn read_mates(mates: &[u16], count: u16, at: usize, sum: u32) -> Passed
+// Mates that have been read must be nested.
+fn read_mates(mates: &[u16], at: usize, sum: u32) -> Passed
     requires mates_len_bound { (length mates.now ≤ block_bases) × (at + 2 * length mates.now ≤ checksum_at) }
     requires sum_bound { sum ≤ most_term * at }
-    ensures ok_value { result.ok ≡ mates_ok count mates.now }
+    ensures ok_value { result.ok ≡ is_nested mates.now }
     ensures sum_value { result.sum ≡ sum + low_sum at mates.now (length mates.now) }
 {
     let walked = weigh(mates, at, sum);
     if !walked.ok {
         return walked;
     }
-    let bonded = levels::bonded_count(mates);
-    if !nested(mates, bonded) {
-        return Passed {
-            sum: walked.sum,
-            ok: false,
-        };
-    }
     Passed {
         sum: walked.sum,
-        ok: count_right(count, bonded),
+        ok: nested(mates),
     }
 }
 
-// The n mates that lie from `at` on, in a block that names `count` arcs, must be nested, and the number right. 160 are read, which is one copy of fixed size;
-// those behind the first n, in an entry 40 of them from the bytes of its maps, are looked at by nobody.
-pub(crate) fn mates(s: &[u8], at: usize, n: usize, count: u16, sum: u32) -> Passed
+// The n mates that lie from `at` on must be nested. 160 are read, which is one copy of fixed size; those behind the first n, in an entry 40 of them from
+// the bytes of its maps, are looked at by nobody.
+pub(crate) fn mates(s: &[u8], at: usize, n: usize, sum: u32) -> Passed
     requires n_le_block_bases { (n ≤ block_bases) × (at + 2 * n ≤ checksum_at) × (at + 2 * block_bases ≤ length s.now) }
     requires sum_value { sum ≡ sum_to s.now at }
-    ensures ok_value { result.ok ≡ mates_ok count (words n (drop at s.now)) }
+    ensures ok_value { result.ok ≡ is_nested (words n (drop at s.now)) }
     ensures sum_value_2 { OneByte (words n (drop at s.now)) n → result.sum ≡ sum_to s.now (at + 2 * n) }
 {
     let mut places = [0u16; layout::BLOCK_BASES];
     octets::scan::read_words(&s[at..], &mut places);
-    read_mates(&places[..n], count, at, sum)
+    read_mates(&places[..n], at, sum)
 }
 
 // The two maps of an entry, side by side: each hit bit must have its searched bit.

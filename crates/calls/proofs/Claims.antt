@@ -17,10 +17,8 @@ use Rattle.strand.proofs.Claims as strand
 use Rattle.refusals.specs.Rules.{motif_side, no_side, wrong_slice, first, refuse_if, work_rule}
 use Rattle.lists.proofs.ListLaws.{and-true, by_bool, same_refl, choose_yes, choose_no}
 use Rattle.block.specs.Content.{block_size, searched_at, hit_at, empty_block, is_empty, molecule_in, motif_in, searched_in, hit_in, keeps_motif, encode_molecule}
-use Rattle.block.specs.Content.{encode_entry, count_at}
-use Rattle.strand.specs.declared.Fold.{Fold}
-use Rattle.strand.proofs.FoldLaws.{fold_only}
-use Rattle.octets.specs.Octets.{without, word16, map_bit, Bytes}
+use Rattle.block.specs.Content.{encode_entry}
+use Rattle.octets.specs.Octets.{without, map_bit, Bytes}
 use Rattle.octets.proofs.ByteLaws.{small_zeros, small_between}
 use Rattle.octets.proofs.BitLaws.{zero_bit}
 use Rattle.block.specs.Block.{block_of, sound_molecule, sound_entry, cleaned, forgot, block_count, each_block, put_block}
@@ -35,7 +33,7 @@ use Rattle.calls.specs.declared.Queried.TheVariants.{Refused as NotQueried}
 use Rattle.calls.specs.Buffers.{most_catalog_blocks, most_molecule_bases, most_motif_bases, motif_verdict, work_verdict, buffers_verdict, held, molecule_at}
 use Rattle.calls.specs.Buffers.{slot_of, clean_cache, Usable}
 use Rattle.calls.specs.Calls.{effect, add_verdict, add_outcome, remove_verdict, remove_outcome, queried, query_verdict, is_known, to_search, is_hit}
-use Rattle.calls.specs.Calls.{slot_in, entry_for, query_accepted, query_outcome, found, query_result, AddCounts}
+use Rattle.calls.specs.Calls.{slot_in, entry_for, query_accepted, query_outcome, found, query_result}
 use Rattle.calls.specs.Statements.{AllSound, OnlyAt, AddLeaves, RemoveLeaves, QueryLeaves, Claims}
 use Rattle.calls.proofs.Accepting.{add_accepts, remove_accepts, query_accepts}
 use Rattle.calls.proofs.CallLaws.{add_says}
@@ -93,7 +91,6 @@ module _ (catalog cache : List ℕ) (d : ℕ) (q : Strand) (e : add_verdict cata
         block_sound = ap sound_molecule at ∙ law.molecule_sound q f.1;
         is_held_lem = held_yes _ d (omega (arith, f.0, only.size)) (ap is_empty at ∙ law.molecule_full q f.1);
         molecule = unfold molecule_at in (ap molecule_in at ∙ law.molecule_back q f.1);
-        counted = ap (λ (s : List ℕ). word16 s count_at) at ∙ law.molecule_counted q f.1;
         only = only;
         cache_sound = clean_all cache (block_count cache) z.whole;
         cache_each =
@@ -102,11 +99,6 @@ module _ (catalog cache : List ℕ) (d : ℕ) (q : Strand) (e : add_verdict cata
               each = read.clean_block cache (block_count cache) z.whole;
             };
       })
-
-add_counts : (catalog cache : List ℕ) (d : ℕ) (q : Strand) → AddCounts d (add_outcome catalog cache d q).answer (add_outcome catalog cache d q).catalog
-add_counts catalog cache d q f h =
-    let x = (add_says catalog cache d q f).0 h in
-    (add_accepted catalog cache d q x.0).counted ∙ ap (λ (g : Fold). g.arcs) (sym (fold_only q.mates f x.1))
 
 -- Remove
 
@@ -332,7 +324,6 @@ claims embeds =
       remove_accepted = remove_accepted;
       query_accepted_lem = query_accepted_lem embeds;
       add_says = add_says;
-      add_counts = add_counts;
       add_accepts = add_accepts;
       remove_accepts = remove_accepts;
       query_accepts = query_accepts;

@@ -7,8 +7,7 @@ use Rattle.strand.specs.Folds.{fold_of, IsFold}
 use Rattle.strand.specs.Strands.{Strand, Proper, least_motif, least_molecule}
 use Rattle.refusals.specs.Rules.{motif_side, molecule_side, no_side, wrong_slice, number_too_large, already_held, not_held, first, refuse_if, by_verdict, work_size}
 use Rattle.block.specs.Block.{block_of, forgot, block_count, each_block, put_block}
-use Rattle.block.specs.Content.{empty_block, encode_molecule, encode_entry, keeps_motif, searched_in, hit_in, count_at}
-use Rattle.octets.specs.Octets.{word16}
+use Rattle.block.specs.Content.{empty_block, encode_molecule, encode_entry, keeps_motif, searched_in, hit_in}
 use Rattle.refusals.specs.declared.Verdict.{Verdict}
 use Rattle.refusals.specs.declared.Verdict.TheVariants.{Accepted}
 use Rattle.calls.specs.declared.Added.{Added}
@@ -57,11 +56,6 @@ add_outcome catalog cache d q =
 -- Its answer r is Stored with f exactly when the call is accepted and f is the fold of the molecule.
 abbrev pub AddSays : List ℕ → List ℕ → ℕ → Strand → Added → Type 0
 AddSays catalog cache d q r = (f : Fold) → (r ≡ Stored f) ↔ ((add_verdict catalog cache d q ≡ Accepted) × IsFold q.mates f)
-
--- 02, (vii): "Add writes" the number of arcs "to bytes 4 and 5 of the molecule block, little-endian". Where its answer r is Stored with f, the number there is
--- that of f, in block d of the catalog that it leaves.
-abbrev pub AddCounts : ℕ → Added → List ℕ → Type 0
-AddCounts d r catalog' = (f : Fold) → r ≡ Stored f → word16 (block_of d catalog') count_at ≡ f.arcs
 
 -- Remove (d).
 unfoldable pub remove_verdict : List ℕ → List ℕ → ℕ → Verdict

@@ -1,11 +1,11 @@
 -- What is claimed of add, remove and query for all inputs and all contents of the buffers; `claims`, in proofs/Claims, proves it.
 use Rattle.std.specs.Prelude.{ℕ, ◌<◌, ◌≡◌, List, [], ◌∷◌, Bool, true, false, ◌&&◌, ltb, length, take, drop}
 use Rattle.lists.specs.Vocabulary.{select}
-use Rattle.strand.specs.Folds.{arc_count, fold_of}
+use Rattle.strand.specs.Folds.{fold_of}
 use Rattle.strand.specs.Strands.{Strand, empty_motif}
-use Rattle.octets.specs.Octets.{Bytes, word16, map_bits}
+use Rattle.octets.specs.Octets.{Bytes, map_bits}
 use Rattle.block.specs.Block.{block_of, sound_molecule, sound_entry, cleaned, forgot, block_count}
-use Rattle.block.specs.Content.{empty_block, encode_entry, keeps_motif, searched_in, hit_in, count_at}
+use Rattle.block.specs.Content.{empty_block, encode_entry, keeps_motif, searched_in, hit_in}
 use Rattle.refusals.specs.Rules.{no_side, wrong_slice, first, refuse_if, work_rule, Refuses, Keeps}
 use Rattle.refusals.specs.declared.Verdict.TheVariants.{Accepted}
 use Rattle.calls.specs.declared.Added.{Added}
@@ -15,7 +15,7 @@ use Rattle.calls.specs.declared.Removed.TheVariants.{Cleared, Refused as NotRemo
 use Rattle.calls.specs.declared.Queried.TheVariants.{Hits, Refused as NotQueried}
 use Rattle.calls.specs.Buffers.{most_molecule_bases, buffers_verdict, held, molecule_at, slot_of, clean_cache}
 use Rattle.calls.specs.Calls.{Effect, add_verdict, add_outcome, remove_verdict, remove_outcome, QueryEffect, query_verdict, to_search}
-use Rattle.calls.specs.Calls.{is_hit, slot_in, entry_for, query_outcome, QueryAccepts, AddAccepts, AddSays, AddCounts, RemoveAccepts}
+use Rattle.calls.specs.Calls.{is_hit, slot_in, entry_for, query_outcome, QueryAccepts, AddAccepts, AddSays, RemoveAccepts}
 
 -- Every block of the cache is sound.
 abbrev pub AllSound : List ℕ → Type 0
@@ -44,8 +44,6 @@ pub record AddLeaves (catalog cache : List ℕ) (d : ℕ) (q : Strand) (after : 
   pub is_held_lem : held after.catalog d ≡ true
   pub molecule : molecule_at after.catalog d ≡ q
   pub only : OnlyAt d catalog after.catalog
-  -- bytes 4 and 5 of block d are the number of arcs
-  pub counted : word16 (block_of d after.catalog) count_at ≡ arc_count q.mates
   -- no block of the cache is unsound: else one later alteration could put it right; a sound one stays, an unsound one is zeroed
   pub cache_sound : AllSound after.cache
   pub cache_each : EachIs cleaned cache after.cache
@@ -92,9 +90,6 @@ pub record Claims (embeds : Strand → Strand → Bool) : Type 0 where
       (query_outcome embeds catalog cache p work hits)
   -- what add answers, as a proposition
   pub add_says : (catalog cache : List ℕ) (d : ℕ) (q : Strand) → AddSays catalog cache d q (add_outcome catalog cache d q).answer
-  -- the number of arcs that it answers is the one that it writes
-  pub add_counts : (catalog cache : List ℕ) (d : ℕ) (q : Strand)
-      → AddCounts d (add_outcome catalog cache d q).answer (add_outcome catalog cache d q).catalog
   -- a call is accepted exactly where no rule applies
   pub add_accepts : (catalog cache : List ℕ) (d : ℕ) (q : Strand) → AddAccepts catalog cache d q
   pub remove_accepts : (catalog cache : List ℕ) (d : ℕ) → RemoveAccepts catalog cache d

@@ -8,11 +8,10 @@ use borrow.Rule.Slice.PartMut.{put_mid}
 use lib.ListN.{length, set, take, drop, replicate, length-append, length-drop, drop_of_length-le}
 use lib.Seq.{take_all, take_at, drop_at, length-take-le, drop-drop}
 use Rattle.octets.specs.Octets.{words, bytes_of}
-use Rattle.block.specs.Content.{rechecked, molecule_kind, padded, head_of, content_of, count_bytes, strand_block, encode_molecule}
+use Rattle.block.specs.Content.{rechecked, molecule_kind, padded, head_of, content_of, strand_block, encode_molecule}
 use Rattle.octets.proofs.ScanLaws.{length_bytes}
 use Rattle.block.proofs.PartLaws.{length_padded, length_head, length_content, check_put}
 use Rattle.strand.specs.Strands.{strand_of}
-use Rattle.strand.specs.Folds.{arc_count}
 
 -- ---- zeros and a head
 
@@ -144,9 +143,8 @@ read_is s d r from n h e =
     e ∙ ap (λ (k : ℕ). words k (take (length s - from) (drop from s))) (length-take-le n d h)
     ∙ ap (words n) (take_all (length s - from) (drop from s) (simp length-drop (omega arith)))
 
-pub molecule_put_lem : (c : ℕ) (bases mates t s r : List ℕ) → c ≡ arc_count mates → length bases ≤ 160 → length mates ≡ length bases → length s ≡ 512
-    → s ≡ content_of molecule_kind (count_bytes c) bases mates ++ t → r ≡ rechecked s → r ≡ encode_molecule (strand_of bases mates)
+pub molecule_put_lem : (bases mates t s r : List ℕ) → length bases ≤ 160 → length mates ≡ length bases → length s ≡ 512
+    → s ≡ content_of molecule_kind [] bases mates ++ t → r ≡ rechecked s → r ≡ encode_molecule (strand_of bases mates)
 unfolding encode_molecule strand_block
-molecule_put_lem c bases mates t s r ec hb hm hs e er =
-    check_put (content_of molecule_kind (count_bytes c) bases mates) t s r (length_content molecule_kind (count_bytes c) bases mates (omega arith) hb hm) hs e er
-    ∙ ap (λ (n : ℕ). strand_block molecule_kind (count_bytes n) bases mates) ec
+molecule_put_lem bases mates t s r hb hm hs e er =
+    check_put (content_of molecule_kind [] bases mates) t s r (length_content molecule_kind [] bases mates (omega arith) hb hm) hs e er

@@ -7,22 +7,19 @@ ghost use Rattle.codec.specs.Outcomes.{wrote, molecule_wrote, decoded, decodes, 
 
 use block::layout;
 
-// Write the block of a molecule of at most 160 bases, with the number of its arcs. False, and nothing written, where s is not one block or the molecule does
-// not fit.
+// Write the block of a molecule of at most 160 bases. False, and nothing written, where s is not one block or the molecule does not fit.
 pub fn encode_molecule(s: &mut [u8], bases: &[u8], mates: &[u16]) -> bool
     ensures { wrote result s.new ≡ molecule_wrote s.old bases.now mates.now }
 {
     if !crate::parts::strand_fits(s.len(), layout::BLOCK_BASES, bases.len(), mates.len()) {
         return false;
     }
-    let arcs = strand::depth::arc_count(mates);
-    let own = [0, 0, (arcs % 256) as u8, (arcs / 256 % 256) as u8];
     crate::parts::put_content(
         s,
         layout::MOLECULE_MARK,
         layout::MOLECULE_START,
         layout::BLOCK_BASES,
-        &own,
+        b"",
         bases,
         mates,
     );

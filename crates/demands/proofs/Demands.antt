@@ -61,7 +61,6 @@ right_answer =
       verify_respelled = (embedding.claims).verify_respelled;
       window_respelled = (window.claims).window_respelled;
       add = (calls.claims embeds).add_says;
-      add_counts = (calls.claims embeds).add_counts;
       batch = (batches.claims embeds).batch_accepted;
       batch_of_one = (batches.claims embeds).batch_of_one;
       batch_shares = (batches.claims embeds).batch_shares;

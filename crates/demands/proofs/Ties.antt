@@ -71,7 +71,6 @@ add_tied catalog cache d q r catalog' cache' e =
           let same = demands.any_input.add_keeps catalog cache d q x (sym answer ∙ h) in
           (ap (λ (x : Effect Added). x.catalog) e ∙ same.0, ap (λ (x : Effect Added). x.cache) e ∙ same.1);
       says = λ f. rw answer (demands.right_answer.add catalog cache d q f);
-      counts = rw (answer, ap (λ (x : Effect Added). x.catalog) e) (demands.right_answer.add_counts catalog cache d q);
       step = λ es log ran. run_add d q r catalog' cache' e ran;
     }
 

@@ -26,7 +26,7 @@ use Rattle.calls.specs.declared.Removed.TheVariants as removes
 use Rattle.calls.specs.declared.Queried.TheVariants as queries
 use Rattle.calls.specs.declared.BatchRead.TheVariants as batches
 use Rattle.calls.specs.Calls.{add_verdict, add_outcome, remove_verdict, remove_outcome, query_verdict, query_outcome, AddAccepts, RemoveAccepts}
-use Rattle.calls.specs.Calls.{AddSays, AddCounts, QueryAccepts}
+use Rattle.calls.specs.Calls.{AddSays, QueryAccepts}
 use Rattle.calls.specs.Batch.{batch_verdict, batch_outcome}
 use Rattle.calls.specs.BatchStatements.{BatchAccepts, BatchLeaves, IsQuery, SlotsShared, MotifsRefuse, BatchOrder}
 use Rattle.history.specs.Model.{Event, Line}
@@ -118,9 +118,6 @@ pub record RightAnswer : Type 0 where
       → show_answer p pm q qm places work ≡ show_answer p' pm q' qm places work
   pub verify_respelled : (p pm q qm p' q' v : List ℕ) → ReadAlike p p' → ReadAlike q q' → verify_answer p pm q qm v ≡ verify_answer p' pm q' qm v
   pub window_respelled : (p pm q qm p' q' : List ℕ) (work : ℕ) → ReadAlike p p' → ReadAlike q q' → window_answer p pm q qm work ≡ window_answer p' pm q' qm work
-  -- 2.12: the number of arcs that an accepted add answers is the one that it writes to bytes 4 and 5 of the molecule's block
-  pub add_counts : (catalog cache : List ℕ) (d : ℕ) (q : Strand)
-      → AddCounts d (add_outcome catalog cache d q).answer (add_outcome catalog cache d q).catalog
 
 -- Demand 3, every history of add, remove, query and batch.
 pub record EveryHistory : Type 0 where

@@ -27,7 +27,7 @@ use Rattle.calls.specs.declared.Queried.TheVariants as queries
 use Rattle.calls.specs.declared.Batched.{Batched}
 use Rattle.calls.specs.declared.BatchRead.TheVariants as batches
 use Rattle.calls.specs.Calls.{effect, add_verdict, add_outcome, remove_verdict, remove_outcome, queried, query_verdict, query_outcome, add_result, remove_result}
-use Rattle.calls.specs.Calls.{query_result, AddSays, AddCounts}
+use Rattle.calls.specs.Calls.{query_result, AddSays}
 use Rattle.calls.specs.Batch.{batched, batch_verdict, batch_outcome, batch_result}
 use Rattle.calls.specs.BatchStatements.{BatchLeaves, IsQuery}
 use Rattle.history.specs.Model.{add, remove, query, batch}
@@ -63,13 +63,12 @@ pub record WindowMeets (p pm q qm work : List ℕ) (r : Windowed) (work' : List 
   pub says : WindowSays (length_verdict p pm q qm (len work)) p pm q qm r
   pub work_kept : WorkKept (length_verdict p pm q qm (len work)) work work'
 
--- 1.5, 1.9, 2.6, 2.12; the step `run_add` of a run
+-- 1.5, 1.9, 2.6; the step `run_add` of a run
 pub record AddMeets (catalog cache : List ℕ) (d : ℕ) (q : Strand) (r : Added) (catalog' cache' : List ℕ) : Type 0 where
   pub outcome : effect r catalog' cache' ≡ add_outcome catalog cache d q
   pub refuses : Refuses (add_verdict catalog cache d q) adds.Refused r
   pub keeps : Keeps adds.Refused r catalog cache catalog' cache'
   pub says : AddSays catalog cache d q r
-  pub counts : AddCounts d r catalog'
   pub step : IsStep embeds (buffers_of catalog cache) (add d q) (add_result r) (buffers_of catalog' cache')
 
 -- 1.6, 1.9; the step `run_remove`

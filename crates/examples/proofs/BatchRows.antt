@@ -240,20 +240,15 @@ byte_more = by_motifs _ 0 0 15 motif_side 0 (sym (motifs_not_whole _ (not_whole 
 pub empty_second : ByModel (refused_batch (one_handed_in bonded) 0 0 15 motif_side 1)
 empty_second = by_motifs _ 0 0 15 motif_side 1 (empty_behind bonded motifs_ok.1)
 
--- two motifs, a block that holds none, and an empty one
-pub none_third : (b : List ℕ) → length b ≡ block_size → holds_motif b ≡ false
-    → ByModel (refused_batch (handed_in a a ++ (b ++ empty_block)) 0 0 15 motif_side 2)
-none_third b l wrong = by_motifs _ 0 0 15 motif_side 2 (none_behind (handed_in a a) (b ++ empty_block) 2 2 two_a all (omega arith) (omega arith) none)
-  where
-    all : length (b ++ empty_block) ≡ block_size * 2
-    all = size b empty_block 1 1 l empty_length
-
-    none : holds_motif (block_of 0 (b ++ empty_block)) ≡ false
-    none = ap holds_motif (take_at b empty_block block_size l) ∙ wrong
-
 pub unsound_third : ByModel (refused_batch (handed_in a a ++ not_motifs) 0 0 15 motif_side 2)
 unfolding altered
-unsound_third = none_third altered altered_length altered_unsound
+unsound_third = by_motifs _ 0 0 15 motif_side 2 (none_behind (handed_in a a) not_motifs 2 2 two_a all (omega arith) (omega arith) none)
+  where
+    all : length not_motifs ≡ block_size * 2
+    all = size altered empty_block 1 1 altered_length empty_length
+
+    none : holds_motif (block_of 0 not_motifs) ≡ false
+    none = ap holds_motif (take_at altered empty_block block_size altered_length) ∙ altered_unsound
 
 pub long_second : ByModel (refused_batch (handed_in bonded long) 0 0 3 motif_side 1)
 unfolding strand_verdict first refuse_if refuse_at_lowest choose some lowest_from lowest tab is_letter not_letter mate_outside not_mutual crosses crossed_at long

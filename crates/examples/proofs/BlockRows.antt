@@ -3,10 +3,7 @@ use mathlib.Core.Path.{◌≡◌, refl}
 use mathlib.Core.List.{[], ◌∷◌, ◌++◌}
 use Rattle.lists.specs.Vocabulary.{choose, tab}
 use Rattle.octets.specs.Octets.{bytes_of, map_bytes, bit_sum}
-use Rattle.block.specs.Content.{molecule_kind, entry_kind, count_bytes, content_of, strand_block, entry_with, encode_molecule, encode_older, encode_entry}
-use Rattle.strand.specs.Folds.{begins, arc_count}
-use Rattle.lists.specs.Vocabulary.{select}
-use Rattle.examples.specs.Table.{bytes_of_older_gc}
+use Rattle.block.specs.Content.{molecule_kind, entry_kind, content_of, strand_block, entry_with, encode_molecule, encode_entry}
 use Rattle.block.proofs.SumLaws.{weighed}
 use Rattle.block.proofs.PartLaws.{check_walk}
 use Rattle.history.specs.Examples.{bonded}
@@ -16,20 +13,16 @@ use Rattle.block.proofs.Claims as block
 use Rattle.examples.specs.Table.{a, bytes_of_a, bytes_of_t, bytes_of_gc, was_searched, was_hit, bytes_of_entry, bytes_of_empty_motif, bytes_of_empty_motif_entry}
 
 pub a_bytes : encode_molecule a ≡ bytes_of_a
-unfolding bytes_of_a encode_molecule strand_block content_of bytes_of weighed arc_count begins select choose
-a_bytes = check_walk (content_of molecule_kind (count_bytes 0) a.bases a.mates) refl
+unfolding bytes_of_a encode_molecule strand_block content_of bytes_of weighed
+a_bytes = check_walk (content_of molecule_kind [] a.bases a.mates) refl
 
 pub t_bytes : encode_molecule (strand_of (84 ∷ []) (0 ∷ [])) ≡ bytes_of_t
-unfolding bytes_of_t encode_molecule strand_block content_of bytes_of weighed arc_count begins select choose
-t_bytes = check_walk (content_of molecule_kind (count_bytes 0) (84 ∷ []) (0 ∷ [])) refl
+unfolding bytes_of_t encode_molecule strand_block content_of bytes_of weighed
+t_bytes = check_walk (content_of molecule_kind [] (84 ∷ []) (0 ∷ [])) refl
 
 pub gc_bytes : encode_molecule bonded ≡ bytes_of_gc
-unfolding bytes_of_gc encode_molecule strand_block content_of bytes_of weighed arc_count begins select choose
-gc_bytes = check_walk (content_of molecule_kind (count_bytes 1) bonded.bases bonded.mates) refl
-
-pub older_bytes : encode_older bonded ≡ bytes_of_older_gc
-unfolding bytes_of_older_gc encode_older strand_block content_of bytes_of weighed
-older_bytes = check_walk (content_of molecule_kind (count_bytes 0) bonded.bases bonded.mates) refl
+unfolding bytes_of_gc encode_molecule strand_block content_of bytes_of weighed
+gc_bytes = check_walk (content_of molecule_kind [] bonded.bases bonded.mates) refl
 
 pub entry_bytes : encode_entry bonded was_searched was_hit ≡ bytes_of_entry
 unfolding bytes_of_entry encode_entry entry_with content_of bytes_of map_bytes bit_sum tab choose weighed

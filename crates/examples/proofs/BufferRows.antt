@@ -30,7 +30,7 @@ use Rattle.history.specs.Statements.{AllRefused}
 use Rattle.history.proofs.Bytes.{bytes_verdict, bytes_result, bytes_log, bytes_refused}
 use Rattle.history.proofs.Runs.{ran_log, bytes_run}
 use Rattle.history.proofs.Theorem.{not_whole}
-use Rattle.examples.specs.Table.{a, uneven, nine, unsound_with, unsound}
+use Rattle.examples.specs.Table.{a, uneven, nine, unsound}
 
 -- What a call comes to on the bytes, it comes to in every run of it.
 by_run : (β : Buffers) (c : Call) (r : Result) → bytes_result embeds β c ≡ r → (log : List Line) → Ran embeds β (call c ∷ []) log → log ≡ gave c r ∷ []
@@ -70,68 +70,63 @@ nine_unsound = other_first nine (λ e. omega (arith, nine_first)) (λ e. omega (
 zeros : List ℕ
 zeros = replicate (block_size * 3) 0
 
+one : List ℕ
+one = put_block 2 nine zeros
+
+two : List ℕ
+two = put_block 1 nine one
+
 zeros_length : length zeros ≡ block_size * 3
 unfolding zeros
 zeros_length = length-replicate {A = ℕ} (block_size * 3) 0
 
--- Any unsound block under the numbers 1 and 2 of three.
-module _ (bad : List ℕ) (size : length bad ≡ block_size) (wrong : sound_molecule bad ≡ false) where
-  one : List ℕ
-  one = put_block 2 bad zeros
+one_length : length one ≡ block_size * 3
+unfolding one
+one_length = put_length zeros 3 zeros_length 2 (omega arith) nine nine_length
 
-  two : List ℕ
-  two = put_block 1 bad one
+two_length : length two ≡ block_size * 3
+unfolding two
+two_length = put_length one 3 one_length 1 (omega arith) nine nine_length
 
-  one_length : length one ≡ block_size * 3
-  unfolding one
-  one_length = put_length zeros 3 zeros_length 2 (omega arith) bad size
+block_0 : block_of 0 two ≡ empty_block
+unfolding two one zeros choose
+block_0 =
+    put_block_lem one 3 one_length 1 (omega arith) nine nine_length 0 (omega arith)
+    ∙ put_block_lem zeros 3 zeros_length 2 (omega arith) nine nine_length 0 (omega arith)
+    ∙ block_zero 3 0 (omega arith)
 
-  two_length : length two ≡ block_size * 3
-  unfolding two
-  two_length = put_length one 3 one_length 1 (omega arith) bad size
+block_1 : block_of 1 two ≡ nine
+unfolding two choose
+block_1 = put_block_lem one 3 one_length 1 (omega arith) nine nine_length 1 (omega arith)
 
-  block_0 : block_of 0 two ≡ empty_block
-  unfolding two one zeros choose
-  block_0 =
-      put_block_lem one 3 one_length 1 (omega arith) bad size 0 (omega arith)
-      ∙ put_block_lem zeros 3 zeros_length 2 (omega arith) bad size 0 (omega arith)
-      ∙ block_zero 3 0 (omega arith)
+sound_0 : unsound_at two 0 ≡ false
+unfolding unsound_at
+sound_0 = ap (λ (b : List ℕ). not (sound_molecule b)) block_0 ∙ ap not empty_molecule
 
-  block_1 : block_of 1 two ≡ bad
-  unfolding two choose
-  block_1 = put_block_lem one 3 one_length 1 (omega arith) bad size 1 (omega arith)
+unsound_1 : unsound_at two 1 ≡ true
+unfolding unsound_at
+unsound_1 = ap (λ (b : List ℕ). not (sound_molecule b)) block_1 ∙ ap not nine_unsound
 
-  sound_0 : unsound_at two 0 ≡ false
-  unfolding unsound_at
-  sound_0 = ap (λ (b : List ℕ). not (sound_molecule b)) block_0 ∙ ap not empty_molecule
+place : 1 ≡ lowest (block_count two) (unsound_at two)
+place = sym (lowest_found (unsound_at two) (block_count two) 1 (lowest_all (unsound_at two) 1 below) (omega (arith, count_is two 3 two_length)) unsound_1)
+  where
+    below : (i : ℕ) → i < 1 → unsound_at two i ≡ false
+    below i l = let z : i ≡ 0 = omega arith in ap (unsound_at two) z ∙ sound_0
 
-  unsound_1 : unsound_at two 1 ≡ true
-  unfolding unsound_at
-  unsound_1 = ap (λ (b : List ℕ). not (sound_molecule b)) block_1 ∙ ap not wrong
-
-  place : 1 ≡ lowest (block_count two) (unsound_at two)
-  place = sym (lowest_found (unsound_at two) (block_count two) 1 (lowest_all (unsound_at two) 1 below) (omega (arith, count_is two 3 two_length)) unsound_1)
-    where
-      below : (i : ℕ) → i < 1 → unsound_at two i ≡ false
-      below i l = let z : i ≡ 0 = omega arith in ap (unsound_at two) z ∙ sound_0
-
-  buffers : buffers_verdict two (replicate block_size 0) ≡ refusal 11 no_side 1
-  buffers =
-      sym (block_unsound two (replicate block_size 0) (whole_is 512 3 two two_length)
-      (whole_is 64 1 (replicate block_size 0) (length-replicate {A = ℕ} block_size 0)) 1 place
-      (omega (arith, count_is two 3 two_length)))
-
-  pub block_refused : (c : Call) (log : List Line) → Ran embeds (unsound_with bad) (call c ∷ []) log → log ≡ gave c (refused 11 no_side 1) ∷ []
-  unfolding refused_by
-  block_refused c = by_run (unsound_with bad) c _ (bytes_refused embeds (unsound_with bad) c _ (verdict c)).0
-    where
-      verdict : (c : Call) → bytes_verdict (unsound_with bad) c ≡ refusal 11 no_side 1
-      verdict (add d q) = unfold bytes_verdict zeroed two one zeros in (sym (add_buffers_refused two (replicate block_size 0) d q _ buffers))
-      verdict (remove d) = unfold bytes_verdict zeroed two one zeros in (sym (remove_buffers_refused two (replicate block_size 0) d _ buffers))
-      verdict (query p work hits) = unfold bytes_verdict zeroed two one zeros in
-          (sym (query_buffers_refused two (replicate block_size 0) p work (length hits) _ buffers))
-      verdict (batch motifs work hits) = unfold bytes_verdict zeroed two one zeros in
-          (sym (batch_buffers_refused two (replicate block_size 0) motifs work (length hits) _ buffers))
+buffers : buffers_verdict two (replicate block_size 0) ≡ refusal 11 no_side 1
+buffers =
+    sym (block_unsound two (replicate block_size 0) (whole_is 512 3 two two_length)
+    (whole_is 64 1 (replicate block_size 0) (length-replicate {A = ℕ} block_size 0)) 1 place
+    (omega (arith, count_is two 3 two_length)))
 
 pub unsound_refused : (c : Call) (log : List Line) → Ran embeds unsound (call c ∷ []) log → log ≡ gave c (refused 11 no_side 1) ∷ []
-unsound_refused = block_refused nine nine_length nine_unsound
+unfolding refused_by
+unsound_refused c = by_run unsound c _ (bytes_refused embeds unsound c _ (verdict c)).0
+  where
+    verdict : (c : Call) → bytes_verdict unsound c ≡ refusal 11 no_side 1
+    verdict (add d q) = unfold bytes_verdict zeroed two one zeros in (sym (add_buffers_refused two (replicate block_size 0) d q _ buffers))
+    verdict (remove d) = unfold bytes_verdict zeroed two one zeros in (sym (remove_buffers_refused two (replicate block_size 0) d _ buffers))
+    verdict (query p work hits) = unfold bytes_verdict zeroed two one zeros in
+        (sym (query_buffers_refused two (replicate block_size 0) p work (length hits) _ buffers))
+    verdict (batch motifs work hits) = unfold bytes_verdict zeroed two one zeros in
+        (sym (batch_buffers_refused two (replicate block_size 0) motifs work (length hits) _ buffers))

@@ -1,4 +1,4 @@
--- The theorem of the examples of 01 and of 02, (i) to (iii) and (v) to (vii): every row of the table holds.
+-- The theorem of the examples of 01 and of 02, (i) to (iii), (v) and (vi): every row of the table holds.
 use mathlib.Core.Path.{refl}
 use mathlib.Core.List.{List, [], ◌∷◌, ◌++◌}
 use Rattle.lists.specs.Vocabulary.{choose, every, some, lowest_from, lowest, largest, select, tab, some_list, total, put_at}
@@ -29,10 +29,6 @@ use Rattle.examples.proofs.BlockRows.{a_bytes, t_bytes, gc_bytes, entry_bytes, e
 use Rattle.examples.proofs.BufferRows.{uneven_refused, unsound_refused}
 use Rattle.examples.proofs.ScreenRow.{screen_prints_lem, empty_motif_prints, empty_block_prints}
 use Rattle.examples.proofs.BatchRows.{no_block, seventeen_blocks, byte_more, empty_second, unsound_third, long_second, few_hits_lem, little_work, together}
-use Rattle.examples.specs.Table.{counts}
-use Rattle.examples.proofs.BlockRows.{older_bytes}
-use Rattle.examples.proofs.CountRows.{gc_added, gc_sound, older_gc_sound, two_unsound, high_byte_unsound, one_unsound, count_refused, count_third}
-use Rattle.examples.proofs.CountRows.{count_prints}
 
 -- A row and the rows after it.
 infixr 20 ◌&◌
@@ -204,21 +200,6 @@ spellings_hold =
     & t_bytes
     & tt
 
-counts_hold : AllHold counts
-unfolding counts AllHold Holds
-counts_hold =
-    gc_added
-    & gc_sound
-    & older_bytes
-    & older_gc_sound
-    & two_unsound
-    & high_byte_unsound
-    & one_unsound
-    & count_refused
-    & by_model _ count_third
-    & count_prints
-    & tt
-
 both : (rs ss : List Row) → AllHold rs → AllHold ss → AllHold (rs ++ ss)
 unfolding AllHold
 both [] ss h k = k
@@ -233,5 +214,4 @@ unfolding table
 holds =
     let front = both refusals _ refusals_hold screen_hold in
     let requests = both _ windows (both _ folds (both _ also front also_hold) folds_hold) windows_hold in
-    let to-batches = both _ batches (both _ empty_motifs requests empty_motifs_hold) batches_hold in
-    both _ counts (both _ spellings to-batches spellings_hold) counts_hold
+    both _ spellings (both _ batches (both _ empty_motifs requests empty_motifs_hold) batches_hold) spellings_hold

@@ -2,5 +2,4 @@ pub mod BlockRows
 pub mod BufferRows
 pub mod ScreenRow
 pub mod BatchRows
-pub mod CountRows
 pub mod Holds

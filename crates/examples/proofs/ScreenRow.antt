@@ -3,7 +3,7 @@
 use Prim.Native.Nat.{ℕ}
 use native.Mathlib.Omega.{arith}
 use mathlib.Core.Path.{◌≡◌, refl, sym, ap, ap₂, ◌∙◌}
-use mathlib.Core.Bool.{true, false, not}
+use mathlib.Core.Bool.{true, not}
 use mathlib.Core.List.{List, [], ◌∷◌, ◌++◌}
 use mathlib.Core.Option.{none as vacant}
 use lib.Dec.{leb}
@@ -21,7 +21,7 @@ use Rattle.block.specs.Content.{block_size, block_bases, empty_block, encode_mol
 use Rattle.block.specs.Motif.{holds_motif, motif_handed_in, encode_motif}
 use Rattle.block.specs.Block.{cleaned, block_count, put_block}
 use Rattle.calls.specs.Buffers.{in_range, molecule_verdict, motif_verdict, work_verdict, is_held, slot_of, clean_cache}
-use Rattle.calls.specs.Calls.{Effect, QueryEffect, add_verdict, add_outcome, query_outcome, Result, done, found, refused_by, query_result}
+use Rattle.calls.specs.Calls.{Effect, QueryEffect, add_verdict, query_outcome, Result, done, found, refused_by, query_result}
 use Rattle.calls.specs.declared.Added.{Added}
 use Rattle.calls.specs.declared.Queried.{Queried}
 use Rattle.calls.specs.declared.Queried.TheVariants.{Hits, Refused}
@@ -90,29 +90,25 @@ rest = refl
 
 passed : first
     (refuse_if not_whole_blocks no_side (not (in_range 2 1)) ∷ refuse_if number_too_large no_side (leb 2 0) ∷ refuse_if already_held no_side (is_held vacant)
-    ∷ Accepted ∷ [])
+    ∷ molecule_verdict a ∷ [])
     ≡ Accepted
-unfolding is_held in_range first refuse_if choose
+unfolding is_held in_range molecule_verdict strand_verdict first refuse_if refuse_at_lowest choose some lowest_from lowest is_letter not_letter mate_outside not_mutual
+    crosses crossed_at
 passed = refl
 
-module _ (q : Strand) (passes : molecule_verdict q ≡ Accepted) where
-  added : add_verdict (zeroed 2 1).catalog (zeroed 2 1).cache 0 q ≡ Accepted
-  unfolding zeroed
-  added = add_judged (stores_zeroed 2) 1 (replicate 512 0) (length-replicate {A = ℕ} 512 0) 0 q ∙ rw passes passed
-
-  pub added_catalog : (add_outcome (zeroed 2 1).catalog (zeroed 2 1).cache 0 q).catalog ≡ encode_molecule q ++ empty_block
-  unfolding zeroed put_block empty_block
-  added_catalog =
-      ap (λ (x : Effect Added). x.catalog) (add_does (zeroed 2 1).catalog (zeroed 2 1).cache 0 q added)
-      ∙ ap (λ (l : List ℕ). encode_molecule q ++ l) rest
+added : add_verdict (zeroed 2 1).catalog (zeroed 2 1).cache 0 a ≡ Accepted
+unfolding zeroed
+added = add_judged (stores_zeroed 2) 1 (replicate 512 0) (length-replicate {A = ℕ} 512 0) 0 a ∙ passed
 
 left_catalog : (bytes_next embeds (zeroed 2 1) (add 0 a)).catalog ≡ catalog
-unfolding bytes_next catalog code
-left_catalog = added_catalog a a_accepted
+unfolding bytes_next zeroed put_block catalog code empty_block
+left_catalog =
+    ap (λ (x : Effect Added). x.catalog) (add_does (zeroed 2 1).catalog (zeroed 2 1).cache 0 a added)
+    ∙ ap (λ (l : List ℕ). encode_molecule a ++ l) rest
 
 left_cache : (bytes_next embeds (zeroed 2 1) (add 0 a)).cache ≡ empty_block
 unfolding bytes_next zeroed
-left_cache = ap (λ (x : Effect Added). x.cache) (add_does (zeroed 2 1).catalog (zeroed 2 1).cache 0 a (added a a_accepted)) ∙ clean_zeros
+left_cache = ap (λ (x : Effect Added). x.cache) (add_does (zeroed 2 1).catalog (zeroed 2 1).cache 0 a added) ∙ clean_zeros
 
 -- ---- the query of a motif that is found in A: that of the story is that of the input
 
@@ -151,15 +147,15 @@ module _ (p : Strand) (proper : Proper motif_side least_motif block_bases p.base
   input : List ℕ
   input = encode_motif p ++ catalog
 
-  motif_block_lem : first_block input ≡ encode_motif p
+  motif_block : first_block input ≡ encode_motif p
   unfolding input
-  motif_block_lem = first_block_lem (encode_motif p) (motif_length p proper)
+  motif_block = first_block_lem (encode_motif p) (motif_length p proper)
 
   motif_ok : holds_motif (first_block input) ≡ true
-  motif_ok = ap holds_motif motif_block_lem ∙ sound_held (encode_motif p) (motif_sound p proper) (motif_full p proper)
+  motif_ok = ap holds_motif motif_block ∙ sound_held (encode_motif p) (motif_sound p proper) (motif_full p proper)
 
   motif_is : motif_handed_in (first_block input) ≡ p
-  motif_is = ap motif_handed_in motif_block_lem ∙ motif_back p proper
+  motif_is = ap motif_handed_in motif_block ∙ motif_back p proper
 
   asked : QueryEffect
   asked = query_outcome embeds catalog empty_block p screen_work hits
@@ -186,7 +182,7 @@ module _ (p : Strand) (proper : Proper motif_side least_motif block_bases p.base
       ∙ text_of asked.answer asked.hits 1 1 (0 ∷ []) asked_found
       ∙ printed
 
--- ---- the rows
+-- ---- the three rows
 
 stories_ok : ByModel (screen_story a) × ByModel (screen_story empty_motif)
 unfolding screen_story adding asking hits admitted admitted_from at_most_once model_log results_of embeds longest largest prefix_ok
@@ -210,10 +206,8 @@ unfolding catalog code
 empty_motif_prints =
     prints empty_motif (accepted_proper motif_side least_motif block_bases [] [] ((strand.claims).empty_motif_says.passes block_bases)) stories_ok.1
 
--- a first block that holds no motif
-pub no_motif_prints : (b : List ℕ) → length b ≡ block_size → holds_motif b ≡ false → screen_output embeds (b ++ (encode_molecule a ++ empty_block)) ≡ bad_motif_prints
-unfolding catalog code bad_motif_text line spaced
-no_motif_prints b size none = output_bad_motif embeds (b ++ catalog) (input_ok b size) (ap holds_motif (first_block_lem b size) ∙ none)
-
 pub empty_block_prints : screen_output embeds empty_block_input ≡ bad_motif_prints
-empty_block_prints = no_motif_prints empty_block empty_length (block.claims).empty_motif_lem.not_handed_in
+unfolding catalog code bad_motif_text line spaced
+empty_block_prints =
+    output_bad_motif embeds (empty_block ++ catalog) (input_ok empty_block empty_length)
+    (ap holds_motif (first_block_lem empty_block empty_length) ∙ (block.claims).empty_motif_lem.not_handed_in)

@@ -1,9 +1,9 @@
 -- All of 01's examples, in its order: the small examples of the table of refusals, row 8's with 136 entries, the printed example of the
 -- screen program, the nine rows of the table of settled examples, the check 1888, three blocks byte by byte, the keys 139, the story with
 -- B = 2 and S = 1, the last of the plausible and false ways, a number used again (the others are in rows 6, 3, 7 and in the story), and a
--- story with S = 2. Behind them rows for 02, (i) to (iii) and (v) to (vii). Each is a row of `table`; that they all hold is `TableHolds`, and `holds`, in
+-- story with S = 2. Behind them rows for 02, (i) to (iii), (v) and (vi). Each is a row of `table`; that they all hold is `TableHolds`, and `holds`, in
 -- proofs/Holds, proves it by the definitions that the contracts of the calls cite.
-use Rattle.std.specs.Prelude.{ℕ, ◌≡◌, Bool, true, false, ◌||◌, List, [], ◌∷◌, ◌++◌, eqb, length, replicate, set}
+use Rattle.std.specs.Prelude.{ℕ, ◌≡◌, Bool, true, ◌||◌, List, [], ◌∷◌, ◌++◌, eqb, length, replicate, set}
 use Rattle.refusals.specs.declared.Refusal.{Refusal}
 use Rattle.refusals.specs.declared.Verdict.TheVariants.{Accepted}
 use Rattle.strand.specs.declared.Fold.{Fold}
@@ -22,11 +22,11 @@ use Rattle.window.specs.declared.Windowed.{Windowed}
 use Rattle.window.specs.declared.Windowed.TheVariants as windowed
 use Rattle.window.specs.Answers.{window_answer}
 use Rattle.octets.specs.Octets.{word32}
-use Rattle.block.specs.Content.{block_size, checksum_at, rechecked, empty_block, molecule_block, encode_molecule, encode_older, encode_entry}
-use Rattle.block.specs.Motif.{encode_motif, sound_motif}
-use Rattle.block.specs.Block.{put_block, sound_molecule}
+use Rattle.block.specs.Content.{block_size, checksum_at, rechecked, empty_block, encode_molecule, encode_entry}
+use Rattle.block.specs.Motif.{encode_motif}
+use Rattle.block.specs.Block.{put_block}
 use Rattle.calls.specs.Buffers.{motif_verdict}
-use Rattle.calls.specs.Calls.{Result, refused, done, found, found_all, add_outcome}
+use Rattle.calls.specs.Calls.{Result, refused, done, found, found_all}
 use Rattle.history.specs.Model.{Call, add, remove, query, batch, Event, call, Line, gave}
 use Rattle.history.specs.History.{Buffers, zeroed, Ran}
 use Rattle.history.specs.Examples.{Story, ByModel, ByRuns, gac, ggc, bonded, unbonded, ask, settled_story, reused_story, shared_slot_story, empty_motif_story}
@@ -58,10 +58,6 @@ pub data Row : Type 0 where
   checksum_row : Strand → ℕ → Row
   -- a block, and all its bytes
   block_bytes : (block bytes : List ℕ) → Row
-  -- a molecule that is added under number 0 of two, and the bytes of its block
-  added_bytes : Strand → (bytes : List ℕ) → Row
-  -- a block, and whether it is sound in a catalog, and as a motif
-  sound_row : (block : List ℕ) → Bool → Row
   -- the key of a motif
   key_row : Strand → ℕ → Row
   -- a molecule that check accepts, with the number of its arcs and its depth
@@ -102,9 +98,6 @@ Holds (settled_row e) =
     × VerifiedAt e e.places
 Holds (checksum_row q n) = word32 (encode_molecule q) checksum_at ≡ n
 Holds (block_bytes block bytes) = block ≡ bytes
--- the other block stays empty
-Holds (added_bytes q bytes) = (add_outcome (zeroed 2 1).catalog (zeroed 2 1).cache 0 q).catalog ≡ bytes ++ empty_block
-Holds (sound_row block ok) = (sound_molecule block ≡ ok) × (sound_motif block ≡ ok)
 Holds (key_row p n) = key p ≡ n
 Holds (fold_row q arcs depth) = check_answer q.bases q.mates ≡ checked.Nested (fold arcs depth)
 
@@ -154,11 +147,8 @@ uneven = record { catalog = replicate block_size 0; cache = replicate 513 0 }
 abbrev pub nine : List ℕ
 nine = rechecked (set (encode_molecule a) 0 9)
 
-abbrev pub unsound_with : List ℕ → Buffers
-unsound_with bad = record { catalog = put_block 1 bad (put_block 2 bad (zeroed 3 1).catalog); cache = (zeroed 3 1).cache }
-
 abbrev pub unsound : Buffers
-unsound = unsound_with nine
+unsound = record { catalog = put_block 1 nine (put_block 2 nine (zeroed 3 1).catalog); cache = (zeroed 3 1).cache }
 
 -- 01, The screen program: motif A (mate 0), then a block with A, then an empty block.
 abbrev pub screen_input : List ℕ
@@ -168,14 +158,14 @@ screen_input = encode_molecule a ++ (encode_molecule a ++ empty_block)
 abbrev pub screen_prints : List ℕ
 screen_prints = 104 ∷ 105 ∷ 116 ∷ 115 ∷ 32 ∷ 49 ∷ 32 ∷ 115 ∷ 101 ∷ 97 ∷ 114 ∷ 99 ∷ 104 ∷ 101 ∷ 100 ∷ 32 ∷ 49 ∷ 10 ∷ 48 ∷ 10 ∷ []
 
--- Blocks byte by byte, written from the sentences of 01 and of 02, (vii), which the comments quote, and by no definition of the library.
+-- Four blocks byte by byte, written from 01's sentences, which the comments quote, and by no definition of the library.
 abbrev zeros : ℕ → List ℕ
 zeros n = replicate n 0
 
 -- The block of A, 0. Its checksum is 1888 = 96 + 256 × 7.
 unfoldable pub bytes_of_a : List ℕ
 bytes_of_a =
-    -- "byte 0 is 1; byte 1 the length; 2 to 27 zero"; 02, (vii): the number of arcs in 4 and 5, here 0
+    -- "byte 0 is 1; byte 1 the length; 2 to 27 zero"
     (1 ∷ 1 ∷ zeros 26)
     -- "bases from 28"
     ++ (65 ∷ zeros 159)
@@ -188,15 +178,14 @@ bytes_of_a =
 unfoldable pub bytes_of_t : List ℕ
 bytes_of_t = (1 ∷ 1 ∷ zeros 26) ++ (84 ∷ zeros 159) ++ (0 ∷ 0 ∷ zeros 318) ++ (135 ∷ 9 ∷ 0 ∷ 0 ∷ [])
 
--- The block of GC, 1 0. Its checksum is 4268 = 172 + 256 × 16.
+-- The block of GC, 1 0. Its checksum is 4263 = 167 + 256 × 16.
 unfoldable pub bytes_of_gc : List ℕ
 bytes_of_gc =
-    -- 02, (vii): one arc in "bytes 4 and 5 of the molecule block, little-endian, which leave the rule of zero bytes"
-    (1 ∷ 2 ∷ 0 ∷ 0 ∷ 1 ∷ 0 ∷ zeros 22)
+    (1 ∷ 2 ∷ zeros 26)
     ++ (71 ∷ 67 ∷ zeros 158)
     -- "Two-byte numbers are little-endian."
     ++ (1 ∷ 0 ∷ 0 ∷ 0 ∷ zeros 316)
-    ++ (172 ∷ 16 ∷ 0 ∷ 0 ∷ [])
+    ++ (167 ∷ 16 ∷ 0 ∷ 0 ∷ [])
 
 -- The cache entry of GC, 1 0, with 0, 9 and 511 searched, and 9 and 511 hits. Its checksum is 127005 = 29 + 256 × 240 + 65536 × 1.
 abbrev pub was_searched : ℕ → Bool
@@ -479,40 +468,9 @@ spellings =
     ∷ block_bytes (encode_molecule (strand_of (84 ∷ []) (0 ∷ []))) bytes_of_t
     ∷ []
 
--- The older block of GC, 1 0. Its checksum is 4263 = 167 + 256 × 16.
-unfoldable pub bytes_of_older_gc : List ℕ
-bytes_of_older_gc =
-    (1 ∷ 2 ∷ zeros 26)
-    ++ (71 ∷ 67 ∷ zeros 158)
-    ++ (1 ∷ 0 ∷ 0 ∷ 0 ∷ zeros 316)
-    ++ (167 ∷ 16 ∷ 0 ∷ 0 ∷ [])
-
--- GC, 1 0, with the number of its bonded bases in place of that of its arcs. Its checksum is the right one.
-abbrev pub miscounted : List ℕ
-miscounted = molecule_block 2 bonded
-
--- 02, (vii), which has no examples of its own.
-unfoldable pub counts : List Row
-counts =
-    -- "Add writes it to bytes 4 and 5 of the molecule block, little-endian"
-    added_bytes bonded bytes_of_gc
-    ∷ sound_row bytes_of_gc true
-    -- "Zero there stays sound for older blocks"
-    ∷ block_bytes (encode_older bonded) bytes_of_older_gc
-    ∷ sound_row bytes_of_older_gc true
-    -- "any other number must be the true one": not 2, nor 1 + 256 × 1, where GC has one arc; not 1, where it has none
-    ∷ sound_row miscounted false
-    ∷ sound_row (molecule_block 257 bonded) false
-    ∷ sound_row (molecule_block 1 unbonded) false
-    -- 11 in a catalog, 15 in a batch, and no motif for the screen program
-    ∷ buffer_call (unsound_with miscounted) (ask bonded) (refused 11 no_side 1)
-    ∷ story (refused_batch (handed_in a a ++ (miscounted ++ empty_block)) 0 0 15 motif_side 2)
-    ∷ screen_text (miscounted ++ (encode_molecule a ++ empty_block)) bad_motif_prints
-    ∷ []
-
 -- All rows.
 unfoldable pub table : List Row
-table = refusals ++ (screen_text screen_input screen_prints ∷ settled_rows examples) ++ also ++ folds ++ windows ++ empty_motifs ++ batches ++ spellings ++ counts
+table = refusals ++ (screen_text screen_input screen_prints ∷ settled_rows examples) ++ also ++ folds ++ windows ++ empty_motifs ++ batches ++ spellings
 
 -- The claim: every row of the table holds.
 abbrev pub TableHolds : Type 0

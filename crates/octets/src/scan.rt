@@ -72,7 +72,7 @@ fn wide16(x: u8) -> u16
 }
 
 // The i-th two-byte number of s.
-pub fn word_at(s: &[u8], i: usize) -> u16
+fn word_at(s: &[u8], i: usize) -> u16
     requires { 2 * i + 1 < length s.now }
     ensures { result ≡ word16 s.now (2 * i) }
 {

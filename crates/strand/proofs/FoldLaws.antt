@@ -56,11 +56,6 @@ module _ (mates : List ℕ) where
       S : Selected (length mates) (begins mates) list
       S = selected (length mates) (begins mates)
 
-  -- There are no more arcs than bases.
-  pub arcs_few : arc_count mates ≤ length mates
-  unfolding arc_count
-  arcs_few = select_short (begins mates) (length mates)
-
   -- ---- the depth by lists of left ends
 
   -- Past the last base no arc begins.
@@ -106,7 +101,8 @@ module _ (mates : List ℕ) where
   chain_arcs k left C = arcs_most.most k left (record { arc = C.arc; rising = λ x l. (C.inside x l).0 })
 
   chain_short : (k : ℕ) (left : ℕ → ℕ) → Chain mates k left → k ≤ length mates
-  chain_short k left C = omega (arith, chain_arcs k left C, arcs_few)
+  unfolding arc_count
+  chain_short k left C = omega (arith, chain_arcs k left C, select_short (begins mates) (length mates))
 
   pub depth_most : IsDepth mates (depth_of mates)
   unfolding depth_of
@@ -137,9 +133,6 @@ module _ (mates : List ℕ) where
   -- Without arcs there is no chain.
   pub depth_none : arc_count mates ≡ 0 → depth_of mates ≡ 0
   depth_none e = omega (arith, e, chain_arcs (depth_of mates) depth_most.reached.0 depth_most.reached.1)
-
-  pub arcs_only : {n : ℕ} → IsArcCount mates n → n ≡ arc_count mates
-  arcs_only A = most_only A arcs_most
 
   pub depth_only : {d : ℕ} → IsDepth mates d → d ≡ depth_of mates
   depth_only D = most_only D depth_most

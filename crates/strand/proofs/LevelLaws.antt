@@ -9,14 +9,14 @@ use Prim.Native.Nat.{ℕ, zero, suc, ◌+◌, ◌*◌, ◌≤◌, ◌<◌}
 use native.Mathlib.Omega.{arith}
 use native.Mathlib.Decide.{dec_lt, dec_le, ℕ_discrete}
 use lib.ListN.{length}
-use borrow.Author.Tests.{lt-ltb, le-ltb, eq-eqb, ne_eqb}
+use borrow.Author.Tests.{lt-ltb, le-ltb, eqb-true}
 use Rattle.lists.specs.Vocabulary.{nth, tab, select, same_list}
-use Rattle.lists.proofs.ListLaws.{both_ways, length_tab, nth_tab, same_eq, same_all, select_short}
+use Rattle.lists.proofs.ListLaws.{both_ways, every_at, length_tab, nth_tab, same_eq, same_all, select_short}
 use Rattle.lists.proofs.Counts.{count, count_yes, count_no, count_ext, count_same, none_more}
-use Rattle.strand.specs.Folds.{begins, arc_count}
+use Rattle.strand.specs.Folds.{begins}
 use Rattle.strand.specs.Strands.{is_nested, Inside, Paired, Nested, greatest_length}
 use Rattle.strand.specs.Nesting.{Closes}
-use Rattle.strand.specs.Levels.{bonded, bonded_count, ends, level_at, name_step, name_at, NamesTold}
+use Rattle.strand.specs.Levels.{unbonded, ends, level_at, name_step, name_at, NamesTold}
 use Rattle.strand.proofs.NestingLaws.{closes_apart, apart_closes}
 use Rattle.strand.proofs.VerdictLaws.{nested_yes, nested_test}
 use Rattle.strand.proofs.FoldLaws.{opened, open_at, opened_yes, opened_no, open_left, open_none, open_right}
@@ -253,55 +253,17 @@ module _ (mates own told : List ℕ) (I : Inside (nth mates) (length mates)) (sh
       alike : Nested (nth mates) (length mates) → same_list own told ≡ true
       alike N = same_all own told (long ∙ sym T.long) (λ i l. nested_named N i (omega (arith, long)))
 
--- ---- bonded bases
+-- ---- mates without a bond
 
-module _ (mates : List ℕ) where
-  pub bonded_yes : (i : ℕ) → (nth mates i ≡ i → ⊥) → count (suc i) (bonded mates) ≡ count i (bonded mates) + 1
-  bonded_yes i h = count_yes (bonded mates) i (unfold bonded in (rw (ne_eqb (nth mates i) i h)))
-
-  pub bonded_no : (i : ℕ) → nth mates i ≡ i → count (suc i) (bonded mates) ≡ count i (bonded mates)
-  bonded_no i h = count_no (bonded mates) i (unfold bonded in (rw (eq-eqb (nth mates i) i h)))
-
-  -- A bonded base begins an arc or ends one.
-  bonded_split : (i : ℕ) → count i (bonded mates) ≡ count i (begins mates) + count i (ends mates)
-  bonded_split zero = unfold select in refl
-  bonded_split (suc i) = go (bonded_split i) (dec_lt i (nth mates i)) (dec_lt (nth mates i) i)
-    where
-      go : count i (bonded mates) ≡ count i (begins mates) + count i (ends mates) → Dec (i < nth mates i) → Dec (nth mates i < i)
-          → count (suc i) (bonded mates) ≡ count (suc i) (begins mates) + count (suc i) (ends mates)
-      go r (yes a) b = omega (arith, bonded_yes i (λ e. omega arith), begun_yes mates i a, ended_no mates i (omega arith))
-      go r (no a) (yes b) = omega (arith, bonded_yes i (λ e. omega arith), begun_no mates i (omega arith), ended_yes mates i b)
-      go r (no a) (no b) = omega (arith, bonded_no i (omega arith), begun_no mates i (omega arith), ended_no mates i (omega arith))
-
-  -- Behind the last base no arc is open, so that as many have ended as have begun: nested mates have two bonded bases for each arc.
-  pub bonded_arcs : is_nested mates ≡ true → bonded_count mates ≡ 2 * arc_count mates
-  unfolding bonded_count arc_count
-  bonded_arcs e = omega (arith, bonded_split (length mates), begun_open mates N.paired (length mates) (omega arith), none_open)
-    where
-      N : Nested (nth mates) (length mates)
-      N = nested_yes mates e
-
-      none_open : open_at mates (length mates) ≡ 0
-      none_open =
-          count_same (opened mates (length mates)) 0 (length mates) (omega arith)
-          (λ x u v. opened_no mates (length mates) x (N.inside x v)) ∙ unfold select in refl
-
-  -- Mates without a bond are nested.
-  pub unbonded_nested : bonded_count mates ≡ 0 → is_nested mates ≡ true
-  unfolding bonded_count
-  unbonded_nested e =
-      nested_test mates
-      (record {
-        inside = λ i l. omega (arith, own_mate i l);
-        paired = λ i l. ap (nth mates) (own_mate i l) ∙ own_mate i l;
-        apart = λ a i l u v w. omega (arith, own_mate a (omega arith));
-      })
-    where
-      none_first : count 0 (bonded mates) ≡ 0
-      none_first = unfold select in refl
-
-      own_mate : (i : ℕ) → i < length mates → nth mates i ≡ i
-      own_mate i l = elim (ℕ_discrete (nth mates i) i) [
-        | yes h ↦ h
-        | no h ↦ absurd (none_more (bonded mates) 0 (length mates) i (omega arith) l (none_first ∙ sym e) (unfold bonded in (rw (ne_eqb (nth mates i) i h))))
-      ]
+pub unbonded_nested : (mates : List ℕ) → unbonded mates ≡ true → is_nested mates ≡ true
+unfolding unbonded
+unbonded_nested mates e =
+    nested_test mates
+    (record {
+      inside = λ i l. omega (arith, own_mate i l);
+      paired = λ i l. ap (nth mates) (own_mate i l) ∙ own_mate i l;
+      apart = λ a i l u v w. omega (arith, own_mate a (omega arith));
+    })
+  where
+    own_mate : (i : ℕ) → i < length mates → nth mates i ≡ i
+    own_mate i l = eqb-true _ _ (every_at _ (length mates) i e l)

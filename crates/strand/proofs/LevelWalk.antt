@@ -1,4 +1,4 @@
--- The walks of the test by levels: the one that counts the bonded bases, the one that counts what differs, and the one that puts the names. How far each has come, one step, and its end.
+-- The walks of the test by levels: the one that counts what differs, and the one that puts the names. How far each has come, one step, and its end.
 use mathlib.Core.Path.{◌≡◌, refl, sym, ap, ◌∙◌}
 use mathlib.Core.Bool.{Bool, true, false}
 use mathlib.Core.List.{List, ◌++◌, append-nil}
@@ -11,34 +11,14 @@ use lib.Seq.{get_or-set_same, get_or-set_other}
 use lib.Dec.{eqb}
 use borrow.Author.Tests.{eq-eqb, ne_eqb, eqb-true}
 use Rattle.lists.specs.Vocabulary.{nth, choose, every, select, tab, same_list}
-use Rattle.lists.proofs.ListLaws.{both_ways, every_none, every_more, every_stop, every_at, every_true, choose_yes, choose_no, select_short}
+use Rattle.lists.proofs.ListLaws.{both_ways, every_none, every_more, every_stop, every_at, every_true, choose_yes, choose_no}
 use Rattle.lists.proofs.ListLaws.{same_eq, same_all, tab_none, tab_more, zeros_zero, zeros_at}
 use Rattle.lists.proofs.Counts.{count}
 use Rattle.strand.specs.Folds.{begins}
 use Rattle.strand.specs.Strands.{greatest_length}
-use Rattle.strand.specs.Levels.{bonded, bonded_count, ends, level_at, name_step, name_at, NamesTold}
+use Rattle.strand.specs.Levels.{unbonded, ends, level_at, name_step, name_at, NamesTold}
 use Rattle.strand.proofs.FoldWalk.{Below}
-use Rattle.strand.proofs.LevelLaws.{bonded_yes, bonded_no, begun_yes, begun_no, ended_yes, ended_no, ended_short, level_high}
-
--- ---- the bonded bases
-
-module _ (mates : List ℕ) where
-  pub bonded_none : 0 ≡ count 0 (bonded mates)
-  bonded_none = unfold select in refl
-
-  pub bonded_short : {i k : ℕ} → k ≡ count i (bonded mates) → k ≤ i
-  bonded_short {i} e = omega (arith, e, select_short (bonded mates) i)
-
-  -- d says whether the mate of i is another base.
-  pub bonded_next : {k : ℕ} (i d : ℕ) → d ≡ choose (eqb (nth mates i) i) 0 1 → k ≡ count i (bonded mates) → k + d ≡ count (i + 1) (bonded mates)
-  bonded_next i d is e = rw add-one (elim (ℕ_discrete (nth mates i) i) [
-    | yes h ↦ omega (arith, is ∙ choose_yes _ 0 1 (eq-eqb _ _ h), bonded_no mates i h)
-    | no h ↦ omega (arith, is ∙ choose_no _ 0 1 (ne_eqb _ _ h), bonded_yes mates i h)
-  ])
-
-  pub bonded_end : {i k : ℕ} → k ≡ count i (bonded mates) → i ≤ length mates → length mates ≤ i → k ≡ bonded_count mates
-  unfolding bonded_count
-  bonded_end {i} e u v = let z : i ≡ length mates = omega arith in e ∙ ap (λ (x : ℕ). count x (bonded mates)) z
+use Rattle.strand.proofs.LevelLaws.{begun_yes, begun_no, ended_yes, ended_no, ended_short, level_high}
 
 -- ---- what differs
 
@@ -79,6 +59,11 @@ module _ (p : ℕ → Bool) where
     | yes e ↦ eq-eqb k 0 e ∙ sym (let z : i ≡ n = omega arith in rw z at (D.passed e))
     | no e ↦ let x = D.failed (omega arith) in ne_eqb k 0 e ∙ sym (every_stop p n x.0 (omega (arith, x.1)) x.2)
   ]
+
+-- All bases are unbonded exactly where none is bonded.
+pub unbonded_end : (mates : List ℕ) {i k : ℕ} → Differing (λ x. eqb (nth mates x) x) i k → i ≤ length mates → length mates ≤ i → eqb k 0 ≡ unbonded mates
+unfolding unbonded
+unbonded_end mates D u v = differ_end _ D u v
 
 -- Lists of one length are the same exactly where no place differs.
 pub same_every : (xs ys : List ℕ) → length xs ≡ length ys → every (length xs) (λ i. eqb (nth xs i) (nth ys i)) ≡ same_list xs ys

@@ -1,14 +1,11 @@
--- Only the test of nesting by levels needs this file: how many bases are bonded, and the names by which mutual and nested mates are told.
-use Rattle.std.specs.Prelude.{ℕ, suc, ◌+◌, ◌-◌, ◌*◌, ◌<◌, ◌≡◌, Bool, not, List, ltb, eqb, length}
-use Rattle.lists.specs.Vocabulary.{nth, select}
+-- Only the test of nesting by levels needs this file: mates without a bond, and the names by which mutual and nested mates are told.
+use Rattle.std.specs.Prelude.{ℕ, suc, ◌+◌, ◌-◌, ◌*◌, ◌<◌, ◌≡◌, Bool, List, ltb, eqb, length}
+use Rattle.lists.specs.Vocabulary.{nth, every, select}
 use Rattle.strand.specs.Folds.{begins}
 
--- A base is bonded that is not its own mate; how many there are.
-unfoldable pub bonded : List ℕ → ℕ → Bool
-bonded mates i = not (eqb (nth mates i) i)
-
-unfoldable pub bonded_count : List ℕ → ℕ
-bonded_count mates = length (select (length mates) (bonded mates))
+-- Every base is its own mate.
+unfoldable pub unbonded : List ℕ → Bool
+unbonded mates = every (length mates) (λ i. eqb (nth mates i) i)
 
 -- An arc ends at i: the mate of i is less.
 unfoldable pub ends : List ℕ → ℕ → Bool

@@ -27,7 +27,7 @@ pub fn larger(a: usize, b: usize) -> usize
 }
 
 // How many arcs there are: each is counted at its left end. In 16 bits the processor counts several at a time.
-pub fn arc_count(mates: &[u16]) -> u16
+fn arc_count(mates: &[u16]) -> u16
     requires { length mates.now ≤ greatest_length }
     ensures { result ≡ arc_count mates.now }
 {

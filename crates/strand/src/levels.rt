@@ -2,7 +2,7 @@
 ghost use Rattle.std.specs.Prelude.{◌≡◌, ◌<◌, ◌≤◌, eqb, length, replicate};
 ghost use Rattle.lists.specs.Vocabulary.{nth, tab, choose, same_list};
 ghost use Rattle.strand.specs.Strands.{is_nested, Inside, greatest_length};
-ghost use Rattle.strand.specs.Levels.{bonded_count, name_at, NamesTold};
+ghost use Rattle.strand.specs.Levels.{unbonded, name_at, NamesTold};
 
 // A name is this times the sum of a base and its mate, and the level, which is less than this (specs/Levels).
 const NAME_STEP: u32 = 65536;
@@ -28,10 +28,10 @@ fn below(a: u32, b: u32) -> u32
     if a < b { 1 } else { 0 }
 }
 
-// How many bases are not their own mates. No branch depends on a mate.
-pub fn bonded_count(mates: &[u16]) -> u16
+// Whether every base is its own mate. No branch depends on a mate.
+pub fn all_unbonded(mates: &[u16]) -> bool
     requires { length mates.now ≤ greatest_length }
-    ensures { result ≡ bonded_count mates.now }
+    ensures { result ≡ unbonded mates.now }
 {
     let mut bonded: u16 = 0;
     let mut place: u16 = 0;
@@ -41,7 +41,7 @@ pub fn bonded_count(mates: &[u16]) -> u16
         place += 1;
         i += 1;
     }
-    bonded
+    bonded == 0
 }
 
 // The name of each base (specs/Levels), at its own place in `own` and at its mate's place in `told`. `next` is NAME_STEP times i, and the level before i: the

@@ -21,7 +21,7 @@ from .refusals import Reason, Refusal, Side
 from .store import Store, open_store
 from .strand import Strand, StructureError
 
-__version__ = '0.7.0'
+__version__ = '0.6.1'
 
 __all__ = [
     'BLOCK', 'BLOCKS_MOST', 'EMPTY', 'EMPTY_MOTIF', 'MOLECULE_MOST', 'MOST', 'MOTIFS_MOST', 'MOTIF_MOST',

@@ -219,11 +219,6 @@ fn shows() {
     goal.told();
 }
 
-/// The same catalog as it was before the number of arcs stood in its blocks.
-fn older(catalog: &[u8]) -> Vec<u8> {
-    catalog.chunks_exact(BLOCK).flat_map(|b| block::older_block(block::decode(&block::MOLECULE, b).lend())).collect()
-}
-
 /// The soundness pass over a catalog: a remove of a number behind its end, which is refused after the pass.
 fn molecule_passes(catalog: &[u8]) -> Vec<Version<'_>> {
     let (mut ours, mut of_rust) = (catalog.to_vec(), catalog.to_vec());
@@ -264,7 +259,7 @@ fn soundness() {
         "is refused after the pass), and for {SLOTS_MOST} entries (a query in a catalog of one empty block, with the writing of one entry, which the"
     );
     println!("C versions do not do). C, one walk takes the library's stretches; C, sum apart walks the block once more for the checksum. Nothing is");
-    println!("cleared before a call. Molecule blocks have the number of arcs, older ones zero in its place; without arcs they are the same blocks.");
+    println!("cleared before a call.");
     print_head("shape | blocks | n | library | C, one walk | C, sum apart | Rust | / C one walk | / C sum apart | / Rust");
     let mut by_walk = Goal::new("soundness pass / C, one walk", 1.1);
     let mut by_apart = Goal::new("soundness pass / C, sum apart", 0.6);
@@ -278,11 +273,7 @@ fn soundness() {
     let mut r = Random::new(SEED);
     for shape in SHAPES {
         for n in [MOLECULE_MOST, SHORT] {
-            let bytes = catalog(&mut r, shape, n);
-            row([shape.into(), format!("{BLOCKS_MOST} molecules"), n.to_string()], molecule_passes(&bytes));
-            if shape != "no arcs" {
-                row([shape.into(), format!("{BLOCKS_MOST} older molecules"), n.to_string()], molecule_passes(&older(&bytes)));
-            }
+            row([shape.into(), format!("{BLOCKS_MOST} molecules"), n.to_string()], molecule_passes(&catalog(&mut r, shape, n)));
         }
         row([shape.into(), format!("{SLOTS_MOST} entries"), MOTIF_MOST.to_string()], entry_passes(&cache(&mut r, shape)));
     }

@@ -1,17 +1,15 @@
 // The check of a strand and its fold, and two versions of the soundness pass in plain C, by the rules of document 01 and the requests (i) and (iii) to
-// (vii) of 02.
+// (vi) of 02.
 #include "peer.h"
 
-enum { BLOCK = 512, COUNT = 4, CHECKSUM = 508, SEARCHED = 380, HITS = 444, MAP = 64, BLOCK_BASES = 160 };
+enum { BLOCK = 512, CHECKSUM = 508, SEARCHED = 380, HITS = 444, MAP = 64, BLOCK_BASES = 160 };
 
-// A kind of block: its mark in byte 0, whether the number of arcs stands in bytes 4 and 5, where its bases lie, the least of them, and for how many there is
-// room. The mates follow that room.
+// A kind of block: its mark in byte 0, where its bases lie, the least of them, and for how many there is room. The mates follow that room.
 typedef struct {
-    int mark, counted, start, least, most;
+    int mark, start, least, most;
 } kind;
 
-static const kind MOLECULE = {1, 1, 28, PEER_LEAST_MOLECULE, BLOCK_BASES}, MOTIF = {1, 1, 28, PEER_LEAST_MOTIF, BLOCK_BASES},
-                  ENTRY = {2, 0, 20, PEER_LEAST_MOTIF, 120};
+static const kind MOLECULE = {1, 28, PEER_LEAST_MOLECULE, BLOCK_BASES}, MOTIF = {1, 28, PEER_LEAST_MOTIF, BLOCK_BASES}, ENTRY = {2, 20, PEER_LEAST_MOTIF, 120};
 
 // 1 where a byte is a letter, else 0. A sum, of which clang and gcc both make vector code; A and C are told by one comparison, and so are T and U.
 static uint8_t is_letter(uint8_t b) { return (b == 'A' || b == 'C') + (b == 'G') + (b == 'T' || b == 'U'); }
@@ -75,9 +73,6 @@ static void read_mates(const uint8_t *s, int n, uint16_t *mates) {
     for (int i = 0; i < n; i++) mates[i] = s[2 * i] | s[2 * i + 1] << 8;
 }
 
-// The number of arcs that a block names; 0 where it names none, as an older block and an entry.
-static uint16_t stored_count(const uint8_t *s, const kind *k) { return k->counted ? s[COUNT] | s[COUNT + 1] << 8 : 0; }
-
 static uint32_t stored_checksum(const uint8_t *s) { return s[CHECKSUM] | s[CHECKSUM + 1] << 8 | s[CHECKSUM + 2] << 16 | (uint32_t)s[CHECKSUM + 3] << 24; }
 
 // A soundness pass by this test of a block.
@@ -136,25 +131,12 @@ static pass maps(const uint8_t *s, uint32_t sum) {
     return (pass){!worst, sum};
 }
 
-// Kind, length and what stands before the bases: zeros but for the number of arcs, which is added to the sum where it is not zero. Where it is, the zeros from
-// it on are 24 bytes, which are tested eight at a time.
-static pass head(const uint8_t *s, const kind *k) {
-    uint32_t sum = weighed(1, s[0]) + weighed(2, s[1]);
-    if (!k->counted) return (pass){all_zero(s, 2, k->start), sum};
-    if (s[2] | s[3]) return (pass){0, 0};
-    if (!stored_count(s, k)) return (pass){all_zero(s, COUNT, k->start), sum};
-    sum += weighed(COUNT + 1, s[COUNT]) + weighed(COUNT + 2, s[COUNT + 1]);
-    return (pass){all_zero(s, COUNT + 2, k->start), sum};
-}
-
 // From byte 0 to the end of the room for mates, which are read.
 static pass content(const uint8_t *s, const kind *k, uint16_t *mates) {
     const pass unsound = {0, 0};
     int n = s[1], start = k->start, at = start + k->most;
-    if (s[0] != k->mark || n < k->least || k->most < n) return unsound;
-    pass p = head(s, k);
-    if (!p.ok) return unsound;
-    p = letters(s, start, start + n, p.sum);
+    if (s[0] != k->mark || n < k->least || k->most < n || !all_zero(s, 2, start)) return unsound;
+    pass p = letters(s, start, start + n, weighed(1, s[0]) + weighed(2, s[1]));
     if (!p.ok || !all_zero(s, start + n, at)) return unsound;
     read_mates(s + at, n, mates);
     p = mates_inside(mates, n, at, p.sum);
@@ -164,10 +146,10 @@ static pass content(const uint8_t *s, const kind *k, uint16_t *mates) {
 
 static uint16_t differs(uint16_t a, uint16_t b) { return a != b; }
 
-static uint16_t bonded_count(const uint16_t *mates, int n) {
+static int no_arcs(const uint16_t *mates, int n) {
     uint16_t bonded = 0;
     for (int i = 0; i < n; i++) bonded += differs(mates[i], i);
-    return bonded;
+    return !bonded;
 }
 
 // The room for a level in a name.
@@ -187,31 +169,27 @@ static int same_names(const uint16_t *mates, uint32_t n) {
     return !differing;
 }
 
-// Zero stays right as the number of arcs; any other number must be half of the bonded bases of the nested mates.
-static int ends_sound(const uint8_t *s, const kind *k, pass p, const uint16_t *mates) {
-    int n = s[1];
-    if (!p.ok || p.sum != stored_checksum(s)) return 0;
-    uint16_t bonded = bonded_count(mates, n), count = stored_count(s, k);
-    return (!bonded || same_names(mates, n)) && (!count || count == bonded / 2);
+static int ends_sound(const uint8_t *s, pass p, const uint16_t *mates) {
+    return p.ok && p.sum == stored_checksum(s) && (no_arcs(mates, s[1]) || same_names(mates, s[1]));
 }
 
 static int walk_molecule(const uint8_t *s) {
     uint16_t mates[BLOCK_BASES];
     if (!s[0]) return all_zero(s, 0, BLOCK);
-    return ends_sound(s, &MOLECULE, content(s, &MOLECULE, mates), mates);
+    return ends_sound(s, content(s, &MOLECULE, mates), mates);
 }
 
 // An empty block holds no motif, and has no mark.
 static int walk_motif(const uint8_t *s) {
     uint16_t mates[BLOCK_BASES];
-    return ends_sound(s, &MOTIF, content(s, &MOTIF, mates), mates);
+    return ends_sound(s, content(s, &MOTIF, mates), mates);
 }
 
 static int walk_entry(const uint8_t *s) {
     uint16_t mates[BLOCK_BASES];
     if (!s[0]) return all_zero(s, 0, BLOCK);
     pass p = content(s, &ENTRY, mates);
-    return p.ok && ends_sound(s, &ENTRY, maps(s, p.sum), mates);
+    return p.ok && ends_sound(s, maps(s, p.sum), mates);
 }
 
 size_t walk_unsound_molecule(const uint8_t *catalog, size_t blocks) { return lowest_unsound(walk_molecule, catalog, blocks); }
@@ -237,11 +215,9 @@ static int apart_content(const uint8_t *s, const kind *k) {
     uint16_t mates[BLOCK_BASES];
     int n = s[1], start = k->start, at = start + k->most;
     if (s[0] != k->mark || k->most < n) return 0;
-    if (!zeros(s, 2, COUNT) || !zeros(s, k->counted ? COUNT + 2 : COUNT, start)) return 0;
-    if (!zeros(s, start + n, at) || !zeros(s, at + 2 * n, at + 2 * k->most)) return 0;
+    if (!zeros(s, 2, start) || !zeros(s, start + n, at) || !zeros(s, at + 2 * n, at + 2 * k->most)) return 0;
     read_mates(s + at, n, mates);
-    uint16_t count = stored_count(s, k);
-    return peer_strand_ok(s + start, mates, n, k->least) && (!count || count == arc_count(mates, n)) && checksum(s) == stored_checksum(s);
+    return peer_strand_ok(s + start, mates, n, k->least) && checksum(s) == stored_checksum(s);
 }
 
 static int apart_molecule(const uint8_t *s) { return zeros(s, 0, BLOCK) || apart_content(s, &MOLECULE); }

@@ -52,8 +52,7 @@ pub fn damage_motif(r: &mut Random, b: &mut [u8]) {
 /// A sound block of a motif that no query takes.
 pub fn long_motif(r: &mut Random) -> [u8; BLOCK] {
     let n = r.between(ENTRY.most + 1, MOTIF.most);
-    let motif = make::strand(r, n);
-    blocks::either(r, &motif)
+    block::molecule_block(make::strand(r, n).lend())
 }
 
 /// The library's batch and its single queries in the order of the batch, each on a copy of the buffers; a batch that is refused is passed over.
@@ -166,7 +165,7 @@ fn in_one_slot() {
     report("motifs of batches in one slot", count);
 }
 
-/// The same motif in every block, in some of them an older one: the first searches what the cache does not know, the others nothing, and all have its hits.
+/// The same motif in every block: the first searches what the cache does not know, the others nothing, and all have its hits.
 #[test]
 fn of_repeated_motifs() {
     let mut r = seeded();
@@ -177,7 +176,7 @@ fn of_repeated_motifs() {
         let (b, k) = (r.between(1, 12), some_motifs(&mut r));
         let slots = r.between(1, 8);
         let mut shop = Shop { catalog: blocks::catalog(&mut r, b, &molecules, 0), cache: blocks::cache(&mut r, slots, b, &motifs) };
-        let bytes = blocks::motifs(&mut r, k, std::slice::from_ref(motif));
+        let bytes = block::molecule_block(motif.lend()).repeat(k);
         let (found, read) = run(&mut r, &mut shop, &bytes).expect("accepted");
         assert_eq!(read, found[0].searched);
         assert!(found[1..].iter().all(|again| again.searched == 0 && again.hits == found[0].hits), "{found:?}: {motif:?} on {shop:?}");

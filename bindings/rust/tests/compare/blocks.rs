@@ -1,6 +1,6 @@
 //! Random blocks: sound ones, and ones spoilt by one rule at a time.
 use crate::make;
-use crate::plain::block::{self, BLOCK, CHECKSUM, COUNT, ENTRY, HIT, Layout, MOLECULE, Owned, SEARCHED};
+use crate::plain::block::{self, BLOCK, CHECKSUM, ENTRY, HIT, Layout, MOLECULE, Owned, SEARCHED};
 use crate::plain::strand::Strand;
 use crate::random::Random;
 
@@ -16,24 +16,6 @@ pub fn written(bytes: &[u8]) -> String {
         at += run.len();
     }
     text + "; else 0]"
-}
-
-/// The block of a molecule or a motif: as add writes it, or an older one.
-pub fn either(r: &mut Random, s: &Owned) -> [u8; BLOCK] {
-    if r.one_in(3) { block::older_block(s.lend()) } else { block::molecule_block(s.lend()) }
-}
-
-/// Another number in the place of the number of arcs: near to it, in byte 5 too, or any. In an entry these are zero bytes.
-fn spoil_count(r: &mut Random, block: &mut [u8]) {
-    let count = u16::from_le_bytes([block[COUNT], block[COUNT + 1]]);
-    let other = match r.below(5) {
-        0 => count.wrapping_add(1),
-        1 => count.wrapping_sub(1),
-        2 => count.wrapping_add(256),
-        3 => count.swap_bytes(),
-        _ => r.below(65536) as u16,
-    };
-    block[COUNT..COUNT + 2].copy_from_slice(&other.to_le_bytes());
 }
 
 /// An entry with random maps: it may lie, and name numbers that no catalog holds.
@@ -58,7 +40,7 @@ fn spoil_strand(r: &mut Random, layout: &Layout, block: &mut [u8]) {
 pub fn spoil(r: &mut Random, layout: &Layout, block: &mut [u8]) {
     let n = block[1] as usize;
     let free = layout.most - n;
-    match r.below(19) {
+    match r.below(17) {
         0 => block[0] = r.pick(&[0, 3 - layout.kind, 3, 9, 255]),
         1 => block[1] = r.pick(&[0, layout.most as u8 + 1, 255]),
         2 => block[1] = if r.one_in(2) { block[1].wrapping_sub(1) } else { block[1] + 1 },
@@ -78,8 +60,7 @@ pub fn spoil(r: &mut Random, layout: &Layout, block: &mut [u8]) {
             block[at] = r.pick(&[1, 2, 65, 255]);
         }
         12 => block.iter_mut().for_each(|b| *b = r.below(256) as u8),
-        13 | 14 => spoil_count(r, block),
-        15 => {
+        13 => {
             block[r.between(CHECKSUM, BLOCK - 1)] ^= 1 << r.below(8);
             return;
         }
@@ -94,14 +75,14 @@ pub fn spoil(r: &mut Random, layout: &Layout, block: &mut [u8]) {
     }
 }
 
-/// A buffer of B catalog blocks, older ones among them; one in `spoilt` of the molecules is damaged, none where it is 0.
+/// A buffer of B catalog blocks; one in `spoilt` of the molecules is damaged, none where it is 0.
 pub fn catalog(r: &mut Random, blocks: usize, pool: &[Owned], spoilt: usize) -> Vec<u8> {
     let mut bytes = vec![0; BLOCK * blocks];
     let full = r.between(1, 4);
     for b in bytes.chunks_exact_mut(BLOCK) {
         if r.below(4) < full {
             let at = r.below(pool.len());
-            b.copy_from_slice(&either(r, &pool[at]));
+            b.copy_from_slice(&block::molecule_block(pool[at].lend()));
             if spoilt != 0 && r.one_in(spoilt) {
                 spoil(r, &MOLECULE, b);
             }
@@ -110,13 +91,9 @@ pub fn catalog(r: &mut Random, blocks: usize, pool: &[Owned], spoilt: usize) -> 
     bytes
 }
 
-/// A buffer of motif blocks, older ones among them, each with any of the motifs.
+/// A buffer of motif blocks, each with any of the motifs.
 pub fn motifs(r: &mut Random, blocks: usize, pool: &[Owned]) -> Vec<u8> {
-    let block = |_| {
-        let at = r.below(pool.len());
-        either(r, &pool[at])
-    };
-    (0..blocks).flat_map(block).collect()
+    (0..blocks).flat_map(|_| block::molecule_block(pool[r.below(pool.len())].lend())).collect()
 }
 
 /// A buffer of S cache blocks with entries of any of the motifs in any slot; one in four is damaged.

@@ -195,7 +195,7 @@ fn every_byte(original: &[u8; BLOCK], test: fn(&[u8; BLOCK])) -> usize {
 }
 
 /// A motif block, the second of a batch with no room for hits, which is refused with 9 behind 15 and 3.
-pub fn passes_as_motif(b: &[u8; BLOCK]) {
+fn passes_as_motif(b: &[u8; BLOCK]) {
     let expected = match b[1] as usize {
         _ if block::empty(b) || !block::sound(&MOTIF, b) => Refused(15, 0, 1),
         n if ENTRY.most < n => Refused(3, 0, 1),
@@ -209,7 +209,7 @@ pub fn passes_as_motif(b: &[u8; BLOCK]) {
 }
 
 /// A molecule block: a remove past the end is refused with 12 after the soundness pass, with 11 by it.
-pub fn passes_as_molecule(b: &[u8; BLOCK]) {
+fn passes_as_molecule(b: &[u8; BLOCK]) {
     let expected = if block::sound(&MOLECULE, b) { Refused(12, 2, 0) } else { Refused(11, 2, 0) };
     let answer = lakhido::remove(&mut b.clone(), &mut [0; BLOCK], 1).map_err(refused);
     assert_eq!(answer, Err(expected), "library, plain; remove 1 in {}", written(b));
@@ -231,10 +231,8 @@ fn every_byte_of_a_block() {
     let mut count = 0;
     for n in [0, 1, r.between(2, MOLECULE.most - 1), MOLECULE.most] {
         let s = make::strand(&mut r, n);
-        for form in [block::molecule_block, block::older_block] {
-            count += every_byte(&form(s.lend()), passes_as_molecule);
-            count += every_byte(&form(s.lend()), passes_as_motif);
-        }
+        count += every_byte(&block::molecule_block(s.lend()), passes_as_molecule);
+        count += every_byte(&block::molecule_block(s.lend()), passes_as_motif);
     }
     for n in [0, 1, r.between(2, ENTRY.most - 1), ENTRY.most] {
         let s = make::strand(&mut r, n);

@@ -1,4 +1,4 @@
-//! Holds the library to `plain`, an independent implementation of document 01 and the requests (i) to (vii) of 02: the same inputs, answers and all
+//! Holds the library to `plain`, an independent implementation of document 01 and the requests (i) to (vi) of 02: the same inputs, answers and all
 //! buffers compared byte for byte.
 //!
 //! Each test prints its seed and how many comparisons it made (`cargo test --release -- --nocapture`). LAKHIDO_SEED sets the seed; otherwise it is taken
@@ -6,7 +6,6 @@
 mod batch;
 mod blocks;
 mod catalog;
-mod counts;
 mod direct;
 mod guard;
 mod histories;

@@ -26,8 +26,8 @@ module _ {qm : List ℕ} {n : ℕ} (N : Nested (nth qm) n) {lo hi best size i : 
         (seen_arc N lo hi best size i best size S (omega arith) (omega arith) (Z.high i S.low h) S.best_low S.best_high
         S.arc S.none (omega arith) (omega arith) S.first)
 
-    no_arc : (k best' size' i' : ℕ) → k ≡ nth qm i → k ≤ i → best' ≡ best → size' ≡ size → i' ≡ i → Seen qm lo hi best' size' (i' + 1)
-    no_arc k best' size' i' e l a b d = rw (a, b, d) (seen_base N lo hi best size i S h (omega arith))
+    no-arc : (k best' size' i' : ℕ) → k ≡ nth qm i → k ≤ i → best' ≡ best → size' ≡ size → i' ≡ i → Seen qm lo hi best' size' (i' + 1)
+    no-arc k best' size' i' e l a b d = rw (a, b, d) (seen_base N lo hi best size i S h (omega arith))
 
     next-high : (k : ℕ) → k ≡ nth qm i → k < hi
     next-high k e = omega (arith, Z.high i S.low h)
@@ -74,7 +74,7 @@ loop-again c =
     ⊎_elim (λ w. new-best at-start.requires.0 at-loop.loop.invariant at-start.requires.1.0.1 at-start.requires.1.1 at-loop-test.loop-test.true _ _ _ _
     at-mate.mate.ensures w.0.taken w.1.taken w.2 w.3 w.4) (λ v. ⊎_elim (λ w. old-best at-start.requires.0 at-loop.loop.invariant
     at-start.requires.1.0.1 at-start.requires.1.1 at-loop-test.loop-test.true _ _ _ _ at-mate.mate.ensures w.0.taken w.1.left w.2
-    w.3 w.4) (λ w. no_arc at-start.requires.0 at-loop.loop.invariant at-start.requires.1.0.1 at-start.requires.1.1 at-loop-test.loop-test.true
+    w.3 w.4) (λ w. no-arc at-start.requires.0 at-loop.loop.invariant at-start.requires.1.0.1 at-start.requires.1.1 at-loop-test.loop-test.true
     _ _ _ _ at-mate.mate.ensures w.0.left w.1 w.2 w.3) v) at-if1.if1.branch
 
 returns : tie.Need-returns invariant-loop decreases-loop

@@ -1,5 +1,5 @@
 //! Blocks of 512 bytes: checksum, soundness, encoding.
-use super::strand::{self, Strand, arc_count, judge};
+use super::strand::{self, Strand, judge};
 
 pub const BLOCK: usize = 512;
 const MOLECULE_BASES: usize = 160;
@@ -11,8 +11,6 @@ pub struct Layout {
     /// Of the strand that it holds: a molecule, or a motif, which may have no bases.
     pub side: u32,
     pub most: usize,
-    /// "Bytes 4 and 5 of the molecule block", the number of arcs, "leave the rule of zero bytes" (02, (vii)); an entry has no such number.
-    pub counted: bool,
     pub bases: usize,
     pub mates: usize,
     /// What follows the mates, up to the checksum, is maps.
@@ -21,9 +19,8 @@ pub struct Layout {
 
 /// A motif handed in: "motifs as molecule blocks", and "a motif block may have length 0" (02, (v) and (iii)).
 pub const MOTIF: Layout = Layout { side: strand::MOTIF, ..MOLECULE };
-pub const MOLECULE: Layout = Layout { kind: 1, side: strand::MOLECULE, most: MOLECULE_BASES, counted: true, bases: 28, mates: 188, maps: 508 };
-pub const ENTRY: Layout = Layout { kind: 2, side: strand::MOTIF, most: MOTIF_BASES, counted: false, bases: 20, mates: 140, maps: 380 };
-pub const COUNT: usize = 4;
+pub const MOLECULE: Layout = Layout { kind: 1, side: strand::MOLECULE, most: MOLECULE_BASES, bases: 28, mates: 188, maps: 508 };
+pub const ENTRY: Layout = Layout { kind: 2, side: strand::MOTIF, most: MOTIF_BASES, bases: 20, mates: 140, maps: 380 };
 pub const SEARCHED: usize = 380;
 pub const HIT: usize = 444;
 pub const CHECKSUM: usize = 508;
@@ -68,24 +65,13 @@ fn zero(bytes: &[u8]) -> bool {
     bytes.iter().all(|&b| b == 0)
 }
 
-/// The zero bytes before the bases.
-fn zero_head(layout: &Layout, block: &[u8]) -> bool {
-    if layout.counted { zero(&block[2..COUNT]) && zero(&block[COUNT + 2..layout.bases]) } else { zero(&block[2..layout.bases]) }
-}
-
-/// "Zero there stays sound for older blocks; any other number must be the true one" (02, (vii)).
-fn count_right(layout: &Layout, block: &[u8], mates: &[u16]) -> bool {
-    let count = number(block, COUNT) as usize;
-    !layout.counted || count == 0 || count == arc_count(mates)
-}
-
 /// Every rule of a block that is not empty. The row 2 says that a molecule has a base.
 pub fn sound_full(layout: &Layout, block: &[u8]) -> bool {
     let n = block[1] as usize;
     if block[0] != layout.kind || n > layout.most {
         return false;
     }
-    if !zero_head(layout, block) || !zero(&block[layout.bases + n..layout.mates]) || !zero(&block[layout.mates + 2 * n..layout.maps]) {
+    if !zero(&block[2..layout.bases]) || !zero(&block[layout.bases + n..layout.mates]) || !zero(&block[layout.mates + 2 * n..layout.maps]) {
         return false;
     }
     if block[CHECKSUM..] != checksum(block).to_le_bytes() {
@@ -98,8 +84,7 @@ pub fn sound_full(layout: &Layout, block: &[u8]) -> bool {
     for (i, mate) in mates[..n].iter_mut().enumerate() {
         *mate = number(block, layout.mates + 2 * i);
     }
-    let strand = Strand::new(&block[layout.bases..layout.bases + n], &mates[..n]);
-    judge(strand, layout.side, layout.most).is_none() && count_right(layout, block, strand.mates)
+    judge(Strand::new(&block[layout.bases..layout.bases + n], &mates[..n]), layout.side, layout.most).is_none()
 }
 
 pub fn sound(layout: &Layout, block: &[u8]) -> bool {
@@ -118,22 +103,10 @@ fn encode(layout: &Layout, s: Strand) -> [u8; BLOCK] {
     block
 }
 
-/// The block of a molecule with this number in the place of the number of arcs.
-pub fn counted_block(s: Strand, count: u16) -> [u8; BLOCK] {
+pub fn molecule_block(s: Strand) -> [u8; BLOCK] {
     let mut block = encode(&MOLECULE, s);
-    block[COUNT..COUNT + 2].copy_from_slice(&count.to_le_bytes());
     seal(&mut block);
     block
-}
-
-/// The block that add writes.
-pub fn molecule_block(s: Strand) -> [u8; BLOCK] {
-    counted_block(s, arc_count(s.mates) as u16)
-}
-
-/// The block of the same molecule from before the number of arcs stood in it.
-pub fn older_block(s: Strand) -> [u8; BLOCK] {
-    counted_block(s, 0)
 }
 
 /// The entry of a motif with the given numbers searched, each with whether it is a hit.

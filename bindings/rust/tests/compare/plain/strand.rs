@@ -94,11 +94,6 @@ fn arcs(mates: &[u16]) -> Vec<(usize, usize)> {
     (0..mates.len()).map(|i| (i, mates[i] as usize)).filter(|&(i, j)| i < j && mates.get(j).is_some_and(|&k| k as usize == i)).collect()
 }
 
-/// How many arcs nested mates have: each is counted at its left end.
-pub fn arc_count(mates: &[u16]) -> usize {
-    (0..mates.len()).filter(|&i| i < mates[i] as usize).count()
-}
-
 /// The lowest i with a < i < b < j for arcs (a, b) and (i, j). The right ends of the arcs around i are on a stack, the nearest on top: until the
 /// first crossing they are nested. Mates that are not mutual are taken as no arc.
 pub fn lowest_crossing(mates: &[u16]) -> Option<usize> {

@@ -62,7 +62,7 @@ returns : tie.Need-returns invariant-loop decreases-loop
 returns c =
     let at-loop = c.before in
     let at-start = at-loop.before.before in
-    laws.count_end_lem (map_bit at-start.args.map.now at-start.args.at) at-loop.loop.d at-start.args.n _ c.loop-test.false
+    laws.count_end (map_bit at-start.args.map.now at-start.args.at) at-loop.loop.d at-start.args.n _ c.loop-test.false
     at-loop.loop.invariant.0 at-loop.loop.invariant.1
 
 pub count-in-spec : {M : Type 1} → statement M

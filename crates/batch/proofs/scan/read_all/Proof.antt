@@ -76,7 +76,7 @@ returns : tie.Need-returns invariant-loop decreases-loop
 returns c =
     let at-loop = c.before in
     let at-start = at-loop.before.before.before.before in (
-      counting.count_end_lem (map_bit at-start.args.wanted.now 0) at-loop.loop.d _ _ c.loop-test.false at-loop.loop.invariant.0 at-loop.loop.invariant.1,
+      counting.count_end (map_bit at-start.args.wanted.now 0) at-loop.loop.d _ _ c.loop-test.false at-loop.loop.invariant.0 at-loop.loop.invariant.1,
       molecules.bonds_end _ _ _ at-loop.loop.d _ c.loop-test.false at-loop.loop.invariant.2,
     )
 

@@ -4,12 +4,16 @@ use native.Mathlib.Omega.{arith}
 use mathlib.Core.Path.{sym, ◌∙◌}
 use borrow.Author.Tests.{not-true, not-false}
 use Rattle.lists.proofs.ListLaws.{never}
+use Rattle.block.proofs.SumLaws.{sum_none}
 use Rattle.block.proofs.SoundLaws as laws
 use Rattle.block.proofs.sound.base_bytes.Statement.{statement}
 use Rattle.block.proofs.sound.base_bytes.Tie as tie
 
 add-e : tie.Need-overflow-add-e
 add-e c = search rules
+
+gather-requires : tie.Need-gather-requires
+gather-requires c κs = ((omega arith, omega arith, omega arith), sym (sum_none _))
 
 zeros-requires : tie.Need-zeros-requires
 zeros-requires c κs = search rules
@@ -55,4 +59,4 @@ returns-3 c =
     )
 
 pub base-bytes-spec : {M : Type 1} → statement M
-base-bytes-spec = tie.close (tie.spec add-e zeros-requires returns bases-requires returns-2 add-zeros zeros-requires-2 returns-3)
+base-bytes-spec = tie.close (tie.spec add-e gather-requires zeros-requires returns bases-requires returns-2 add-zeros zeros-requires-2 returns-3)

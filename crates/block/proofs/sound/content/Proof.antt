@@ -16,8 +16,7 @@ refused-requires : tie.Need-refused-requires
 refused-requires c κs = search rules
 
 returns : tie.Need-returns
-returns c =
-    let wrong = c.refused.ensures in (wrong ∙ laws.content_wrong _ _ _ (sym (laws.other_mark _ _ _ c.before.if1.true)), λ e. never (sym wrong ∙ e))
+returns c = let wrong = c.refused.ensures in (wrong ∙ laws.bytes_wrong _ _ (sym (laws.other_mark _ _ _ c.before.if1.true)), λ e. never (sym wrong ∙ e))
 
 shared-slice-read-n : tie.Need-shared-slice-read-n
 shared-slice-read-n c = search rules
@@ -33,7 +32,7 @@ returns-2 c =
     let at-if2 = c.before in
     let at-if1 = at-if2.before.before in
     let wrong = c.refused2.ensures in
-    (wrong ∙ laws.content_wrong _ _ _ (sym (laws.too_few_bases _ _ _ at-if1.if1.false at-if2.if2.true)), λ e. never (sym wrong ∙ e))
+    (wrong ∙ laws.bytes_wrong _ _ (sym (laws.too_few_bases _ _ _ at-if1.if1.false at-if2.if2.true)), λ e. never (sym wrong ∙ e))
 
 refused-requires-3 : tie.Need-refused-requires-3
 refused-requires-3 c κs = search rules
@@ -43,10 +42,8 @@ returns-3 c =
     let at-if3 = c.before in
     let at-if2 = at-if3.before in
     let at-if1 = at-if2.before.before in
-    let wrong = c.refused3.ensures in (
-      wrong ∙ laws.content_wrong _ _ _ (sym (laws.too_many_bases _ _ _ at-if1.if1.false at-if2.if2.false at-if3.if3.true)),
-      λ e. never (sym wrong ∙ e),
-    )
+    let wrong = c.refused3.ensures in
+    (wrong ∙ laws.bytes_wrong _ _ (sym (laws.too_many_bases _ _ _ at-if1.if1.false at-if2.if2.false at-if3.if3.true)), λ e. never (sym wrong ∙ e))
 
 base-bytes-requires : tie.Need-base-bytes-requires
 base-bytes-requires c κs = search rules
@@ -59,7 +56,7 @@ returns-4 c =
     let at-if1 = at-if2.before.before in
     let wrong = not-true _ c.if4.true in (
       wrong
-          ∙ laws.content_wrong _ _ _
+          ∙ laws.bytes_wrong _ _
           (sym (laws.bases_wrong _ _ _ at-if1.if1.false at-if2.if2.false at-if3.if3.false (sym at-base-bytes.base-bytes.ensures.0 ∙ wrong))),
       λ e. never (sym wrong ∙ e),
     )
@@ -80,7 +77,7 @@ returns-5 c =
     let at-if2 = at-if3.before in
     let at-if1 = at-if2.before.before in (
       c.mate-bytes.ensures.0
-          ∙ laws.content_mates _ _ _ at-if1.if1.false at-if2.if2.false at-if3.if3.false
+          ∙ laws.content_mates _ _ at-if1.if1.false at-if2.if2.false at-if3.if3.false
           (sym at-base-bytes.base-bytes.ensures.0 ∙ not-false _ at-if4.if4.false),
       λ e. c.mate-bytes.ensures.1 e ∙ ap (sum_to _) (omega arith),
     )

@@ -1,4 +1,4 @@
--- `block::sound::mate_bytes` meets its contract: nested mates with the right number of arcs, and zeros behind them.
+-- `block::sound::mate_bytes` meets its contract: nested mates, and zeros behind them.
 use borrow.Author.Rules.{rules}
 use native.Mathlib.Omega.{arith}
 use mathlib.Core.Path.{sym, ◌∙◌}
@@ -15,7 +15,7 @@ mates-requires c κs = search rules
 returns : tie.Need-returns
 returns c =
     let wrong = not-true _ c.if1.true in
-    (wrong ∙ laws.mates_wrong _ _ _ _ _ (sym c.before.before.mates.ensures.0 ∙ wrong), λ e. never (sym wrong ∙ e))
+    (wrong ∙ laws.not_nested _ _ _ _ (sym c.before.before.mates.ensures.0 ∙ wrong), λ e. never (sym wrong ∙ e))
 
 mul-zeros : tie.Need-overflow-mul-zeros
 mul-zeros c = search rules
@@ -32,14 +32,14 @@ add-zeros-2 c = search rules
 zeros-requires : tie.Need-zeros-requires
 zeros-requires c κs =
     let mates = c.before.before.mates.ensures in
-    let nested = laws.mates_nested _ _ (sym mates.0 ∙ not-false _ c.if1.false) in
+    let nested = sym mates.0 ∙ not-false _ c.if1.false in
     ((omega arith, omega arith), mates.1 (nested_small _ _ (omega arith) nested))
 
 returns-2 : tie.Need-returns-2
 returns-2 c =
     let at-if1 = c.before in
     let at-mates = at-if1.before.before in
-    (c.zeros.ensures.0 ∙ laws.mates_unused _ _ _ _ _ (sym at-mates.mates.ensures.0 ∙ not-false _ at-if1.if1.false), c.zeros.ensures.1)
+    (c.zeros.ensures.0 ∙ laws.nested_unused _ _ _ _ (sym at-mates.mates.ensures.0 ∙ not-false _ at-if1.if1.false), c.zeros.ensures.1)
 
 pub mate-bytes-spec : {M : Type 1} → statement M
 mate-bytes-spec = tie.close (tie.spec mates-requires returns mul-zeros add-zeros mul-zeros-2 add-zeros-2 zeros-requires returns-2)

@@ -2,21 +2,10 @@
 -- content and maps, and the sum over both is compared.
 use borrow.Author.Rules.{rules}
 use borrow.Author.Tests.{not-false, not-true}
-use native.Mathlib.Omega.{arith}
-use mathlib.Core.Path.{◌≡◌, ◌∙◌, sym}
-use mathlib.Core.Bool.{Bool, ◌&&◌}
-use mathlib.Core.List.{List}
-use Prim.Native.Nat.{ℕ}
-use Rattle.block.specs.Content.{entry_kind, mates_in}
-use Rattle.block.specs.Block.{content_ok, count_right}
-use Rattle.block.proofs.SumLaws.{sum_none}
+use mathlib.Core.Path.{◌∙◌, sym}
 use Rattle.block.proofs.SoundLaws as laws
 use Rattle.block.proofs.sound.sound_entry.Statement.{statement}
 use Rattle.block.proofs.sound.sound_entry.Tie as tie
-
--- An entry names no arcs.
-older : (s : List ℕ) {b : Bool} → b ≡ (content_ok entry_kind s && count_right 0 (mates_in entry_kind s)) → content_ok entry_kind s ≡ b
-older s e = sym (e ∙ laws.content_older entry_kind s)
 
 returns : tie.Need-returns
 returns c = laws.entry_length _ c.if1.true
@@ -33,23 +22,20 @@ returns-2 c =
     let at-if1 = at-if2.before.before in
     c.all-zero.ensures ∙ laws.entry_unmarked _ at-if1.if1.false at-if2.if2.true
 
-gather-requires : tie.Need-gather-requires
-gather-requires c κs = ((omega arith, omega arith, omega arith), sym (sum_none _))
-
 content-requires : tie.Need-content-requires
-content-requires c κs = ((c.before.before.before.if1.false, omega arith, omega arith, omega arith), (omega arith, c.gather.ensures))
+content-requires c κs = search rules
 
 returns-3 : tie.Need-returns-3
 returns-3 c =
     let at-content = c.before.before in
-    let at-if2 = at-content.before.before in
+    let at-if2 = at-content.before in
     let at-if1 = at-if2.before.before in
-    laws.entry_content _ at-if1.if1.false at-if2.if2.false (older _ at-content.content.ensures.0 ∙ not-true _ c.if3.true)
+    laws.entry_content _ at-if1.if1.false at-if2.if2.false (sym at-content.content.ensures.0 ∙ not-true _ c.if3.true)
 
 maps-requires : tie.Need-maps-requires
 maps-requires c κs =
     let at-content = c.before.before in
-    let at-if1 = at-content.before.before.before.before in
+    let at-if1 = at-content.before.before.before in
     (at-if1.if1.false, at-content.content.ensures.1 (not-false _ c.if3.false))
 
 returns-4 : tie.Need-returns-4
@@ -57,9 +43,9 @@ returns-4 c =
     let at-maps = c.before.before in
     let at-if3 = at-maps.before in
     let at-content = at-if3.before.before in
-    let at-if2 = at-content.before.before in
+    let at-if2 = at-content.before in
     let at-if1 = at-if2.before.before in
-    laws.entry_hits _ at-if1.if1.false at-if2.if2.false (older _ at-content.content.ensures.0 ∙ not-false _ at-if3.if3.false)
+    laws.entry_hits _ at-if1.if1.false at-if2.if2.false (sym at-content.content.ensures.0 ∙ not-false _ at-if3.if3.false)
     (sym at-maps.maps.ensures.0 ∙ not-true _ c.if4.true)
 
 checksum-in-requires : tie.Need-checksum-in-requires
@@ -72,12 +58,12 @@ returns-5 c =
     let at-maps = at-if4.before.before in
     let at-if3 = at-maps.before in
     let at-content = at-if3.before.before in
-    let at-if2 = at-content.before.before in
+    let at-if2 = at-content.before in
     let at-if1 = at-if2.before.before in
     laws.sum_check _ at-maps.maps.ensures.1 at-checksum-in.checksum-in.ensures
-    ∙ laws.entry_check _ at-if1.if1.false at-if2.if2.false (older _ at-content.content.ensures.0 ∙ not-false _ at-if3.if3.false)
+    ∙ laws.entry_check _ at-if1.if1.false at-if2.if2.false (sym at-content.content.ensures.0 ∙ not-false _ at-if3.if3.false)
     (sym at-maps.maps.ensures.0 ∙ not-false _ at-if4.if4.false)
 
 pub sound-entry-spec : {M : Type 1} → statement M
-sound-entry-spec = tie.close (tie.spec returns shared-slice-read-if2 all-zero-requires returns-2 gather-requires content-requires returns-3 maps-requires
-    returns-4 checksum-in-requires returns-5)
+sound-entry-spec = tie.close (tie.spec returns shared-slice-read-if2 all-zero-requires returns-2 content-requires returns-3 maps-requires returns-4
+    checksum-in-requires returns-5)

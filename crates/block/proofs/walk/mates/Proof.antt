@@ -4,7 +4,7 @@ use mathlib.Core.Path.{◌∙◌, sym, ap}
 use native.Mathlib.Omega.{arith}
 use lib.ListN.{length-drop, length-take}
 use lib.Seq.{length-take-le}
-use Rattle.block.specs.Walk.{mates_ok}
+use Rattle.strand.specs.Strands.{is_nested}
 use Rattle.block.proofs.SumLaws.{sum_small}
 use Rattle.block.proofs.WalkLaws.{read_first, mates_passed}
 use Rattle.block.proofs.walk.mates.Statement.{statement}
@@ -50,7 +50,7 @@ returns c =
     let s = at-start.args.s.now in
     let first = read_first s at-read-words.read-words.new.1.0 at-start.args.at at-start.args.n 160 (omega arith)
     at-read-words.read-words.ensures in (
-      c.read-mates.ensures.0 ∙ ap (mates_ok at-start.args.count) first,
+      c.read-mates.ensures.0 ∙ ap is_nested first,
       mates_passed s _ at-start.args.at _ first (λ i. omega (arith, at-shared-slice-known.shared-slice-known.given i)) _ at-start.requires.1
           c.read-mates.ensures.1,
     )

@@ -1,5 +1,4 @@
--- `codec::molecule::encode_molecule` meets its contract: content, with the number of arcs that was counted, and checksum make the block; where the molecule
--- does not fit, no byte changed.
+-- `codec::molecule::encode_molecule` meets its contract: content and checksum make the block; where the molecule does not fit, no byte changed.
 use borrow.Author.Rules.{rules}
 use borrow.Author.Tests.{not-true, not-false}
 use native.Mathlib.Omega.{arith}
@@ -17,21 +16,12 @@ strand-fits-requires c κs = search rules
 returns : tie.Need-returns
 returns c = law.molecule_not _ _ _ (sym c.before.strand_fits_lem.ensures ∙ not-true _ c.if1.true)
 
-arc-count-requires : tie.Need-arc-count-requires
-arc-count-requires c κs = let f = law.fits_all 160 _ _ _ (sym c.before.strand_fits_lem.ensures ∙ not-false _ c.if1.false) in omega (arith, f.1, f.2)
-
-cast-t12 : tie.Need-overflow-cast-t12
-cast-t12 c = search rules
-
-cast-t15 : tie.Need-overflow-cast-t15
-cast-t15 c = search rules
-
 slice-aggregate-put-content : tie.Need-slice-aggregate-put-content
 slice-aggregate-put-content c = search rules
 
 put-content-requires : tie.Need-put-content-requires
 put-content-requires c κs =
-    let at-if1 = c.before.before.before in
+    let at-if1 = c.before.before in
     let at-strand-fits = at-if1.before in
     let f = law.fits_all 160 _ _ _ (sym at-strand-fits.strand_fits_lem.ensures ∙ not-false _ at-if1.if1.false) in
     (omega arith, omega arith, omega (arith, f.0), omega arith, f.1, f.2)
@@ -47,14 +37,13 @@ unfolding content_of
 returns-2 c =
     let at-put-checksum = c.before.before in
     let at-put-content = at-put-checksum.before.before.before.before in
-    let at-arc-count = at-put-content.before.before.before in
-    let at-if1 = at-arc-count.before in
+    let at-if1 = at-put-content.before.before.before in
     let at-strand-fits = at-if1.before in
     let f = law.fits_all 160 _ _ _ (sym at-strand-fits.strand_fits_lem.ensures ∙ not-false _ at-if1.if1.false) in
-    law.molecule_done _ _ _ _ (sym at-strand-fits.strand_fits_lem.ensures ∙ not-false _ at-if1.if1.false) (molecule_put_lem _ _ _ _ _ _
-    at-arc-count.arc-count.ensures f.1 f.2 (at-put-content.put-content.auto.0 ∙ f.0) at-put-content.put-content.ensures
+    law.molecule_done _ _ _ _ (sym at-strand-fits.strand_fits_lem.ensures ∙ not-false _ at-if1.if1.false) (molecule_put_lem _ _ _ _ _ f.1 f.2
+    (at-put-content.put-content.auto.0 ∙ f.0) at-put-content.put-content.ensures
     (at-put-checksum.put-checksum.ensures ∙ rechecked_whole_lem _ (omega (arith, f.0, at-put-content.put-content.auto.0))))
 
 pub encode-molecule-spec : {M : Type 1} → statement M
-encode-molecule-spec = tie.close (tie.spec strand-fits-requires returns arc-count-requires cast-t12 cast-t15 slice-aggregate-put-content put-content-requires
-    put-checksum-requires same_length returns-2)
+encode-molecule-spec = tie.close (tie.spec strand-fits-requires returns slice-aggregate-put-content put-content-requires put-checksum-requires same_length
+    returns-2)

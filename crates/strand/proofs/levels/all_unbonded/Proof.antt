@@ -1,23 +1,23 @@
--- `strand::levels::bonded_count` meets its contract: of the first i bases it has counted those that are bonded.
+-- `strand::levels::all_unbonded` meets its contract: of the first i bases it has counted those that are bonded.
 use Prim.Native.Nat.{◌-◌, ◌≤◌}
 use mathlib.Core.Path.{◌≡◌, refl}
 use native.Mathlib.Omega.{arith}
 use borrow.Author.Rules.{rules}
 use lib.ListN.{length}
-use Rattle.lists.proofs.Counts.{count}
-use Rattle.strand.specs.Levels.{bonded as isBonded}
-use Rattle.strand.proofs.LevelWalk.{bonded_none, bonded_short, bonded_next, bonded_end, differ_one}
-use Rattle.strand.proofs.levels.bonded_count.Statement.{statement}
-use Rattle.strand.proofs.levels.bonded_count.Tie as tie
+use lib.Dec.{eqb}
+use Rattle.lists.specs.Vocabulary.{nth}
+use Rattle.strand.proofs.LevelWalk.{Differing, differ_start, differ_one, differ_next, unbonded_end}
+use Rattle.strand.proofs.levels.all_unbonded.Statement.{statement}
+use Rattle.strand.proofs.levels.all_unbonded.Tie as tie
 
 abbrev invariant-loop : tie.invariant-loop
-invariant-loop mates bonded₀ place₀ i₀ bonded place i = (i ≤ length mates) × (place ≡ i) × (bonded ≡ count i (isBonded mates))
+invariant-loop mates bonded₀ place₀ i₀ bonded place i = (i ≤ length mates) × (place ≡ i) × Differing (λ k. eqb (nth mates k) k) i bonded
 
 abbrev decreases-loop : tie.decreases-loop
 decreases-loop mates bonded₀ place₀ i₀ bonded place i = length mates - i
 
 loop-holds : tie.Need-loop-init invariant-loop decreases-loop
-loop-holds c = (omega arith, refl, bonded_none _)
+loop-holds c = (omega arith, refl, differ_start _)
 
 mul-narrow-differs : tie.Need-overflow-mul-narrow-differs invariant-loop decreases-loop
 mul-narrow-differs c = search rules
@@ -32,7 +32,7 @@ add-bonded : tie.Need-overflow-add-bonded invariant-loop decreases-loop
 add-bonded c =
     let at-loop = c.before.before.before in
     let at-start = at-loop.before.before in
-    omega (arith, bonded_short _ at-loop.loop.invariant.2, differ_one _ c.narrow-differs.ensures, at-start.requires)
+    omega (arith, at-loop.loop.invariant.2.short, differ_one _ c.narrow-differs.ensures, at-start.requires)
 
 add-place : tie.Need-overflow-add-place invariant-loop decreases-loop
 add-place c = search rules
@@ -46,11 +46,11 @@ loop-less c = search rules
 loop-again : tie.Need-loop-preserved invariant-loop decreases-loop
 loop-again c =
     let at-loop = c.before.before.before in
-    (omega arith, omega arith, bonded_next _ _ _ (rw at-loop.loop.invariant.1 at c.narrow-differs.ensures) at-loop.loop.invariant.2)
+    (omega arith, omega arith, differ_next _ _ (rw at-loop.loop.invariant.1 at c.narrow-differs.ensures) at-loop.loop.invariant.2)
 
 returns : tie.Need-returns invariant-loop decreases-loop
-returns c = bonded_end _ c.before.loop.invariant.2 c.before.loop.invariant.0 c.loop-test.false
+returns c = unbonded_end _ c.before.loop.invariant.2 c.before.loop.invariant.0 c.loop-test.false
 
-pub bonded-count-spec : {M : Type 1} → statement M
-bonded-count-spec = tie.close (tie.spec invariant-loop decreases-loop loop-holds mul-narrow-differs shared-slice-read-narrow-differs narrow-differs-requires add-bonded
+pub all-unbonded-spec : {M : Type 1} → statement M
+all-unbonded-spec = tie.close (tie.spec invariant-loop decreases-loop loop-holds mul-narrow-differs shared-slice-read-narrow-differs narrow-differs-requires add-bonded
     add-place add-i loop-less loop-again returns)
