@@ -1,0 +1,23 @@
+-- `strand::key::key` meets its contract: the sum over the first i positions lacks what stands from i on, and stays small.
+use borrow.Author.Rules.{rules}
+use Prim.Native.Nat.{◌-◌, ◌*◌, ◌≤◌}
+use native.Mathlib.Omega.{arith}
+use mathlib.Core.Path.{◌≡◌, refl}
+use lib.ListN.{length}
+use Rattle.strand.proofs.KeyLaws.{SummedTo, key_start, key_more, key_end}
+use Rattle.strand.proofs.key.key.Goals as goal
+
+pub loop-i-init : goal.loop-i-init
+loop-i-init c = (omega arith, c.requires.0, c.requires.1, key_start _ _, omega arith)
+
+pub loop-i-preserved : goal.loop-i-preserved
+loop-i-preserved c = (
+  omega arith,
+  c.loop-i.invariant.1,
+  c.loop-i.invariant.2,
+  key_more _ _ _ _ _ (omega arith) (omega arith) refl c.loop-i.invariant.3,
+  omega (arith, c.shared_slice_known-1.given c.loop-i.i, c.shared_slice_known-in-loop-i-1.given c.loop-i.i),
+)
+
+pub returns : goal.returns
+returns c = key_end _ _ c.loop-i.i c.loop-i.sum (omega arith) (omega arith) c.loop-i.invariant.3
