@@ -1,0 +1,17 @@
+-- `octets::bits::set` meets its contract: one byte is stored; past the end nothing is.
+use Rattle.octets.proofs.BitLaws.{set_map_out, with_bit_lem}
+use Rattle.octets.specs.Bits.{set_map}
+use borrow.Author.Rules.{rules}
+use mathlib.Core.Path.{sym}
+use native.Mathlib.Omega.{arith}
+use Rattle.octets.proofs.bits.set.Goals as goal
+
+pub returns-then-j-s : goal.returns-then-j-s
+unfolding set_map
+returns-then-j-s c = rw c.with_bit.ensures
+
+pub returns-else-j-s : goal.returns-else-j-s
+returns-else-j-s c = sym (set_map_out _ _ _ (omega arith))
+
+pub returns-else-at-s : goal.returns-else-at-s
+returns-else-at-s c = sym (set_map_out _ _ _ (omega arith))

@@ -1,0 +1,21 @@
+-- `octets::scan::put_words` meets its contract: the first i numbers are written, the rest is as it was.
+use Prim.Native.Nat.{◌*◌, ◌-◌, ◌≤◌}
+use Rattle.octets.specs.Octets.{bytes_of}
+use borrow.Author.Rules.{rules}
+use lib.ListN.{drop, length, length-set, take}
+use mathlib.Core.List.{◌++◌}
+use mathlib.Core.Path.{◌∙◌, ◌≡◌, refl}
+use native.Mathlib.Omega.{arith}
+use Rattle.octets.proofs.ScanLaws as laws
+use Rattle.octets.proofs.scan.put_words.Goals as goal
+
+pub loop-i-init : goal.loop-i-init
+loop-i-init c = (omega arith, search rules, refl, laws.words_none c.args.src.now _)
+
+pub loop-i-preserved : goal.loop-i-preserved
+loop-i-preserved c = (
+  omega arith,
+  omega arith,
+  simp length-set c.loop-i.invariant.2,
+  rw c.loop-i.invariant.3 (laws.words_more c.loop-i.i c.args.src.now c.args.s.now (omega arith) (omega arith)),
+)

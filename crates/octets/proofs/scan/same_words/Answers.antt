@@ -1,0 +1,24 @@
+-- `octets::scan::same_words` meets its contract: the numbers passed are equal.
+use borrow.Author.Rules.{rules}
+use Prim.Native.Nat.{ℕ, ◌-◌, ◌*◌, ◌≤◌, ◌<◌}
+use native.Mathlib.Omega.{arith}
+use mathlib.Core.Path.{◌≡◌}
+use lib.ListN.{length}
+use Rattle.octets.specs.Octets.{words}
+use Rattle.lists.specs.Vocabulary.{nth}
+use Rattle.octets.proofs.ScanLaws.{other_word, same_word, all_words}
+use Rattle.octets.proofs.scan.same_words.Goals as goal
+
+pub returns-then-word_at-src : goal.returns-then-word_at-src
+returns-then-word_at-src c = other_word c.args.s.now c.args.src.now c.loop-i.i (omega arith) _ c.word_at.ensures c.if-word_at-src.true
+
+pub loop-i-preserved : goal.loop-i-preserved
+loop-i-preserved c = (
+  omega arith,
+  omega arith,
+  same_word c.args.s.now c.args.src.now c.loop-i.i (omega arith) _ c.word_at.ensures c.if-word_at-src.false
+      c.loop-i.invariant.2,
+)
+
+pub returns : goal.returns
+returns c = all_words c.args.s.now c.args.src.now (λ k h. c.loop-i.invariant.2 k (omega arith))
