@@ -1,0 +1,12 @@
+-- `embedding::places::same_arcs` meets its contract. The invariant: the arcs of the first i positions are kept.
+use borrow.Author.Count.{below_more}
+use Prim.Native.Nat.{ℕ, ◌-◌, ◌≤◌, ◌<◌}
+use native.Mathlib.Omega.{arith}
+use lib.ListN.{length}
+use Rattle.embedding.specs.Places.{ArcKept}
+use Rattle.lists.proofs.ListLaws.{not_not, true_not}
+use Rattle.embedding.proofs.Answers.{tells_yes, tells_no}
+use Rattle.embedding.proofs.places.same_arcs.Goals as goal
+
+pub loop-i-preserved : goal.loop-i-preserved
+loop-i-preserved c = (omega arith, below_more (λ x. ArcKept _ _ _ x) _ c.loop-i.invariant.1 (c.arc_kept.ensures.yes c.if-not-arc_kept.false))
