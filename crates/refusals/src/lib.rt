@@ -1,4 +1,6 @@
 // Refusals: an answer with number, side and place, and the verdict of a call's rules.
+#![tactic(auto)]
+
 pub mod numbers;
 
 ghost use Rattle.std.specs.Prelude.{◌≡◌};
