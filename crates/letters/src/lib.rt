@@ -1,4 +1,6 @@
 // Letters: which bytes are letters, the lowest base that is none, and the letter rule.
+#![tactic(auto)]
+
 ghost use Rattle.std.specs.Prelude.{◌≡◌, false, ◌+◌, min, eqb, length};
 ghost use Rattle.lists.specs.Vocabulary.{all, choose, lowest};
 ghost use Rattle.letters.specs.Letters.{is_letter, not_letter, letters_match};
