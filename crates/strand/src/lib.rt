@@ -1,4 +1,6 @@
 // Strands: bases and mates, borrowed as two slices of one length. The check of a strand, with refusals 1 to 7; its fold.
+#![tactic(auto)]
+
 pub mod depth;
 pub mod key;
 pub mod levels;
