@@ -1,4 +1,6 @@
 // Embeddings of a motif in a molecule: the call verify.
+#![tactic(auto)]
+
 mod places;
 
 ghost use Rattle.std.specs.Prelude.{◌≡◌};
