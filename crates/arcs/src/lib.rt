@@ -1,4 +1,6 @@
 // The tree of arcs of the molecule: the longest arc of a stretch, and the row inside an arc by a walk over the tree, heavy child first.
+#![tactic(auto)]
+
 pub mod bounds;
 
 ghost use Rattle.std.specs.Prelude.{◌≡◌, true, ℕ, ◌+◌, ◌-◌, ◌*◌, ◌≤◌, ◌<◌, min, length};
