@@ -1,6 +1,8 @@
 // An embedding of the longest prefix: the walk over the molecule that also writes the places. Down a path of longest arcs rows are wanted from the outside
 // in, but come from the inside out: the row inside a middle arc of the path, the kept arc, stays while what lies outside of that arc is placed. `kept` is
 // its left end, or q.len() where there is none.
+#![tactic(auto)]
+
 ghost use Rattle.std.specs.Prelude.{◌≡◌, ◌+◌, ◌-◌, ◌*◌, ◌≤◌, ◌<◌, length};
 ghost use Rattle.lists.specs.Vocabulary.{nth};
 ghost use Rattle.embedding.specs.Row.{Best, Reach};
