@@ -1,4 +1,6 @@
 // The walk over the top of the molecule, or of a window of it, from left to right: how far the motif is taken, and whether all of it.
+#![tactic(auto)]
+
 ghost use Rattle.std.specs.Prelude.{◌≡◌, true, ℕ, ◌+◌, ◌*◌, ◌≤◌, ◌<◌, length};
 ghost use Rattle.lists.specs.Vocabulary.{nth};
 ghost use Rattle.lists.proofs.ListLaws.{Tells};
