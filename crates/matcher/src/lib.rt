@@ -1,4 +1,6 @@
 // The matcher: the longest closed prefix of a motif that embeds in a molecule, and an embedding of it.
+#![tactic(auto)]
+
 ghost use Rattle.std.specs.Prelude.{◌≡◌, length as len};
 ghost use Rattle.refusals.specs.Rules.{WorkKept};
 ghost use Rattle.matcher.specs.Answers.{length_verdict, length_answer, show_verdict, show_answer, PlacesShown};
