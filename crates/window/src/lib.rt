@@ -1,4 +1,6 @@
 // The call window: the shortest window of a molecule that still carries a motif.
+#![tactic(auto)]
+
 mod search;
 
 ghost use Rattle.std.specs.Prelude.{◌≡◌, length as len};
