@@ -1,4 +1,6 @@
 // The blocks of a buffer, one after the other.
+#![tactic(auto)]
+
 ghost use Rattle.std.specs.Prelude.{◌≡◌};
 ghost use Rattle.strand.specs.Strands.{strand_of};
 ghost use Rattle.block.specs.Block.{each_block, cleaned, forgot};
