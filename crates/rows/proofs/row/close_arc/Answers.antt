@@ -1,0 +1,33 @@
+-- `rows::row::close_arc` meets its contract: one pass, or three passes over whole rows, leave the entries of the arc (`remade_short`, `remade`).
+use borrow.Author.Rules.{rules}
+use native.Mathlib.Omega.{arith}
+use Rattle.rows.proofs.Parts.{part}
+use Rattle.rows.proofs.Passes as passes
+use Rattle.rows.proofs.TableLaws as law
+use Rattle.rows.proofs.row.close_arc.Goals as goal
+
+pub close_short-requires : goal.close_short-requires
+close_short-requires c =
+    record {
+      segment = c.requires.segment;
+      tables = c.requires.tables;
+      steps = law.steps_of _ _ _ _ _ _ c.requires.tables c.requires.y_value c.steps_at-at.ensures.0 c.requires.segment.ends;
+      from_le_end = (
+        omega (arith, c.end_of-end.ensures, c.requires.from_le_last, c.requires.segment.order),
+        (omega (arith, c.end_of-end.ensures), omega (arith, c.requires.segment.ends)),
+      );
+      by_index = λ j a b. (c.requires.by_index j a (omega (arith, c.end_of-end.ensures))).1;
+    }
+
+pub returns-then-end-from : goal.returns-then-end-from
+returns-then-end-from c =
+    passes.remade_short _ _ _ _ _ _ _ (part c.steps_at-at.result c.args.tables.now)
+    (law.step_capped _ _ _ _ _ _ c.requires.tables c.requires.y_value c.steps_at-at.ensures.0 c.requires.segment.ends)
+    c.end_of-end.ensures _ _ c.requires.by_index c.close_short.ensures
+
+pub returns : goal.returns
+returns c =
+    passes.remade _ _ _ _ _ _ _ (part c.steps_at-at.result c.args.tables.now)
+    (law.step_capped _ _ _ _ _ _ c.requires.tables c.requires.y_value c.steps_at-at.ensures.0 c.requires.segment.ends)
+    c.end_of-end.ensures _ _ _ _ _ (omega (arith, c.requires.segment.ends)) c.requires.by_index c.over.ensures
+    c.step.ensures c.raise.ensures

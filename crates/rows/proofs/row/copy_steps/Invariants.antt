@@ -1,0 +1,14 @@
+-- `rows::row::copy_steps` meets its contract. The invariant: the entries before j are copied (`Written`).
+use Prim.Native.Nat.{◌-◌, ◌≤◌}
+use native.Mathlib.Omega.{arith}
+use mathlib.Core.Path.{refl}
+use Rattle.lists.specs.Vocabulary.{nth}
+use Rattle.rows.specs.Rows.{Written}
+use Rattle.rows.proofs.Pass.{pass_none, pass_set, pass_end}
+use Rattle.rows.proofs.row.copy_steps.Given as goal
+
+abbrev pub invariant-loop-j : goal.invariant-loop-j
+invariant-loop-j l = (l.from ≤ l.j) × (l.j ≤ l.end) × Written (nth l.steps) l.initial.row l.row l.from l.j
+
+abbrev pub decreases-loop-j : goal.decreases-loop-j
+decreases-loop-j l = l.end - l.j

@@ -1,0 +1,24 @@
+-- `rows::row::extend` meets its contract: the base's row in the tables says where it takes each start.
+use borrow.Author.Rules.{rules}
+use Prim.Native.Nat.{ℕ}
+use native.Mathlib.Omega.{arith}
+use mathlib.Core.Path.{ap}
+use Rattle.lists.specs.Vocabulary.{nth}
+use Rattle.rows.proofs.Pass.{pass_as, pass_end}
+use Rattle.rows.proofs.TableLaws as tables
+use Rattle.rows.proofs.Parts.{part}
+use Rattle.rows.proofs.row.extend.Goals as goal
+
+pub extend_by-requires : goal.extend_by-requires
+extend_by-requires c =
+    record {
+      from_le_end = (omega arith, (omega arith, omega arith));
+      steps = tables.steps_of _ _ _ _ _ _ c.requires.tables c.requires.b_value c.steps_at-at.ensures.0 (omega arith);
+    }
+
+pub returns : goal.returns
+returns c =
+    pass_end _ _ _ _ _ _ (pass_as (λ (j : ℕ). nth c.args.row.now (nth (part c.steps_at-at.result c.args.tables.now) j)) _ _ _
+    _ _ c.extend_by.ensures (λ k h. ap (nth c.args.row.now) (tables.step_unit _ _ _ _ _ _ c.requires.tables
+    c.requires.b_value c.steps_at-at.ensures.0 c.requires.segment.ends k (omega (arith, c.end_of-end.ensures)))))
+    (omega (arith, c.end_of-end.ensures)) (omega (arith, c.end_of-end.ensures))

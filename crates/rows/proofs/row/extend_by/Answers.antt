@@ -1,0 +1,18 @@
+-- `rows::row::extend_by` meets its contract. The invariant: the entries before j are looked up where the base's row leads, j or j + 1 (`Written`); both are
+-- not yet written.
+use borrow.Author.Rules.{rules}
+use Prim.Native.Nat.{◌-◌, ◌≤◌}
+use native.Mathlib.Omega.{arith}
+use Rattle.lists.specs.Vocabulary.{nth}
+use Rattle.rows.specs.Rows.{Written}
+use Rattle.rows.proofs.Pass.{pass_none, pass_set, pass_end}
+use Rattle.rows.proofs.TableLaws as tables
+use Rattle.rows.proofs.row.extend_by.Goals as goal
+
+pub loop-j-preserved : goal.loop-j-preserved
+loop-j-preserved c = (
+  omega arith,
+  omega arith,
+  pass_set _ _ _ _ _ _ c.loop-j.invariant.2 c.loop-j.invariant.0 (omega arith)
+      (tables.extend_step _ _ _ _ _ _ _ c.requires.steps c.loop-j.invariant.2 c.loop-j-test.true c.extend_entry.ensures),
+)

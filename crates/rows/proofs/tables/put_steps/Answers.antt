@@ -1,0 +1,25 @@
+-- `rows::tables::put_steps` meets its contract. The invariant: from `at` on the entries before j are the base's (`Written`); the last one is set after the
+-- loop.
+use Prim.Native.Nat.{◌+◌, ◌-◌, ◌≤◌}
+use native.Mathlib.Omega.{arith}
+use mathlib.Core.Path.{refl, ◌∙◌}
+use lib.ListN.{length, length-set}
+use Rattle.lists.specs.Vocabulary.{nth}
+use Rattle.embedding.specs.Row.{unit_at}
+use Rattle.rows.specs.Rows.{Written, matches}
+use Rattle.rows.proofs.Pass.{pass_none, pass_set}
+use Rattle.rows.proofs.Passes as passes
+use Rattle.rows.proofs.TableLaws as tables
+use Rattle.rows.proofs.tables.put_steps.Goals as goal
+
+pub loop-j-preserved : goal.loop-j-preserved
+loop-j-preserved c = (
+  omega arith,
+  passes.set_at _ _ _ _ _ _ _ c.loop-j.invariant.1 (omega arith) (omega (arith, c.loop-j-test.true))
+      (passes.unit_step _ _ _ _ _ _ c.loop-j-test.true c.unit_entry.ensures),
+)
+
+pub returns : goal.returns
+returns c =
+    pass_set _ _ _ _ _ _ (tables.steps_end _ _ _ _ _ _ c.loop-j.invariant.1 c.loop-j.invariant.0 c.loop-j-test.false) (omega arith) (omega arith)
+    (passes.unit_last _ _ _ _ _ _ (omega arith) refl)
