@@ -1,0 +1,22 @@
+-- `block::checksum::put_checksum` meets its contract: less than a block stays; else the four bytes of the sum are stored.
+use borrow.Author.Rules.{rules}
+use native.Mathlib.Omega.{arith}
+use lib.ListN.{length-set}
+use mathlib.Core.Path.{sym}
+use Rattle.block.specs.Content.{rechecked, checksum_of}
+use Rattle.block.proofs.SumLaws.{sum_none, rechecked_short, rechecked_is}
+use Rattle.block.proofs.checksum.put_checksum.Goals as goal
+
+pub returns-then-s-lt-BLOCK_SIZE : goal.returns-then-s-lt-BLOCK_SIZE
+returns-then-s-lt-BLOCK_SIZE c = rechecked_short _ c.if-s-lt-BLOCK_SIZE.true
+
+pub gather-x-requires : goal.gather-x-requires
+gather-x-requires c =
+    record {
+      a_le_e = (omega arith, omega arith, omega arith);
+      sum_value = sym (sum_none _);
+    }
+
+pub returns : goal.returns
+unfolding rechecked checksum_of
+returns c = rechecked_is _ _ c.if-s-lt-BLOCK_SIZE.false cc
