@@ -1,4 +1,5 @@
 // What add, remove, query and batch answer and leave, for all inputs: the answers here, all else in specs/. Crates catalog and batch have the code.
+#![tactic(auto)]
 
 // The answer of add: the molecule is stored, and this is its fold.
 #[derive(Drop)]
