@@ -1,4 +1,6 @@
 // The rules that judge add, remove and query: which refusal of a call applies first. Nothing is written here.
+#![tactic(auto)]
+
 ghost use Rattle.std.specs.Prelude.{◌≡◌};
 ghost use Rattle.lists.specs.Vocabulary.{lowest};
 ghost use Rattle.strand.specs.Strands.{strand_of};
