@@ -1,5 +1,7 @@
 // The search of a query over the blocks of a catalog. Query meets what `answer` asks: its judge has let catalog, motif, work and hits pass (`Judged`), and the
 // cache is clean.
+#![tactic(auto)]
+
 pub mod maps;
 mod scan;
 
