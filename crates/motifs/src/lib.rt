@@ -1,4 +1,6 @@
 // The motif buffer of a batch: which refusal of it applies first, and its motifs unpacked, each once for all molecules. The bases stay where they are.
+#![tactic(auto)]
+
 ghost use Rattle.std.specs.Prelude.{◌≡◌, true, ◌+◌, ◌*◌, ◌<◌, max, length};
 ghost use Rattle.lists.specs.Vocabulary.{lowest};
 ghost use Rattle.block.specs.Block.{block_of, block_count};
