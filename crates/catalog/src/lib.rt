@@ -1,4 +1,6 @@
 // The catalog of molecules and the cache of answers on borrowed bytes: the calls add, remove and query. (01: catalogue, shelf.)
+#![tactic(auto)]
+
 ghost use Rattle.std.specs.Prelude.{◌≡◌, length};
 ghost use Rattle.strand.specs.Strands.{strand_of};
 ghost use Rattle.embedding.specs.Longest.{embeds};
