@@ -1,4 +1,6 @@
 // The call batch: 1 to 16 motifs together. Each molecule that one of their queries has to search is decoded once for all motifs.
+#![tactic(auto)]
+
 mod answer;
 mod plan;
 mod rules;
