@@ -1,5 +1,7 @@
 // The public calls, each with what the three demands say of it (specs/Meets): proved from the contracts of the calls alone, so that a weaker contract is
 // refused here.
+#![tactic(auto)]
+
 ghost use Rattle.strand.specs.Strands.{strand_of};
 ghost use Rattle.demands.specs.Meets.{CheckMeets, LengthMeets, ShowMeets, VerifyMeets, WindowMeets, AddMeets, RemoveMeets, QueryMeets, BatchMeets};
 
