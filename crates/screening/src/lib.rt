@@ -1,4 +1,6 @@
 // Screening: from the bytes of an input to the text that the screen program prints.
+#![tactic(auto)]
+
 mod text;
 
 ghost use Rattle.std.specs.Prelude.{◌≡◌, true, false, ◌&&◌, ◌≤◌, length};
