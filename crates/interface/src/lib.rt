@@ -1,4 +1,6 @@
 // The answers of the calls as C has them (include/lakhido.h): three structs of numbers. `answers` makes them from the answers of the calls.
+#![tactic(auto)]
+
 pub mod answers;
 
 // The answer of every call but window and batch. Refused: number, side and place, else zeros. Accepted: refusal 0, and in `value` and `searched` what the call
