@@ -1,4 +1,6 @@
 // The calls as C sees them (include/lakhido.h). Each gives the call's answer as a struct of numbers and leaves every buffer as the call does.
+#![tactic(auto)]
+
 ghost use Rattle.std.specs.Prelude.{◌≡◌, length};
 ghost use Rattle.strand.specs.Strands.{strand_of, check_answer};
 ghost use Rattle.embedding.specs.Longest.{verify_answer, embeds};
