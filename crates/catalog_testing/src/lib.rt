@@ -13,6 +13,8 @@
 // depth; 0 for an accepted remove; for an accepted query two numbers, the count and how many molecules were searched.
 //
 // The buffer begins with 513 blocks of the catalog and 65 of the cache, one more than a call may have.
+#![tactic(auto)]
+
 pub mod lines;
 pub mod requests;
 pub mod tell;
