@@ -5,6 +5,8 @@
 // it has, and how many molecules it read.
 //
 // The bank is 35 motif blocks, which stand in the buffer behind the cache.
+#![tactic(auto)]
+
 mod batches;
 
 use catalog_testing::tell;

@@ -1,6 +1,8 @@
 // Tests of the crates block, codec and buffer. The input has lines of 48 bytes: a letter, three numbers of five digits, and a name or a comment from column 20.
 // `cases` says what each letter does. The expected answers stand in the lines; they come from a model of the blocks in Python,
 // `tools/lakhido_model.py`, and `tools/block_cases.py` makes the lines. A group of cases is a line of the output.
+#![tactic(auto)]
+
 mod blocks;
 mod cases;
 mod parts;

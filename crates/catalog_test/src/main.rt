@@ -1,4 +1,6 @@
 // Tests of the calls add, remove and query, by the lines of `catalog_testing`, which `tools/catalog_cases.py` makes.
+#![tactic(auto)]
+
 use catalog_testing::{act, tell};
 use testing::input;
 use testing::input::MOST_LINES;

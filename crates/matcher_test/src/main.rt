@@ -10,6 +10,8 @@
 // A line `=` ends a group: its name is written with the group's counts, and counting begins anew.
 // An answer is right when it is the wanted one, a refused call changed nothing, and an accepted one changed only its part of the work and the places
 // of the prefix, which verify accepts.
+#![tactic(auto)]
+
 mod ask;
 mod tally;
 

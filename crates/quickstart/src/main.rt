@@ -1,4 +1,6 @@
 // The calls of the library, as README shows them. Prints `found` where the motif was found.
+#![tactic(auto)]
+
 use catalog::{Added, Queried};
 
 // Adds a hairpin under number 0 and asks for the motif GC with its bond; answers how many molecules have it. `catalog` and `cache` are zeroed

@@ -2,6 +2,8 @@
 // for an input that is cut short would give a wrong hit list. Where a write fails or takes only a part, the output is not complete. Both are told by
 // one line on standard error. Out of reach: a program of the language ends with exit status 0, after a failure too; errno, so the line names no cause;
 // and a pipe whose reader is gone, where the system's signal ends the program before it can tell anything (docs/DECISIONS.md, Failed reads and writes).
+#![tactic(auto)]
+
 ghost use Rattle.io.specs.Counts.{IsPrefixLen};
 
 use screening::Screened;

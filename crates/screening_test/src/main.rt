@@ -1,6 +1,8 @@
 // Tests of the crate screening. The input has lines of 14 bytes: a letter, two numbers of five digits. `B d n` writes n times A without bonds into
 // block d, `Z d` empties it, `S i v` sets byte i to v, and `R n k` screens the first n bytes with buffer k too short; its line is
 // written, then what the call answers. tools/screening_cases.py makes the lines and what they must give.
+#![tactic(auto)]
+
 use screening::Screened;
 use testing::input::{kind, number};
 use testing::output::say;

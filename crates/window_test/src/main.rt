@@ -10,6 +10,8 @@
 // A line `r` stands for so many random pairs, of rising seeds, as it has from column 64; what window is wanted of them says `every`.
 // A line `=` ends a group: its name is written with the group's counts, and counting begins anew.
 // An answer is right when it is the wanted one, a refused call changed nothing, and an accepted one changed only its part of the work.
+#![tactic(auto)]
+
 mod ask;
 mod every;
 mod tally;
