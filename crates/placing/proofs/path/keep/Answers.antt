@@ -2,7 +2,6 @@
 use Prim.Native.Nat.{◌+◌}
 use native.Mathlib.Omega.{arith}
 use lib.ListN.{length}
-use borrow.Author.Rules.{rules}
 use Rattle.arcs.proofs.Made.{cut_kept_row}
 use Rattle.arcs.proofs.BoundLaws.{starts_bounded, starts_row}
 use Rattle.placing.proofs.Descent.{room_rest, ready}

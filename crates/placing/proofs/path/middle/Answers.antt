@@ -1,9 +1,5 @@
 -- `placing::path::middle` meets its contract. The invariant: mid is l or halves the bases (`Between`), and next is the longest arc inside it (`Lower`).
-use Prim.Native.Nat.{◌-◌}
 use native.Mathlib.Omega.{arith}
-use borrow.Author.Rules.{rules}
-use Rattle.lists.specs.Vocabulary.{nth}
-use Rattle.placing.specs.Placing.{Lower, Between}
 use Rattle.placing.proofs.Levels.{between_start, between_next}
 use Rattle.placing.proofs.path.middle.Goals as goal
 

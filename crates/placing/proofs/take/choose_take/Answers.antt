@@ -1,8 +1,6 @@
 -- `placing::take::choose_take` meets its contract: what is taken with the left end is compared with what is taken without, and each return is a case of
 -- `Takes`.
 use mathlib.Core.Path.{refl}
-use native.Mathlib.Omega.{arith}
-use borrow.Author.Rules.{rules}
 use Rattle.rows.proofs.TableLaws.{over_known}
 use Rattle.placing.proofs.TakeLaws.{takes_inside, takes_left, takes_upon}
 use Rattle.placing.proofs.take.choose_take.Goals as goal

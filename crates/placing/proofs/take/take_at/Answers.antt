@@ -1,7 +1,5 @@
 -- `placing::take::take_at` meets its contract: the inner row for a segment as long as the arc says what the arc takes (`taken_at`).
-use Prim.Native.Nat.{◌-◌}
 use native.Mathlib.Omega.{arith}
-use borrow.Author.Rules.{rules}
 use Rattle.arcs.proofs.Made.{no_kept_row}
 use Rattle.arcs.proofs.BoundLaws.{starts_bounded, starts_row}
 use Rattle.arcs.proofs.Arcs.{room_any}

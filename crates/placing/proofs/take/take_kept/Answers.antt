@@ -1,7 +1,6 @@
 -- `placing::take::take_kept` meets its contract: the second row of the work slice is the inner row for the whole segment (`taken_segment`), and the first
 -- row is as it was.
 use native.Mathlib.Omega.{arith}
-use borrow.Author.Rules.{rules}
 use Rattle.placing.proofs.Descent.{taken_segment, around_under}
 use Rattle.placing.proofs.take.take_kept.Goals as goal
 

@@ -1,6 +1,5 @@
 -- `placing::take::write_take` meets its contract: two entries are set, for the ends that are taken.
 use native.Mathlib.Omega.{arith}
-use borrow.Author.Rules.{rules}
 use Rattle.placing.proofs.TakeLaws.{takes_end}
 use Rattle.placing.proofs.take.write_take.Goals as goal
 
