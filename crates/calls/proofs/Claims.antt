@@ -15,7 +15,7 @@ use Rattle.lists.specs.Vocabulary.{select}
 use Rattle.strand.specs.Strands.{Strand, empty_motif, key, same_strand, Proper, least_motif}
 use Rattle.strand.proofs.Claims as strand
 use Rattle.refusals.specs.Rules.{motif_side, no_side, wrong_slice, first, refuse_if, work_rule}
-use Rattle.lists.proofs.ListLaws.{and-true, by_bool, same_refl, choose_yes, choose_no}
+use Rattle.lists.proofs.ListLaws.{and_true, by_bool, same_refl, choose_yes, choose_no}
 use Rattle.block.specs.Content.{block_size, searched_at, hit_at, empty_block, is_empty, molecule_in, motif_in, searched_in, hit_in, keeps_motif, encode_molecule}
 use Rattle.block.specs.Content.{encode_entry}
 use Rattle.octets.specs.Octets.{without, map_bit, Bytes}
@@ -116,7 +116,7 @@ empty_bits d l = (empty_bit searched_at d (omega arith), empty_bit hit_at d (ome
 
 without_yes : (d e : ℕ) (p q : ℕ → Bool) → (p e ≡ true → q e ≡ true) → without d p e ≡ true → without d q e ≡ true
 unfolding without
-without_yes d e p q h k = let x = and-true (p e) (not (eqb e d)) k in rw (h x.0, x.1)
+without_yes d e p q h k = let x = and_true (p e) (not (eqb e d)) k in rw (h x.0, x.1)
 
 -- a sound block of bytes with the number taken out: no bit of it is left, and it is sound
 module _ (b : List ℕ) (d : ℕ) (ok : sound_entry b ≡ true) (small : Bytes b) (l : d < most_catalog_blocks) where
@@ -208,7 +208,7 @@ module _ (embeds : Strand → Strand → Bool) where
 
   hit_held : (catalog entry : List ℕ) (p : Strand) (d : ℕ) → is_hit embeds catalog entry p d ≡ true → held catalog d ≡ true
   unfolding is_hit
-  hit_held catalog entry p d e = (and-true (held catalog d) _ e).0
+  hit_held catalog entry p d e = (and_true (held catalog d) _ e).0
 
   other_motif : (catalog entry : List ℕ) (p : Strand) → keeps_motif entry p ≡ false → (d : ℕ)
       → (is_hit embeds catalog entry p d ≡ (held catalog d && embeds p (molecule_at catalog d))) × (to_search catalog entry p d ≡ held catalog d)
