@@ -15,8 +15,9 @@ use Rattle.lists.specs.Vocabulary.{select}
 use Rattle.strand.specs.Strands.{Strand, empty_motif, key, same_strand, Proper, least_motif}
 use Rattle.strand.proofs.Claims as strand
 use Rattle.refusals.specs.Rules.{motif_side, no_side, wrong_slice, first, refuse_if, work_rule}
-use Rattle.lists.proofs.ListLaws.{and-true, by_bool, same_refl, choose_yes, choose_no}
-use Rattle.block.specs.Content.{block_size, searched_at, hit_at, empty_block, is_empty, molecule_in, motif_in, searched_in, hit_in, keeps_motif, encode_molecule}
+use Rattle.lists.proofs.ListLaws.{and_true, by_bool, same_refl, choose_yes, choose_no}
+use Rattle.block.specs.Content.{block_size, searched_at, hit_at, empty_block, is_empty, molecule_in, motif_in}
+use Rattle.block.specs.Content.{searched_in, hit_in, keeps_motif, encode_molecule}
 use Rattle.block.specs.Content.{encode_entry}
 use Rattle.octets.specs.Octets.{without, map_bit, Bytes}
 use Rattle.octets.proofs.ByteLaws.{small_zeros, small_between}
@@ -116,7 +117,7 @@ empty_bits d l = (empty_bit searched_at d (omega arith), empty_bit hit_at d (ome
 
 without_yes : (d e : ℕ) (p q : ℕ → Bool) → (p e ≡ true → q e ≡ true) → without d p e ≡ true → without d q e ≡ true
 unfolding without
-without_yes d e p q h k = let x = and-true (p e) (not (eqb e d)) k in rw (h x.0, x.1)
+without_yes d e p q h k = let x = and_true (p e) (not (eqb e d)) k in rw (h x.0, x.1)
 
 -- a sound block of bytes with the number taken out: no bit of it is left, and it is sound
 module _ (b : List ℕ) (d : ℕ) (ok : sound_entry b ≡ true) (small : Bytes b) (l : d < most_catalog_blocks) where
@@ -139,7 +140,8 @@ module _ (b : List ℕ) (d : ℕ) (ok : sound_entry b ≡ true) (small : Bytes b
       ⊎_elim
       (λ (e : is_empty b ≡ true). rw (law.empty_is b (law.entry_size b ok) e, leaf.empty_forgot d) leaf.empty_entry)
       (λ (e : is_empty b ≡ false). rw (forgot_is e)
-      (law.entry_sound_below (motif_in b) (law.entry_proper b ok e) _ _ (λ x m. without_yes d x (hit_in b) (searched_in b) (law.entry_hit_searched b ok e x m))))
+      (law.entry_sound_below (motif_in b) (law.entry_proper b ok e) _ _ (λ x m. without_yes d x (hit_in b) (searched_in b) (law.entry_hit_searched b ok e x
+        m))))
       (by_bool (is_empty b))
 
 -- a cleaned block of bytes is bytes
@@ -197,18 +199,20 @@ module _ (p : Strand) (good : Proper motif_side least_motif most_motif_bases p.b
   entry_keeps_lem = rw (law.entry_full p good searched hits, law.entry_motif p good searched hits, same_refl p.bases, same_refl p.mates)
 
 module _ (embeds : Strand → Strand → Bool) where
-  pub hit_known : (catalog entry : List ℕ) (p : Strand) (d : ℕ) → is_known entry p d ≡ true → is_hit embeds catalog entry p d ≡ (held catalog d && hit_in entry d)
+  pub hit_known : (catalog entry : List ℕ) (p : Strand) (d : ℕ) → is_known entry p d ≡ true → is_hit embeds catalog entry p d
+    ≡ (held catalog d && hit_in entry d)
   unfolding is_hit
   hit_known catalog entry p d e = ap (λ (t : Bool). held catalog d && t) (choose_yes (is_known entry p d) (hit_in entry d) (embeds p (molecule_at catalog d)) e)
 
   pub hit_unknown : (catalog entry : List ℕ) (p : Strand) (d : ℕ) → is_known entry p d ≡ false
       → is_hit embeds catalog entry p d ≡ (held catalog d && embeds p (molecule_at catalog d))
   unfolding is_hit
-  hit_unknown catalog entry p d e = ap (λ (t : Bool). held catalog d && t) (choose_no (is_known entry p d) (hit_in entry d) (embeds p (molecule_at catalog d)) e)
+  hit_unknown catalog entry p d e = ap (λ (t : Bool). held catalog d && t) (choose_no (is_known entry p d) (hit_in entry d) (embeds p (molecule_at catalog
+    d)) e)
 
   hit_held : (catalog entry : List ℕ) (p : Strand) (d : ℕ) → is_hit embeds catalog entry p d ≡ true → held catalog d ≡ true
   unfolding is_hit
-  hit_held catalog entry p d e = (and-true (held catalog d) _ e).0
+  hit_held catalog entry p d e = (and_true (held catalog d) _ e).0
 
   other_motif : (catalog entry : List ℕ) (p : Strand) → keeps_motif entry p ≡ false → (d : ℕ)
       → (is_hit embeds catalog entry p d ≡ (held catalog d && embeds p (molecule_at catalog d))) × (to_search catalog entry p d ≡ held catalog d)

@@ -1,5 +1,5 @@
--- The three demands on the library; `demands`, in proofs/Demands, proves them of the definitions that the contracts cite: xVerdict is the table's word on call
--- x (window has that of length), xAnswer and xOutcome what x answers and leaves. Meets.antt says the same of the calls themselves, and alone has what no
+-- The three demands on the library; `demands`, in proofs/Demands, proves them of the definitions that the contracts cite: x_verdict is the table's word on call
+-- x (window has that of length), x_answer and x_outcome what x answers and leaves. Meets.antt says the same of the calls themselves, and alone has what no
 -- definition gives: the places that show writes, and the work slices (1.10, 2.5). p, pm are the bases and mates of the motif P, q, qm those of the molecule Q;
 -- in add and query q and p are whole strands, and a batch has its motifs as blocks of `motifs`. Blocks have their own statements (crate block), so have the
 -- screen program (screening) and the examples (examples).

@@ -10,7 +10,7 @@ use lib.ListN.{length}
 use borrow.Author.Tests.{eq-eqb, ne_eqb}
 use Rattle.strand.specs.Strands.{Strand, same_strand}
 use Rattle.strand.proofs.VerdictLaws.{same_strand_eq}
-use Rattle.lists.proofs.ListLaws.{by_bool, and-true, never}
+use Rattle.lists.proofs.ListLaws.{by_bool, and_true, never}
 use Rattle.block.specs.Content.{block_size, encode_entry, hit_in}
 use Rattle.octets.specs.Octets.{without}
 use Rattle.block.specs.Block.{sound_entry, cleaned, forgot}
@@ -32,7 +32,7 @@ module _ (embeds : Strand → Strand → Bool) (B S : ℕ) (mols : ℕ → Holdi
   pub slot_sound : (s : Slot) → SlotOk mols s → sound_entry (slot_block embeds B S mols s) ≡ true
   unfolding slot_block
   slot_sound nothing k = entry.empty_entry
-  slot_sound (keeps m set) k = entry.entry_sound m k.0 set _ (λ d e. (and-true (set d) _ e).0)
+  slot_sound (keeps m set) k = entry.entry_sound m k.0 set _ (λ d e. (and_true (set d) _ e).0)
 
   pub slot_clean : (s : Slot) → SlotOk mols s → cleaned (slot_block embeds B S mols s) ≡ slot_block embeds B S mols s
   slot_clean s k = entry.sound_clean _ (slot_sound s k)
@@ -91,5 +91,5 @@ module _ (embeds : Strand → Strand → Bool) (B S : ℕ) (mols : ℕ → Holdi
     unfolding known_in slot_block
     slot_hit nothing k e = never e
     slot_hit (keeps m set) k e =
-        let y = and-true (same_strand m p) (set d) e in
+        let y = and_true (same_strand m p) (set d) e in
         entry.entry_hit m k.0 set _ d l ∙ rw (y.1, same_strand_eq m p y.0)
