@@ -83,8 +83,8 @@ module _ (number side : ℕ) where
   pub when_numbered : (b : Bool) → (b ≡ true → Numbered number side 0) → Numbering (refuse_if number side b)
   when_numbered = when_by Numbered number side
 
-  pub if-numbered : Numbered number side 0 → (b : Bool) → Numbering (refuse_if number side b)
-  if-numbered ok b = when_numbered b (λ e. ok)
+  pub if_numbered : Numbered number side 0 → (b : Bool) → Numbering (refuse_if number side b)
+  if_numbered ok b = when_numbered b (λ e. ok)
 
   pub lowest_numbered : ((place : ℕ) → Numbered number side place) → (n : ℕ) (p : ℕ → Bool) → Numbering (refuse_at_lowest number side n p)
   lowest_numbered = lowest_by Numbered number side
@@ -96,7 +96,7 @@ pub first_numbered : (v : Verdict) (vs : List Verdict) → Numbering v → Numbe
 first_numbered = first_by Numbered
 
 pub work_numbered : (m n work : ℕ) → Numbering (work_rule m n work)
-work_numbered m n work = if-numbered 8 no_side (call_number 8 0 (omega arith) (omega arith) (λ n. refl)) _
+work_numbered m n work = if_numbered 8 no_side (call_number 8 0 (omega arith) (omega arith) (λ n. refl)) _
 
 -- A call that comes to a value by its verdict, of which `answer` is read: refusals have different answers, and no other answer is one of them.
 module _ {E A : Type 0} (v : Verdict) (f : Refusal → E) (x : E) (answer : E → A) (refused : Refusal → A) (tells : (r : Refusal) → answer (f r) ≡ refused r)

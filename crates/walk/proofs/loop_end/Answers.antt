@@ -2,7 +2,7 @@
 use native.Mathlib.Omega.{arith}
 use Rattle.embedding.proofs.Recurrence.{empty}
 use Rattle.arcs.proofs.Made.{letter_at}
-use Rattle.walk.proofs.Hairpins.{loop-step}
+use Rattle.walk.proofs.Hairpins.{loop_step}
 use Rattle.walk.proofs.loop_end.Goals as goal
 
 pub loop-i-init : goal.loop-i-init
@@ -18,7 +18,7 @@ next_of-end-requires c =
 
 pub loop-i-preserved : goal.loop-i-preserved
 loop-i-preserved c = (
-  rw c.next_of-end.ensures (loop-step c.args.p.now c.args.pm.now c.args.q.now _ _ c.requires.unbonded
+  rw c.next_of-end.ensures (loop_step c.args.p.now c.args.pm.now c.args.q.now _ _ c.requires.unbonded
       c.loop-i.invariant.1 c.loop-i-test.true c.loop-i.invariant.0),
   omega (arith, c.loop-i.invariant.1),
   omega arith,

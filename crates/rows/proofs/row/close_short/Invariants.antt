@@ -12,7 +12,8 @@ use Rattle.rows.proofs.row.close_short.Given as goal
 
 abbrev pub invariant-loop-j : goal.invariant-loop-j
 invariant-loop-j l = (l.from ≤ l.j) × (l.j ≤ l.end)
-    × Written (λ k. max (min (nth l.steps (nth l.initial.row k)) l.to) (over_at (matches l.p l.x) (matches l.p l.y) (nth l.pm) l.to (nth l.initial.row (k + 1)) k)) l.initial.row l.row l.from l.j
+    × Written (λ k. max (min (nth l.steps (nth l.initial.row k)) l.to)
+        (over_at (matches l.p l.x) (matches l.p l.y) (nth l.pm) l.to (nth l.initial.row (k + 1)) k)) l.initial.row l.row l.from l.j
 
 abbrev pub decreases-loop-j : goal.decreases-loop-j
 decreases-loop-j l = l.end - l.j

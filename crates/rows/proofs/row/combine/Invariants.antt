@@ -11,7 +11,8 @@ use Rattle.rows.proofs.Pass.{pass_none, pass_set, pass_end}
 use Rattle.rows.proofs.row.combine.Given as goal
 
 abbrev pub invariant-loop-j : goal.invariant-loop-j
-invariant-loop-j l = (l.from ≤ l.j) × (l.j ≤ l.last + 1) × Written (λ k. nth l.initial.row (l.then + nth l.initial.row (l.first + k))) l.initial.row l.row l.from l.j
+invariant-loop-j l = (l.from ≤ l.j) × (l.j ≤ l.last + 1) × Written (λ k. nth l.initial.row (l.then + nth l.initial.row (l.first + k))) l.initial.row l.row
+    l.from l.j
 
 abbrev pub decreases-loop-j : goal.decreases-loop-j
 decreases-loop-j l = l.last + 1 - l.j

@@ -13,7 +13,8 @@ use Rattle.rows.proofs.row.over.Given as goal
 
 abbrev pub invariant-loop-j : goal.invariant-loop-j
 invariant-loop-j l = (l.from ≤ l.j) × (l.j ≤ l.end)
-    × Written (λ k. over_at (matches l.p l.x) (matches l.p l.y) (nth l.pm) l.to (nth l.initial.row (k - l.at + 1)) (k - l.at)) l.initial.row l.row (l.at + l.from) (l.at + l.j)
+    × Written (λ k. over_at (matches l.p l.x) (matches l.p l.y) (nth l.pm) l.to (nth l.initial.row (k - l.at + 1)) (k - l.at)) l.initial.row l.row
+        (l.at + l.from) (l.at + l.j)
 
 abbrev pub decreases-loop-j : goal.decreases-loop-j
 decreases-loop-j l = l.end - l.j

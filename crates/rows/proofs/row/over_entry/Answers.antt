@@ -19,7 +19,8 @@ pub returns-then-pair-y : goal.returns-then-pair-y
 returns-then-pair-y c = sym (entries.by_unlike _ _ _ _ _ _ (eq-eqb _ _ c.if-pair-x.false) c.if-k-j.false c.if-to-k.false (ne_eqb _ _ c.if-pair-y.true))
 
 pub returns-then-next-k : goal.returns-then-next-k
-returns-then-next-k c = sym (entries.by_short _ _ _ _ _ _ (eq-eqb _ _ c.if-pair-x.false) c.if-k-j.false c.if-to-k.false (eq-eqb _ _ c.if-pair-y.false) c.if-next-k.true)
+returns-then-next-k c = sym (entries.by_short _ _ _ _ _ _ (eq-eqb _ _ c.if-pair-x.false) c.if-k-j.false c.if-to-k.false
+    (eq-eqb _ _ c.if-pair-y.false) c.if-next-k.true)
 
 pub returns : goal.returns
 returns c =

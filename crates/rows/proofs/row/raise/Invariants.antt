@@ -9,7 +9,8 @@ use Rattle.rows.proofs.Passes as passes
 use Rattle.rows.proofs.row.raise.Given as goal
 
 abbrev pub invariant-loop-j : goal.invariant-loop-j
-invariant-loop-j l = (l.from ≤ l.j) × (l.j ≤ l.end) × Written (λ k. max (min (nth l.initial.row k) l.to) (nth l.initial.row (l.at + k))) l.initial.row l.row l.from l.j
+invariant-loop-j l = (l.from ≤ l.j) × (l.j ≤ l.end) × Written (λ k. max (min (nth l.initial.row k) l.to) (nth l.initial.row (l.at + k))) l.initial.row l.row
+    l.from l.j
 
 abbrev pub decreases-loop-j : goal.decreases-loop-j
 decreases-loop-j l = l.end - l.j

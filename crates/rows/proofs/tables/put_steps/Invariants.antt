@@ -13,7 +13,8 @@ use Rattle.rows.proofs.TableLaws as tables
 use Rattle.rows.proofs.tables.put_steps.Given as goal
 
 abbrev pub invariant-loop-j : goal.invariant-loop-j
-invariant-loop-j l = (l.j ≤ length l.p) × Written (λ k. unit_at (matches l.p l.b) (nth l.pm) (length l.p) (k - l.at)) l.initial.tables l.tables (l.at + 0) (l.at + l.j)
+invariant-loop-j l = (l.j ≤ length l.p) × Written (λ k. unit_at (matches l.p l.b) (nth l.pm) (length l.p) (k - l.at)) l.initial.tables l.tables (l.at + 0)
+    (l.at + l.j)
 
 abbrev pub decreases-loop-j : goal.decreases-loop-j
 decreases-loop-j l = length l.p - l.j

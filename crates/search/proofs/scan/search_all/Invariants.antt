@@ -22,7 +22,8 @@ use Rattle.search.proofs.scan.search_all.Given as goal
 abbrev pub invariant-loop-d : goal.invariant-loop-d
 invariant-loop-d l = laws.Searched
     (map_bit l.initial.found 0) (map_bit l.todo 0) (λ k. embeds (strand_of l.p l.pm) (molecule_at l.catalog k)) (block_count l.catalog) l.found l.d l.searched
-    × (length l.work ≡ length l.initial.work) × (length l.letters ≡ length l.initial.letters) × (length l.bonds ≡ length l.initial.bonds) × (length l.found ≡ length l.initial.found)
+    × (length l.work ≡ length l.initial.work) × (length l.letters ≡ length l.initial.letters) × (length l.bonds ≡ length l.initial.bonds) ×
+        (length l.found ≡ length l.initial.found)
     × TablesFor l.p l.pm block_bases l.tables × (length l.tables ≡ length l.initial.tables)
 
 abbrev pub decreases-loop-d : goal.decreases-loop-d
