@@ -12,14 +12,14 @@ module _ {fit : ℕ → ℕ → Bool} {z : ℕ} {b : ℕ → ℕ} where
   pub bounds_within : {s e s' e' : ℕ} → s ≤ s' → e' ≤ e → Bounds fit z s e b → Bounds fit z s' e' b
   bounds_within hs he D = record { rise = λ i p q. D.rise i (omega arith) (omega arith); step = λ i j p q. D.step i j (omega arith) (omega arith) }
 
-  pub bounds-rise : {s e : ℕ} → Bounds fit z s e b → (i d : ℕ) → s ≤ i → i + d ≤ e → b i ≤ b (i + d)
-  bounds-rise D i zero p q = let t : i + 0 ≡ i = omega arith in omega (arith, ap b t)
-  bounds-rise D i (suc d) p q =
+  pub bounds_rise : {s e : ℕ} → Bounds fit z s e b → (i d : ℕ) → s ≤ i → i + d ≤ e → b i ≤ b (i + d)
+  bounds_rise D i zero p q = let t : i + 0 ≡ i = omega arith in omega (arith, ap b t)
+  bounds_rise D i (suc d) p q =
       let t : i + suc d ≡ suc (i + d) = omega arith in
-      omega (arith, ap b t, bounds-rise D i d p (omega arith), D.rise (i + d) (omega arith) (omega arith))
+      omega (arith, ap b t, bounds_rise D i d p (omega arith), D.rise (i + d) (omega arith) (omega arith))
 
   pub bounds_up : {s e : ℕ} → Bounds fit z s e b → (i k : ℕ) → s ≤ i → i ≤ k → k ≤ e → b i ≤ b k
-  bounds_up D i k p q r = let t : i + (k - i) ≡ k = omega arith in omega (arith, ap b t, bounds-rise D i (k - i) p (omega arith))
+  bounds_up D i k p q r = let t : i + (k - i) ≡ k = omega arith in omega (arith, ap b t, bounds_rise D i (k - i) p (omega arith))
 
   module _ {pm qm : ℕ → ℕ} where
     -- Each position of P that is laid on a base lies below the bound after that base.
@@ -65,8 +65,8 @@ module _ {fit : ℕ → ℕ → Bool} {z s e : ℕ} {b : ℕ → ℕ} (D : Bound
   onward_past : (i : ℕ) → e ≤ i → onward b e i ≡ b e + (i - e)
   onward_past i h = let t : min i e ≡ e = omega arith in omega (arith, ap b t)
 
-  bounds-on : (n : ℕ) → Bounds fit z s n (onward b e)
-  bounds-on n = record { rise = rise; step = step } where
+  bounds_on : (n : ℕ) → Bounds fit z s n (onward b e)
+  bounds_on n = record { rise = rise; step = step } where
     rise : (i : ℕ) → s ≤ i → i < n → onward b e i ≤ onward b e (suc i)
     rise i p q = elim (dec_lt i e) [
       | yes h ↦ omega (arith, onward_in i (omega arith), onward_in (suc i) h, D.rise i p h)
@@ -82,4 +82,4 @@ module _ {fit : ℕ → ℕ → Bool} {z s e : ℕ} {b : ℕ → ℕ} (D : Bound
   -- What is reached past e: no more than the bound there and the bases behind it.
   pub bounds_past : {pm qm : ℕ → ℕ} {j k n : ℕ} → s ≤ e → e ≤ n → j ≤ b s → Reach fit pm qm z j k s n → k ≤ b e + (n - e)
   bounds_past {pm} {qm} {j} {k} {n} se en h R =
-      omega (arith, bounds_end (bounds-on n) (omega arith) (omega (arith, onward_in s se)) R, onward_past n en)
+      omega (arith, bounds_end (bounds_on n) (omega arith) (omega (arith, onward_in s se)) R, onward_past n en)

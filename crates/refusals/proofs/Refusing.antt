@@ -115,8 +115,8 @@ module _ {E A : Type 0} (v : Verdict) (f : Refusal → E) (x : E) (answer : E �
   -- and a refusal leaves the two buffers as it found them
   pub keeps_by : (one two : E → List ℕ) (a b : List ℕ) → ((r : Refusal) → one (f r) ≡ a) → ((r : Refusal) → two (f r) ≡ b)
       → Keeps refused (answer (by_verdict v f x)) a b (one (by_verdict v f x)) (two (by_verdict v f x))
-  keeps_by one two a b same-one same-two = go v
+  keeps_by one two a b same_one same_two = go v
     where
       go : (w : Verdict) → Keeps refused (answer (by_verdict w f x)) a b (one (by_verdict w f x)) (two (by_verdict w f x))
       go Accepted r e = absurd (apart r (sym (ap answer (by_accepted Accepted f x refl)) ∙ e))
-      go (Refused s) r e = let w = by_refused (Refused s) f x s refl in (ap one w ∙ same-one s, ap two w ∙ same-two s)
+      go (Refused s) r e = let w = by_refused (Refused s) f x s refl in (ap one w ∙ same_one s, ap two w ∙ same_two s)
