@@ -74,8 +74,8 @@
 //! # }
 //! ```
 //!
-//! To build: `rt lib` in the repository's folder `crates/capi` proves the library and writes `crates/capi/out/libcapi.a` (x86-64), which this crate links.
-//! Another folder is named by the variable `LAKHIDO_LIB_DIR`.
+//! To build: `make archive` in the repository proves the library and writes `crates/capi/out/libcapi.a` (x86-64), which this crate links. Another
+//! folder is named by the variable `LAKHIDO_LIB_DIR`.
 //!
 //! A call needs no more than [`STACK`] bytes of stack.
 
