@@ -1,0 +1,41 @@
+-- `catalog::query` meets its contract.
+-- A refusal of the judge is the answer, and no buffer is written. Else what the judge let pass is what the search asks, and the answer from
+-- the slot's entry of the clean cache is `query_outcome`.
+use borrow.Author.Rules.{rules}
+use native.Mathlib.Omega.{arith}
+use mathlib.Core.Path.{sym, ◌∙◌}
+use lib.ListN.{length}
+use Rattle.catalog.proofs.ReadyLaws as ready
+use Rattle.strand.specs.Strands.{strand_of}
+use Rattle.calls.proofs.Claims as claim
+use Rattle.calls.proofs.CallLaws as call
+use Rattle.refusals.proofs.RuleLaws as rule
+use Rattle.embedding.specs.Longest.{embeds}
+use Rattle.catalog.proofs.query.Goals as goal
+
+pub returns-in-Refused : goal.returns-in-Refused
+returns-in-Refused c = (
+  sym (claim.query_refused embeds c.args.catalog.now c.args.cache.now (strand_of c.args.p.now c.args.pm.now)
+      (length c.args.work.now) c.args.hits.now c.in-Refused.r
+      (sym c.judge_query-verdict.ensures ∙ c.in-Refused.is)),
+  rule.work_refused _ c.in-Refused.r _ (sym c.judge_query-verdict.ensures ∙ c.in-Refused.is),
+)
+
+pub answer-requires : goal.answer-requires
+answer-requires c =
+    let f = ready.query_ready c.args.catalog.now c.args.cache.now (strand_of c.args.p.now c.args.pm.now)
+    (length c.args.work.now) (length c.args.hits.now)
+    (sym c.judge_query-verdict.ensures ∙ c.in_default.is) in (
+      f.0,
+      omega (arith, f.2, c.clean_all.auto.s),
+      call.clean_sound c.args.cache.now c.clean_all.new.s c.clean_all.ensures,
+      f.1,
+    )
+
+pub returns : goal.returns
+returns c = (
+  call.query_done embeds c.args.catalog.now c.args.cache.now (strand_of c.args.p.now c.args.pm.now)
+      (length c.args.work.now) c.args.hits.now c.answer.result _ _ c.clean_all.new.s
+      (sym c.judge_query-verdict.ensures ∙ c.in_default.is) c.clean_all.ensures c.answer.ensures,
+  rule.work_accepted _ _ _ (sym c.judge_query-verdict.ensures ∙ c.in_default.is) c.answer.auto.work,
+)

@@ -1,0 +1,8 @@
+-- `motifs::bases_at` meets its contract: the bases of a motif are a part of its block.
+use borrow.Author.Rules.{rules}
+use native.Mathlib.Omega.{arith}
+use Rattle.motifs.proofs.ReadLaws as reading
+use Rattle.motifs.proofs.bases_at.Goals as goal
+
+pub returns : goal.returns
+returns c = reading.bases_are c.args.motifs.now c.args.t (c.requires.0.each _ c.requires.1) _ c.block_at-b.ensures
