@@ -1,4 +1,6 @@
 // What the test programs share. It stands on no crate that they test.
+#![tactic(auto)]
+
 pub mod answer;
 pub mod brute;
 pub mod input;
