@@ -2,6 +2,7 @@
 use calls::{BatchRead, Batched};
 use catalog_testing::lines::Request;
 use catalog_testing::{held, lines, requests};
+use std::io;
 use testing::answer;
 use testing::answer::WRONG;
 use testing::input::{digit_at, number};
@@ -131,10 +132,10 @@ fn made(c: Request, line: &[u8], s: &mut [u8]) -> usize {
 }
 
 // The answer of the batch of a line, which is written where it is wrong.
-pub fn answer(line: &[u8], s: &mut [u8]) -> usize {
+pub fn answer<P: Print>(out: &P, line: &[u8], s: &mut [u8]) -> io::Result<usize> {
     let c = lines::call(line, b'M');
     let r = made(c, line, s);
-    held(c, line, s, r)
+    held(out, c, line, s, r)
 }
 
 // Writes the strand of a line as a block of the buffer.

@@ -20,7 +20,7 @@ const FIELD: usize = 24;
 const NAME: usize = 46;
 
 // An answer: one number for what it found or for its refusal (see `answer`), and the arcs and the depth that it has as one number, 0 after a refusal.
-#[derive(Drop)]
+#[derive(Clone, Copy)]
 pub struct Told {
     pub got: usize,
     pub fold: usize,
