@@ -16,9 +16,9 @@ const BLOCK: usize = 512;
 // ---- answers
 
 // How many molecules were read; 0 after a refusal.
-fn number_read(read: BatchRead) -> usize {
+fn number_read(read: &BatchRead) -> usize {
     if let BatchRead::Molecules(n) = read {
-        return n;
+        return *n;
     }
     0
 }
@@ -35,7 +35,7 @@ fn told(b: Batched, wanted: usize, motifs: usize) -> usize {
     let read = b.read;
     let counts = b.counts;
     let searched = b.searched;
-    let sum = sum_numbers(sum_numbers(number_read(read), &counts), &searched);
+    let sum = sum_numbers(sum_numbers(number_read(&read), &counts), &searched);
     if sum != wanted {
         return WRONG;
     }

@@ -4,7 +4,7 @@
 // and a pipe whose reader is gone, where the system's signal ends the program before it can tell anything (docs/DECISIONS.md, Failed reads and writes).
 #![tactic(auto)]
 
-ghost use Rattle.io.specs.Counts.{IsPrefixLen};
+ghost use Rattle.screen.specs.Counts.{IsPrefixLen};
 
 use screening::Screened;
 use std::io::Read;
