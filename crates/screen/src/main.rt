@@ -1,7 +1,6 @@
 // The screen program: it reads the input from standard input, calls screening::screen, and writes the output. Where a read fails it prints nothing,
 // for an input that is cut short would give a wrong hit list. Where a write fails or takes only a part, the output is not complete. Both are told by
-// one line on standard error. Out of reach: a program of the language ends with exit status 0, after a failure too; errno, so the line names no cause;
-// and a pipe whose reader is gone, where the system's signal ends the program before it can tell anything (docs/DECISIONS.md, Failed reads and writes).
+// one line on standard error, which names no cause, and by exit status 1 (docs/DECISIONS.md, Failed reads and writes).
 #![tactic(auto)]
 
 ghost use Rattle.screen.specs.Counts.{IsPrefixLen};

@@ -1,3 +1,4 @@
+-- No step fails and the loop ends: the invariant is i ≤ 99999.
 use Rattle.std.proofs.Common.{◌-◌, ◌≤◌}
 use Rattle.catalog_test.proofs.all.Given as goal
 

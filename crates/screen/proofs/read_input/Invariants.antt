@@ -1,3 +1,4 @@
+-- What was read fits into the buffer, and each round reads at least one byte.
 use Rattle.std.proofs.Common.{◌-◌, ◌≤◌, length}
 use Rattle.screen.proofs.read_input.Given as goal
 

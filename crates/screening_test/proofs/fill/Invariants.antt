@@ -1,3 +1,4 @@
+-- No step fails and the loop ends: the invariant is i ≤ 160.
 use Rattle.std.proofs.Common.{◌-◌, ◌≤◌}
 use Rattle.screening_test.proofs.fill.Given as goal
 

@@ -1,3 +1,4 @@
+-- No step fails and the loop ends: the invariant is that i is at most the number of lines.
 use Rattle.std.proofs.Common.{◌-◌, ◌/◌, ◌≤◌, length}
 use Rattle.screening_test.proofs.steps.Given as goal
 

@@ -1,3 +1,4 @@
+-- No step fails and the loop ends: the invariant is that i is at most the length of the motif buffer.
 use Rattle.std.proofs.Common.{◌-◌, ◌≤◌, length}
 use Rattle.batch_test.proofs.batches.gather.Given as goal
 

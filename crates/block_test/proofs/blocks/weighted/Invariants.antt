@@ -1,3 +1,4 @@
+-- No step fails and the loop ends: a byte passed adds at most 508 times 255.
 use Rattle.std.proofs.Common.{◌-◌, ◌*◌, ◌≤◌}
 use Rattle.block_test.proofs.blocks.weighted.Given as goal
 

@@ -1,3 +1,4 @@
+-- No step fails and the loop ends: the invariant is i ≤ 162.
 use Rattle.std.proofs.Common.{◌-◌, ◌≤◌}
 use Rattle.block_test.proofs.parts.fill.Given as goal
 

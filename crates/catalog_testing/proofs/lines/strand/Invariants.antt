@@ -1,3 +1,4 @@
+-- No step fails and the loop ends: the invariant is i ≤ 161.
 use Rattle.std.proofs.Common.{◌-◌, ◌≤◌}
 use Rattle.catalog_testing.proofs.lines.strand.Given as goal
 

@@ -1,3 +1,4 @@
+-- No step fails and the loop ends: the invariant is that i is at most the length of the cache.
 use Rattle.std.proofs.Common.{◌-◌, ◌≤◌, length}
 use Rattle.catalog_testing.proofs.requests.store.Given as goal
 

@@ -1,3 +1,4 @@
+-- No step fails and the loop ends: the invariant is row ≤ 100.
 use Rattle.std.proofs.Common.{◌-◌, ◌≤◌}
 use Rattle.catalog_testing.proofs.tell.write_rows.Given as goal
 

@@ -1,3 +1,4 @@
+-- No step fails, and the loop ends: the invariant is that x is at most the length of the motif.
 use Rattle.std.proofs.Common.{◌-◌, ◌≤◌, length}
 use Rattle.embedding_test.proofs.naive.fits.Given as goal
 

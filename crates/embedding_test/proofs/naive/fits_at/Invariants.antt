@@ -1,3 +1,4 @@
+-- No step fails, and the loop ends: the invariant is that y is at most the length of the motif.
 use Rattle.std.proofs.Common.{◌-◌, ◌≤◌, length}
 use Rattle.embedding_test.proofs.naive.fits_at.Given as goal
 

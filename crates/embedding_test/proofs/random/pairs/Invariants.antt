@@ -1,3 +1,4 @@
+-- No step fails, and the loop ends: the invariant is i ≤ count.
 use Rattle.std.proofs.Common.{◌-◌, ◌≤◌}
 use Rattle.embedding_test.proofs.random.pairs.Given as goal
 

@@ -1,3 +1,4 @@
+-- No step fails, and the loop ends: the invariant is that i is at most the number of places.
 use Rattle.std.proofs.Common.{◌-◌, ◌≤◌, length}
 use Rattle.embedding_test.proofs.random.write_list.Given as goal
 

@@ -1,3 +1,4 @@
+-- No step fails and the loop ends: the invariant is i ≤ n.
 use Rattle.std.proofs.Common.{◌-◌, ◌≤◌}
 use Rattle.strand_test.proofs.make.lay.Given as goal
 

@@ -1,3 +1,4 @@
+-- No step fails and the loop ends: the invariant is row ≤ 8.
 use Rattle.std.proofs.Common.{◌-◌, ◌≤◌}
 use Rattle.strand_test.proofs.naive.answer.Given as goal
 

@@ -1,3 +1,4 @@
+-- No step fails and the loop ends: the invariant is that a is at most the number of mates.
 use Rattle.std.proofs.Common.{◌-◌, ◌≤◌, length}
 use Rattle.strand_test.proofs.naive.crossed.Given as goal
 

@@ -1,3 +1,4 @@
+-- No step fails and the loop ends: the invariant is x ≤ i.
 use Rattle.std.proofs.Common.{◌-◌, ◌≤◌}
 use Rattle.testing.proofs.brute.arcs_fit.Given as goal
 

@@ -1,3 +1,4 @@
+-- No step fails and the loop ends: the invariant is y ≤ k.
 use Rattle.std.proofs.Common.{◌-◌, ◌≤◌}
 use Rattle.testing.proofs.brute.closed.Given as goal
 

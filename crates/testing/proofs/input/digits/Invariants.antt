@@ -1,3 +1,5 @@
+-- The contract promises nothing, so the proof says that no step fails and the loop ends. The invariant: k is at most the length of `to`, and that length
+-- is kept.
 use Rattle.std.proofs.Common.{◌-◌, ◌≤◌, length}
 use Rattle.testing.proofs.input.digits.Given as goal
 

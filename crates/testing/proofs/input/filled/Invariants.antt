@@ -1,3 +1,4 @@
+-- No step fails and the loop ends: the invariant is k ≤ n, and the column read stays below 512.
 use Rattle.std.proofs.Common.{◌-◌, ◌≤◌}
 use Rattle.testing.proofs.input.filled.Given as goal
 

@@ -1,3 +1,4 @@
+-- No step fails and the loop ends: the invariant is k ≤ n. v is cut to nine digits before it gets one more, so no product and no sum overflows.
 use Rattle.std.proofs.Common.{◌-◌, ◌≤◌}
 use Rattle.testing.proofs.input.number.Given as goal
 

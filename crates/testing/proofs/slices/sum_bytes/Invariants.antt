@@ -1,3 +1,4 @@
+-- No step fails and the loop ends: the invariant is that i is at most the length of s; `further` takes any sum.
 use Rattle.std.proofs.Common.{◌-◌, ◌≤◌, length}
 use Rattle.testing.proofs.slices.sum_bytes.Given as goal
 

@@ -1,3 +1,4 @@
+-- No step fails and the loop ends: the test of the loop guards each read.
 use Rattle.std.proofs.Common.{◌-◌, length}
 use Rattle.testing.proofs.slices.untouched.Given as goal
 

@@ -1,3 +1,4 @@
+-- No step fails and the loop ends: the invariant is k ≤ 10.
 use Rattle.std.proofs.Common.{◌-◌, ◌≤◌}
 use Rattle.testing.proofs.strands.copy.Given as goal
 

@@ -1,3 +1,4 @@
+-- No step fails and the loop ends: the invariant is that i is at most the length of the window.
 use Rattle.std.proofs.Common.{◌-◌, ◌≤◌}
 use Rattle.window_test.proofs.every.cut.Given as goal
 

@@ -1,3 +1,4 @@
+-- No step fails and the loop ends: the invariant is that `start` is at most the number of bases.
 use Rattle.std.proofs.Common.{◌-◌, ◌≤◌, length}
 use Rattle.window_test.proofs.every.first_start.Given as goal
 

@@ -1,3 +1,4 @@
+-- No step fails and the loop ends: the invariant is that the length of the window is at most one more than the number of bases.
 use Rattle.std.proofs.Common.{◌+◌, ◌-◌, ◌≤◌, length}
 use Rattle.window_test.proofs.every.tightest.Given as goal
 
