@@ -1,5 +1,4 @@
 -- `strand::check_strand` meets its contract: each return is the first rule that refuses; the rules before it passed.
-use borrow.Author.Rules.{rules}
 use mathlib.Core.Path.{sym, ◌∙◌}
 use Rattle.lists.proofs.ListLaws.{not_not, true_not}
 use Rattle.strand.proofs.CheckLaws.{refused_unequal, refused_no_bases, refused_too_long, refused_letter, refused_mate, refused_not_mutual}

@@ -1,5 +1,4 @@
 -- `rows::row::over_entry` meets its contract: each return is a case of `over_by`.
-use borrow.Author.Rules.{rules}
 use borrow.Author.Tests.{eq-eqb, ne_eqb}
 use mathlib.Core.Path.{sym, ◌∙◌}
 use native.Mathlib.Numerals.{add-one}

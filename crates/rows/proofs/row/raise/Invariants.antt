@@ -1,11 +1,7 @@
 -- `rows::row::raise` meets its contract. The invariant: the entries before j are raised, those from j on and the row at `at` as before (`Written`).
-use borrow.Author.Rules.{rules}
 use Prim.Native.Nat.{◌+◌, ◌-◌, ◌≤◌, min, max}
-use native.Mathlib.Omega.{arith}
 use Rattle.lists.specs.Vocabulary.{nth}
 use Rattle.rows.specs.Rows.{Written}
-use Rattle.rows.proofs.Pass.{pass_none, pass_set, pass_end}
-use Rattle.rows.proofs.Passes as passes
 use Rattle.rows.proofs.row.raise.Given as goal
 
 abbrev pub invariant-loop-j : goal.invariant-loop-j
