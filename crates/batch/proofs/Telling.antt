@@ -165,7 +165,7 @@ module _ (catalog cache motifs : List ℕ) (work : ℕ) (hits : List ℕ) (e : b
 
   -- So the plan tells what query t has to search.
   planned_is : (t d : ℕ) → t < block_count motifs → d < 512 → planned_by h (copy t) (p t) d
-    ≡ searches_at embeds catalog motifs work (batch_state cache hits) t d
+      ≡ searches_at embeds catalog motifs work (batch_state cache hits) t d
   unfolding planned_by to_search
   planned_is t d l k =
       let A = alike t (omega arith) in
@@ -219,7 +219,7 @@ module _ (catalog cache motifs : List ℕ) (work : ℕ) (hits : List ℕ) (e : b
 
     searched_is : (t : ℕ) → t < block_count motifs
         → length (select (block_count catalog) (map_bit todo (map_size * t)))
-          ≡ searched_of (query_at embeds catalog motifs work (batch_state cache hits) t).answer
+        ≡ searched_of (query_at embeds catalog motifs work (batch_state cache hits) t).answer
     searched_is t l =
         ap length (select_ext (block_count catalog) _ _ (λ d k.
         asked_is t d l (omega (arith, few)) ∙ batch.searches_is embeds catalog motifs work cache hits e t d (omega arith)))
