@@ -19,8 +19,10 @@ use Rattle.batch.proofs.answer.answer_all.Given as goal
 abbrev pub invariant-loop-t : goal.invariant-loop-t
 invariant-loop-t l =
     (l.t ≤ block_count l.motifs) × (l.cache ≡ clean_to embeds l.catalog l.motifs l.work l.initial.cache l.initial.hits l.t)
-    × (l.hits ≡ (batch_to embeds l.catalog l.motifs l.work l.t (batch_state l.initial.cache l.initial.hits)).hits) × (length l.hit ≡ length l.initial.hit) × (length l.counts ≡ length l.initial.counts)
-    × (l.counts ≡ tab l.t (λ u. count_of (query_at embeds l.catalog l.motifs l.work (batch_state l.initial.cache l.initial.hits) u).answer) ++ drop l.t l.initial.counts)
+    × (l.hits ≡ (batch_to embeds l.catalog l.motifs l.work l.t (batch_state l.initial.cache l.initial.hits)).hits) × (length l.hit ≡ length l.initial.hit) ×
+        (length l.counts ≡ length l.initial.counts)
+    × (l.counts ≡ tab l.t (λ u. count_of (query_at embeds l.catalog l.motifs l.work (batch_state l.initial.cache l.initial.hits) u).answer) ++ drop l.t
+        l.initial.counts)
 
 abbrev pub decreases-loop-t : goal.decreases-loop-t
 decreases-loop-t l =

@@ -12,7 +12,8 @@ use Rattle.batch.proofs.plan.plan_lent.Given as goal
 
 abbrev pub invariant-loop-t : goal.invariant-loop-t
 invariant-loop-t l =
-    (l.t ≤ block_count l.motifs) × (l.cache ≡ planned_after l.motifs l.held l.initial.cache l.t) × Planning l.motifs l.mates l.held l.cache × PlannedTo l.motifs l.held l.initial.cache l.todo l.t
+    (l.t ≤ block_count l.motifs) × (l.cache ≡ planned_after l.motifs l.held l.initial.cache l.t) × Planning l.motifs l.mates l.held l.cache
+        × PlannedTo l.motifs l.held l.initial.cache l.todo l.t
     × (length l.cache ≡ length l.initial.cache)
 
 abbrev pub decreases-loop-t : goal.decreases-loop-t
