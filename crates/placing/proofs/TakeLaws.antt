@@ -1,6 +1,6 @@
 -- An arc of the molecule takes the motif as far as can be, and places of what goes inside the arc, with its ends, are places of the whole.
 use Prim.Native.Nat.{ℕ, suc, ◌+◌, ◌≤◌, ◌<◌, max}
-use mathlib.Core.Path.{◌≡◌, refl, sym, ap, ap₂, ◌∙◌}
+use mathlib.Core.Path.{◌≡◌, refl, sym, ap, ◌∙◌}
 use mathlib.Core.Bool.{Bool, true, false}
 use mathlib.Core.List.{List}
 use mathlib.Core.Logic.{◌⊎◌, ⊎_elim}
@@ -17,14 +17,14 @@ use Rattle.embedding.proofs.Arc.{inner_closed, upon_arc}
 use Rattle.embedding.proofs.Segment.{cut_to}
 use Rattle.embedding.proofs.Rows.{before_right, row_from}
 use Rattle.placing.specs.declared.take.ArcTake.{ArcTake}
-use Rattle.rows.specs.Rows.{Tables, matches}
+use Rattle.rows.specs.Rows.{matches}
 use Rattle.arcs.specs.Arcs.{Setting}
 use Rattle.placing.specs.Placing.{Takes, upon, left_end, inside, Taken, PlacePut, Laid}
 use Rattle.embedding.proofs.Entries.{UnitTakes, unit_case, over_other, over_free, over_far, over_unlike, over_short, over_arc}
 
 -- What the arc takes, by o, what it takes with its left end, and u, what it takes without.
 module _ (left right : ℕ → Bool) (pm : ℕ → ℕ) (z j here next u o : ℕ) (a : j < z) (e : u ≡ unit_at right pm z here) (f : o
-  ≡ over_at left right pm z next j) where
+    ≡ over_at left right pm z next j) where
   pub takes_inside : o ≤ u → Takes left right pm j z here next (record { from = j; to = here; next = u })
   takes_inside h = rw e (inside (omega arith))
 
@@ -80,101 +80,101 @@ module _ {fit : ℕ → ℕ → Bool} {f g : ℕ → ℕ} where
 module _ {p pm q qm : List ℕ} {j to : ℕ} (z l r : ℕ) (S : Setting p pm q qm j to) (jz : j < z) (zt : z ≤ to)
     (lr : l < r) (rn : r < length q) (arc : nth qm l ≡ r) {row : ℕ → ℕ} (A : IsRow (letters_fit p q) (nth pm) (nth qm) j z z (l + 1) r row)
     (best : Best (letters_fit p q) (nth pm) (nth qm) to j (arc_at (matches p (nth q l)) (matches p (nth q r)) (nth pm) z (row j) (row (j + 1)) j) l (r + 1))
-      where
-  here : (j ≤ row j) × (row j ≤ z)
-  here = row_from A j (omega arith) (omega (arith, jz))
+  where
+    here : (j ≤ row j) × (row j ≤ z)
+    here = row_from A j (omega arith) (omega (arith, jz))
 
-  after : (j + 1 ≤ row (j + 1)) × (row (j + 1) ≤ z)
-  after = row_from A (j + 1) (omega arith) (omega (arith, jz))
+    after : (j + 1 ≤ row (j + 1)) × (row (j + 1) ≤ z)
+    after = row_from A (j + 1) (omega arith) (omega (arith, jz))
 
-  split_right : Split (nth qm) (l + 1) r (r + 1)
-  split_right u a b d =
-      let A' : IsRow (letters_fit p q) (nth pm) (nth qm) j z z (suc l) r row = rw (← (add-one l)) A in
-      omega (arith, before_right {z = z} S.motif (omega (arith, zt, S.segment.ends)) S.molecule lr rn arc A' u (omega arith) b d)
+    split_right : Split (nth qm) (l + 1) r (r + 1)
+    split_right u a b d =
+        let A' : IsRow (letters_fit p q) (nth pm) (nth qm) j z z (suc l) r row = rw (← (add-one l)) A in
+        omega (arith, before_right {z = z} S.motif (omega (arith, zt, S.segment.ends)) S.molecule lr rn arc A' u (omega arith) b d)
 
-  taken_inside : over_at (matches p (nth q l)) (matches p (nth q r)) (nth pm) z (row (j + 1)) j ≤ unit_at (matches p (nth q r)) (nth pm) z (row j)
-      → Taken p pm q qm j to l r (record { from = j; to = row j; next = unit_at (matches p (nth q r)) (nth pm) z (row j) })
-  taken_inside o = go (unit_at (matches p (nth q r)) (nth pm) z (row j)) refl (unit_case (matches p (nth q r)) (nth pm) z (row j)) where
-    go : (u : ℕ) → unit_at (matches p (nth q r)) (nth pm) z (row j) ≡ u
-        → (unit_at (matches p (nth q r)) (nth pm) z (row j) ≡ row j) ⊎ UnitTakes (matches p (nth q r)) (nth pm) z (row j)
-        → Taken p pm q qm j to l r (record { from = j; to = row j; next = u })
-    go u i d =
+    taken_inside : over_at (matches p (nth q l)) (matches p (nth q r)) (nth pm) z (row (j + 1)) j ≤ unit_at (matches p (nth q r)) (nth pm) z (row j)
+        → Taken p pm q qm j to l r (record { from = j; to = row j; next = unit_at (matches p (nth q r)) (nth pm) z (row j) })
+    taken_inside o = go (unit_at (matches p (nth q r)) (nth pm) z (row j)) refl (unit_case (matches p (nth q r)) (nth pm) z (row j)) where
+      go : (u : ℕ) → unit_at (matches p (nth q r)) (nth pm) z (row j) ≡ u
+          → (unit_at (matches p (nth q r)) (nth pm) z (row j) ≡ row j) ⊎ UnitTakes (matches p (nth q r)) (nth pm) z (row j)
+          → Taken p pm q qm j to l r (record { from = j; to = row j; next = u })
+      go u i d =
+          record {
+            low = omega arith;
+            one_left = omega arith;
+            order = here.0;
+            goes = ⊎_elim (λ x. omega (arith, i)) (λ x. omega (arith, i, x.value)) d;
+            one_right = ⊎_elim (λ x. omega (arith, i)) (λ x. omega (arith, i, x.value)) d;
+            ends = ⊎_elim (λ x. omega (arith, i, here, zt)) (λ x. omega (arith, i, x.value, x.low, zt)) d;
+            best = let m : max (unit_at (matches p (nth q r)) (nth pm) z (row j)) (over_at (matches p (nth q l)) (matches p (nth q r)) (nth pm) z (row (j + 1)) j)
+                ≡ u = omega arith in rw m at best;
+            inner = cut_to (A.best j (omega arith) (omega (arith, jz))).reach;
+            lay = λ h E el er. ⊎_elim (λ x. restrict j u l (r + 1) (omega arith) (omega (arith, i)) (omega arith) (omega arith) E)
+                (λ x.
+                let v : u ≡ row j + 1 = omega (arith, i, x.value) in
+                let O = one_base {fit = letters_fit p q} {f = nth pm} {g = nth qm} (row j) r h (er (omega (arith, v))) x.fits in
+                restrict j u l (r + 1) (omega arith) (omega (arith, v)) (omega arith) (omega arith)
+                (join (row j) r (omega arith) (omega arith) (A.best j (omega arith) (omega (arith, jz))).reach.closed split_right E O)) d;
+          }
+
+    taken_left : matches p (nth q l) j ≡ true → nth pm j ≤ j → unit_at (matches p (nth q r)) (nth pm) z (row j) < row (j + 1)
+        → Taken p pm q qm j to l r (record { from = j + 1; to = row (j + 1); next = row (j + 1) })
+    taken_left tl free lt =
         record {
           low = omega arith;
           one_left = omega arith;
-          order = here.0;
-          goes = ⊎_elim (λ x. omega (arith, i)) (λ x. omega (arith, i, x.value)) d;
-          one_right = ⊎_elim (λ x. omega (arith, i)) (λ x. omega (arith, i, x.value)) d;
-          ends = ⊎_elim (λ x. omega (arith, i, here, zt)) (λ x. omega (arith, i, x.value, x.low, zt)) d;
-          best = let m : max (unit_at (matches p (nth q r)) (nth pm) z (row j)) (over_at (matches p (nth q l)) (matches p (nth q r)) (nth pm) z (row (j + 1)) j)
-              ≡ u = omega arith in rw m at best;
-          inner = cut_to (A.best j (omega arith) (omega (arith, jz))).reach;
-          lay = λ h E el er. ⊎_elim (λ x. restrict j u l (r + 1) (omega arith) (omega (arith, i)) (omega arith) (omega arith) E)
-              (λ x.
-              let v : u ≡ row j + 1 = omega (arith, i, x.value) in
-              let O = one_base {fit = letters_fit p q} {f = nth pm} {g = nth qm} (row j) r h (er (omega (arith, v))) x.fits in
-              restrict j u l (r + 1) (omega arith) (omega (arith, v)) (omega arith) (omega arith)
-              (join (row j) r (omega arith) (omega arith) (A.best j (omega arith) (omega (arith, jz))).reach.closed split_right E O)) d;
+          order = after.0;
+          goes = omega arith;
+          one_right = omega arith;
+          ends = omega (arith, after, zt);
+          best =
+              let o = over_free (matches p (nth q l)) (matches p (nth q r)) (nth pm) z (row (j + 1)) j jz tl free in
+              let m : max (unit_at (matches p (nth q r)) (nth pm) z (row j)) (over_at (matches p (nth q l)) (matches p (nth q r)) (nth pm) z (row (j + 1)) j)
+              ≡ row (j + 1) = omega arith in
+              rw m at best;
+          inner = cut_to (A.best (j + 1) (omega arith) (omega (arith, jz))).reach;
+          lay = λ h E el er.
+              restrict j (row (j + 1)) l (r + 1) (omega arith) (omega arith) (omega arith) (omega arith)
+              (join (j + 1) (l + 1) (omega arith) (omega arith) (λ x a b. let i : x ≡ j = omega arith in omega (arith, ap (nth pm) i))
+              (λ u a b d. let i : u ≡ l = omega arith in omega (arith, ap (nth qm) i)) (one_base j l h (el (omega arith)) tl) E);
         }
 
-  taken_left : matches p (nth q l) j ≡ true → nth pm j ≤ j → unit_at (matches p (nth q r)) (nth pm) z (row j) < row (j + 1)
-      → Taken p pm q qm j to l r (record { from = j + 1; to = row (j + 1); next = row (j + 1) })
-  taken_left tl free lt =
-      record {
-        low = omega arith;
-        one_left = omega arith;
-        order = after.0;
-        goes = omega arith;
-        one_right = omega arith;
-        ends = omega (arith, after, zt);
-        best =
-            let o = over_free (matches p (nth q l)) (matches p (nth q r)) (nth pm) z (row (j + 1)) j jz tl free in
-            let m : max (unit_at (matches p (nth q r)) (nth pm) z (row j)) (over_at (matches p (nth q l)) (matches p (nth q r)) (nth pm) z (row (j + 1)) j)
-            ≡ row (j + 1) = omega arith in
-            rw m at best;
-        inner = cut_to (A.best (j + 1) (omega arith) (omega (arith, jz))).reach;
-        lay = λ h E el er.
-            restrict j (row (j + 1)) l (r + 1) (omega arith) (omega arith) (omega arith) (omega arith)
-            (join (j + 1) (l + 1) (omega arith) (omega arith) (λ x a b. let i : x ≡ j = omega arith in omega (arith, ap (nth pm) i))
-            (λ u a b d. let i : u ≡ l = omega arith in omega (arith, ap (nth qm) i)) (one_base j l h (el (omega arith)) tl) E);
-      }
+    taken_upon : matches p (nth q l) j ≡ true → j < nth pm j → nth pm j < z → matches p (nth q r) (nth pm j) ≡ true → nth pm j ≤ row (j + 1)
+        → unit_at (matches p (nth q r)) (nth pm) z (row j) ≤ nth pm j
+        → Taken p pm q qm j to l r (record { from = j + 1; to = nth pm j; next = nth pm j + 1 })
+    taken_upon tl up low tr fit le =
+        record {
+          low = omega arith;
+          one_left = omega arith;
+          order = omega arith;
+          goes = omega arith;
+          one_right = omega arith;
+          ends = omega (arith, zt);
+          best =
+              let o = over_arc (matches p (nth q l)) (matches p (nth q r)) (nth pm) z (row (j + 1)) j jz tl up low tr fit in
+              let m : max (unit_at (matches p (nth q r)) (nth pm) z (row j)) (over_at (matches p (nth q l)) (matches p (nth q r)) (nth pm) z (row (j + 1)) j)
+              ≡ nth pm j + 1 = omega arith in
+              rw m at best;
+          inner = record {
+            from = omega arith;
+            upto = omega arith;
+            closed = λ x a b. inner_closed S.motif j (omega (arith, S.segment.ends)) up x (omega arith) b;
+            embeds = (
+              (A.best (j + 1) (omega arith) (omega (arith, jz))).reach.embeds.0,
+              restrict (j + 1) (nth pm j) (l + 1) r (omega arith) fit (omega arith) (omega arith)
+                  (A.best (j + 1) (omega arith) (omega (arith, jz))).reach.embeds.1,
+            );
+          };
+          lay = λ h E el er.
+              shift j (nth pm j + 1) l (r + 1) refl (omega arith) refl (omega arith)
+              (upon_arc S.motif S.molecule j l r (omega (arith, S.segment.ends)) up lr rn arc (sym (el (omega arith))) (sym (er (omega arith))) tl tr
+              (shift (suc j) (nth pm j) (suc l) r (omega arith) refl (omega arith) refl E));
+        }
 
-  taken_upon : matches p (nth q l) j ≡ true → j < nth pm j → nth pm j < z → matches p (nth q r) (nth pm j) ≡ true → nth pm j ≤ row (j + 1)
-      → unit_at (matches p (nth q r)) (nth pm) z (row j) ≤ nth pm j
-      → Taken p pm q qm j to l r (record { from = j + 1; to = nth pm j; next = nth pm j + 1 })
-  taken_upon tl up low tr fit le =
-      record {
-        low = omega arith;
-        one_left = omega arith;
-        order = omega arith;
-        goes = omega arith;
-        one_right = omega arith;
-        ends = omega (arith, zt);
-        best =
-            let o = over_arc (matches p (nth q l)) (matches p (nth q r)) (nth pm) z (row (j + 1)) j jz tl up low tr fit in
-            let m : max (unit_at (matches p (nth q r)) (nth pm) z (row j)) (over_at (matches p (nth q l)) (matches p (nth q r)) (nth pm) z (row (j + 1)) j)
-            ≡ nth pm j + 1 = omega arith in
-            rw m at best;
-        inner = record {
-          from = omega arith;
-          upto = omega arith;
-          closed = λ x a b. inner_closed S.motif j (omega (arith, S.segment.ends)) up x (omega arith) b;
-          embeds = (
-            (A.best (j + 1) (omega arith) (omega (arith, jz))).reach.embeds.0,
-            restrict (j + 1) (nth pm j) (l + 1) r (omega arith) fit (omega arith) (omega arith)
-                (A.best (j + 1) (omega arith) (omega (arith, jz))).reach.embeds.1,
-          );
-        };
-        lay = λ h E el er.
-            shift j (nth pm j + 1) l (r + 1) refl (omega arith) refl (omega arith)
-            (upon_arc S.motif S.molecule j l r (omega (arith, S.segment.ends)) up lr rn arc (sym (el (omega arith))) (sym (er (omega arith))) tl tr
-            (shift (suc j) (nth pm j) (suc l) r (omega arith) refl (omega arith) refl E));
-      }
-
-  pub taken : (t : ArcTake) → Takes (matches p (nth q l)) (matches p (nth q r)) (nth pm) j z (row j) (row (j + 1)) t → Taken p pm q qm j to l r t
-  taken t (upon a b d x y w) = taken_upon a b d x y w
-  taken t (left_end a b d) = taken_left a b d
-  taken t (inside o) = taken_inside o
+    pub taken : (t : ArcTake) → Takes (matches p (nth q l)) (matches p (nth q r)) (nth pm) j z (row j) (row (j + 1)) t → Taken p pm q qm j to l r t
+    taken t (upon a b d x y w) = taken_upon a b d x y w
+    taken t (left_end a b d) = taken_left a b d
+    taken t (inside o) = taken_inside o
 
 -- What is written.
 pub put_set : (j k s : ℕ) (v : List ℕ) → j < k → j < length v → PlacePut j k s v (set v j s)

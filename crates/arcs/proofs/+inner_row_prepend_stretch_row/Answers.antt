@@ -3,19 +3,17 @@
 -- the row of flat_row (`no_arcs`). stretch_row makes the row of the last base or arc (`single_row`, `arc_front`) and puts the rest before it. prepend's
 -- invariant: the row is the old one with Q[i..hi) in front, and no arc leaves Q[lo..i); `prepend_front` and `prepend_step` put one more base or arc in front.
 -- Every row has the starts up to the bound where its stretch begins; `bounded_within` hands the bounds on.
-use mathlib.Core.Path.{◌≡◌, refl, sym, subst, ap, ◌∙◌}
-use Prim.Native.Nat.{ℕ, ◌+◌, ◌-◌, ◌*◌, ◌≤◌, ◌<◌}
+use mathlib.Core.Path.{◌≡◌, refl, sym, ap, ◌∙◌}
+use Prim.Native.Nat.{◌+◌, ◌-◌, ◌*◌, ◌≤◌, ◌<◌}
 use native.Mathlib.Omega.{arith}
 use lib.ListN.{length}
 use Rattle.embedding.proofs.Rows.{row_from}
 use Rattle.rows.specs.Rows.{last_at}
-use Rattle.arcs.specs.Arcs.{Sealed, Prepended}
 use Rattle.rows.proofs.Parts.{part_length, back_length}
-use Rattle.arcs.proofs.Arcs.{inner_sealed, no_arcs, room_less, room_one, room_child, room_more, room_light, room_past, light_one, light_at, light_front}
+use Rattle.arcs.proofs.Arcs.{room_less, room_one, room_child, room_more, room_light, room_past, light_one, light_at}
 use Rattle.arcs.proofs.Arcs.{split_sealed, around, back_of}
 use Rattle.arcs.proofs.Made.{bounded_within, starts, letter_at, no_kept_row, row_at, row_to, row_is, right_row, single_row, prepend_none}
-use Rattle.arcs.proofs.Made.{prepend_step, closed_row, inner_from, prepended_row, prepend_front, arc_front, kept_row, range_over, range_under, looked}
-use Rattle.arcs.proofs.+inner_row_prepend_stretch_row.{statement}
+use Rattle.arcs.proofs.Made.{prepend_step, closed_row, inner_from, prepended_row, prepend_front, arc_front, range_over, range_under, looked}
 use Rattle.arcs.proofs.+inner_row_prepend_stretch_row.Goals as goal
 use Rattle.arcs.proofs.+inner_row_prepend_stretch_row.Goals.{inner_row-then-heavy_r-r, inner_row-else-heavy_r-r, stretch_row-then-l-r, stretch_row-else-l-r}
 
@@ -130,7 +128,7 @@ inner_row-prepend-requires t c =
     let same : length c.if-heavy_r-r.work ≡ length c.args.work.now = elim c.if-heavy_r-r.branch [
       | inner_row-then-heavy_r-r b ↦
           ap length b.work-is ∙ b.combine.auto.row ∙ back_length (length c.args.p.now + 1) c.close.new.work
-              (omega (arith, long)) b.stretch_row.new.work b.stretch_row.auto.work
+          (omega (arith, long)) b.stretch_row.new.work b.stretch_row.auto.work
           ∙ c.close.auto.work ∙ c.inner_row.auto.work
       | inner_row-else-heavy_r-r b ↦ ap length b.work-is ∙ c.close.auto.work ∙ c.inner_row.auto.work
     ] in (

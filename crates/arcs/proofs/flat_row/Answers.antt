@@ -1,10 +1,8 @@
 -- `arcs::flat_row` meets its contract. The invariant: the row is that of Q[i..hi); a base put in front makes it that of Q[i - 1..hi) (`front_row`). Every row
 -- has the starts up to the bound where its stretch begins, which is no earlier than `from` (`starts`).
-use mathlib.Core.Path.{◌≡◌, refl, ◌∙◌}
-use Prim.Native.Nat.{◌-◌, ◌≤◌, ◌<◌}
+use mathlib.Core.Path.{refl, ◌∙◌}
+use Prim.Native.Nat.{◌-◌}
 use native.Mathlib.Omega.{arith}
-use lib.ListN.{length}
-use Rattle.arcs.specs.Arcs.{RowOf}
 use Rattle.arcs.proofs.Made.{bounded_within, starts, letter_at, none_row, single_row, front_row, row_at}
 use Rattle.arcs.proofs.flat_row.Goals as goal
 

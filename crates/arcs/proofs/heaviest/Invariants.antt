@@ -1,14 +1,7 @@
 -- `arcs::heaviest` meets its contract. The invariant (`Seen`): `best` is the first longest of the arcs that begin before l, and no arc before l goes past it.
 -- An arc's inside needs no look: what lies in it is shorter.
-use mathlib.Core.Path.{◌≡◌, refl}
-use mathlib.Core.Logic.{⊎_elim}
-use mathlib.Core.List.{List}
-use Prim.Native.Nat.{ℕ, ◌+◌, ◌-◌, ◌≤◌, ◌<◌}
-use native.Mathlib.Omega.{arith}
-use Rattle.lists.specs.Vocabulary.{nth}
-use Rattle.strand.specs.Strands.{Nested}
-use Rattle.arcs.specs.Arcs.{Sealed}
-use Rattle.arcs.proofs.Arcs.{Seen, seen_none, seen_base, seen_arc, seen_end}
+use Prim.Native.Nat.{◌-◌}
+use Rattle.arcs.proofs.Arcs.{Seen}
 use Rattle.arcs.proofs.heaviest.Given as goal
 
 abbrev pub invariant-loop-l : goal.invariant-loop-l

@@ -1,11 +1,7 @@
 -- `arcs::bounds::all_starts` meets its contract. The invariant: the bounds before base i are the motif's length (`Written`).
 use Prim.Native.Nat.{◌+◌, ◌-◌, ◌*◌, ◌≤◌}
-use native.Mathlib.Omega.{arith}
-use mathlib.Core.Path.{refl}
 use lib.ListN.{length}
 use Rattle.rows.specs.Rows.{Written}
-use Rattle.rows.proofs.Pass.{pass_none, pass_set, pass_end}
-use Rattle.arcs.proofs.BoundLaws.{starts_written}
 use Rattle.arcs.proofs.bounds.all_starts.Given as goal
 
 abbrev pub invariant-loop-i : goal.invariant-loop-i

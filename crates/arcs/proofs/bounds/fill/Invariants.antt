@@ -1,8 +1,7 @@
 -- `arcs::bounds::fill` meets its contract. The invariant (`Climbing`): the bounds before base i are written, and `bound` is the one there; the last one is set
 -- after the loop.
 use Prim.Native.Nat.{◌-◌}
-use native.Mathlib.Omega.{arith}
-use Rattle.arcs.proofs.BoundLaws.{Climbing, climbing_start, climbing_small, climbing_step, climbing_tables, climbing_end, filled_bounds, filled_last}
+use Rattle.arcs.proofs.BoundLaws.{Climbing}
 use Rattle.arcs.proofs.bounds.fill.Given as goal
 
 abbrev pub invariant-loop-i : goal.invariant-loop-i

@@ -1,6 +1,5 @@
 -- `arcs::bounds::next` meets its contract: each return is a case of the choice, and the classes tell whether the letters match (`own_match`).
 use mathlib.Core.Path.{sym, ◌∙◌}
-use borrow.Author.Rules.{rules}
 use borrow.Author.Tests.{eq-eqb, ne_eqb}
 use Rattle.rows.proofs.TableLaws.{own_match}
 use Rattle.arcs.proofs.BoundLaws.{next_all, next_taken, next_left}

@@ -1,5 +1,4 @@
 -- `block::checksum::checksum_in` meets its contract: the four bytes as one number.
-use borrow.Author.Rules.{rules}
 use Rattle.octets.specs.Octets.{word32}
 use Rattle.block.proofs.checksum.checksum_in.Goals as goal
 

@@ -1,7 +1,5 @@
 -- `block::checksum::put_checksum` meets its contract: less than a block stays; else the four bytes of the sum are stored.
-use borrow.Author.Rules.{rules}
 use native.Mathlib.Omega.{arith}
-use lib.ListN.{length-set}
 use mathlib.Core.Path.{sym}
 use Rattle.block.specs.Content.{rechecked, checksum_of}
 use Rattle.block.proofs.SumLaws.{sum_none, rechecked_short, rechecked_is}

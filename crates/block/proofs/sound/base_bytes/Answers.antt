@@ -1,5 +1,4 @@
 -- `block::sound::base_bytes` meets its contract: each return is one rule on the bytes, and each stretch begins where the one before ended.
-use borrow.Author.Rules.{rules}
 use native.Mathlib.Omega.{arith}
 use mathlib.Core.Path.{sym, ◌∙◌}
 use borrow.Author.Tests.{not-true, not-false}

@@ -1,5 +1,4 @@
 -- `block::sound::content` meets its contract: each return is one rule on the content.
-use borrow.Author.Rules.{rules}
 use native.Mathlib.Omega.{arith}
 use mathlib.Core.Path.{sym, ap, ◌∙◌}
 use borrow.Author.Tests.{not-true, not-false}

@@ -1,7 +1,5 @@
 -- `block::sound::holds_motif` meets its contract: sound, and not all zeros.
-use borrow.Author.Rules.{rules}
 use mathlib.Core.Path.{sym, ◌∙◌}
-use borrow.Author.Tests.{not-true, not-false}
 use Rattle.block.proofs.SoundLaws.{motif_unsound, motif_empty_not}
 use Rattle.block.proofs.sound.holds_motif.Goals as goal
 

@@ -1,9 +1,7 @@
 -- `block::sound::mate_bytes` meets its contract: nested mates, and zeros behind them.
-use borrow.Author.Rules.{rules}
 use native.Mathlib.Omega.{arith}
 use mathlib.Core.Path.{sym, ◌∙◌}
-use borrow.Author.Tests.{not-true, not-false}
-use Rattle.lists.proofs.ListLaws.{never}
+use borrow.Author.Tests.{not-false}
 use Rattle.block.proofs.SoundLaws as laws
 use Rattle.block.proofs.WalkLaws.{nested_small}
 use Rattle.block.proofs.sound.mate_bytes.Goals as goal

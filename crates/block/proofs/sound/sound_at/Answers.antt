@@ -1,6 +1,4 @@
 -- `block::sound::sound_at` meets its contract: block d is the part that is tested; where there is none, a part of another length is unsound.
-use borrow.Author.Rules.{rules}
-use mathlib.Core.Path.{ap, ◌∙◌}
 use Rattle.block.specs.Content.{molecule_kind}
 use Rattle.block.specs.Block.{sound_molecule}
 use Rattle.block.proofs.SoundLaws as laws

@@ -1,5 +1,4 @@
 -- `block::sound::sound_molecule` meets its contract: the test of strand blocks with the numbers of its kind.
-use borrow.Author.Rules.{rules}
 use Rattle.block.specs.Block.{sound_molecule}
 use Rattle.block.proofs.sound.sound_molecule.Goals as goal
 

@@ -1,5 +1,4 @@
 -- `block::sound::sound_motif` meets its contract: the test of strand blocks with the numbers of its kind.
-use borrow.Author.Rules.{rules}
 use Rattle.block.specs.Motif.{sound_motif}
 use Rattle.block.proofs.sound.sound_motif.Goals as goal
 

@@ -1,6 +1,5 @@
 -- `block::sound::sound_strand` meets its contract: each return is one rule. A block that begins with 0 has no kind, so it must be empty; any other has a
 -- content, and the sum over it is compared.
-use borrow.Author.Rules.{rules}
 use borrow.Author.Tests.{not-false, not-true}
 use mathlib.Core.Path.{◌∙◌, sym, ap}
 use Rattle.block.specs.Content.{sum_to}

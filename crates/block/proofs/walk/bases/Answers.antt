@@ -1,11 +1,8 @@
 -- `block::walk::bases` meets its contract: the total is the sum over the bytes passed, and `least` is 1 exactly where those of the stretch are letters.
-use borrow.Author.Rules.{rules}
 use native.Mathlib.Omega.{arith}
-use Prim.Native.Nat.{◌+◌, ◌-◌, ◌≤◌}
-use mathlib.Core.Path.{◌≡◌, refl}
-use lib.ListN.{length}
+use mathlib.Core.Path.{refl}
 use Rattle.letters.specs.Letters.{is_letter}
-use Rattle.block.proofs.WalkLaws.{part_length, Tested, tested_none, tested_next, tested_end}
+use Rattle.block.proofs.WalkLaws.{part_length, tested_none, tested_next, tested_end}
 use Rattle.block.proofs.walk.bases.Goals as goal
 
 pub loop-i-init : goal.loop-i-init

@@ -1,11 +1,9 @@
 -- `block::walk::bases` meets its contract: the total is the sum over the bytes passed, and `least` is 1 exactly where those of the stretch are letters.
-use borrow.Author.Rules.{rules}
-use native.Mathlib.Omega.{arith}
 use Prim.Native.Nat.{◌+◌, ◌-◌, ◌≤◌}
-use mathlib.Core.Path.{◌≡◌, refl}
+use mathlib.Core.Path.{◌≡◌}
 use lib.ListN.{length}
 use Rattle.letters.specs.Letters.{is_letter}
-use Rattle.block.proofs.WalkLaws.{part_length, Tested, tested_none, tested_next, tested_end}
+use Rattle.block.proofs.WalkLaws.{Tested}
 use Rattle.block.proofs.walk.bases.Given as goal
 
 abbrev pub invariant-loop-i : goal.invariant-loop-i

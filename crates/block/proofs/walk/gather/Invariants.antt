@@ -1,10 +1,7 @@
 -- `block::walk::gather` meets its contract: the total is the sum over the bytes passed, and at most 129,540 for each, so 32 bits hold it.
-use borrow.Author.Rules.{rules}
-use native.Mathlib.Omega.{arith}
 use Prim.Native.Nat.{◌-◌, ◌*◌, ◌≤◌}
-use mathlib.Core.Path.{◌≡◌, ◌∙◌, ap}
+use mathlib.Core.Path.{◌≡◌}
 use Rattle.block.specs.Content.{sum_to}
-use Rattle.block.proofs.SumLaws.{sum_more, sum_small}
 use Rattle.block.proofs.walk.gather.Given as goal
 
 abbrev pub invariant-loop-i : goal.invariant-loop-i

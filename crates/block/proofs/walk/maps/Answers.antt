@@ -1,16 +1,13 @@
 -- `block::walk::maps` meets its contract: the total has the bytes of both maps that have been passed, and `least` is 1 exactly where each hit byte lies
 -- within its searched byte.
-use borrow.Author.Rules.{rules}
 use native.Mathlib.Omega.{arith}
-use Prim.Native.Nat.{◌+◌, ◌-◌, ◌*◌, ◌≤◌}
-use mathlib.Core.Path.{◌≡◌, ◌∙◌, ap}
+use mathlib.Core.Path.{◌∙◌, ap}
 use mathlib.Core.Bool.{Bool}
-use lib.ListN.{length}
-use Rattle.lists.specs.Vocabulary.{every, choose}
+use Rattle.lists.specs.Vocabulary.{choose}
 use Rattle.letters.proofs.LetterLaws.{least_none, least_next, least_end}
 use Rattle.block.proofs.SumLaws.{sum_small}
 use Rattle.block.proofs.SoundLaws.{hit_byte, hits_bytes}
-use Rattle.block.proofs.WalkLaws.{MapsPassed, maps_none, maps_small, maps_next, maps_end}
+use Rattle.block.proofs.WalkLaws.{maps_none, maps_small, maps_next, maps_end}
 use Rattle.block.proofs.walk.maps.Goals as goal
 
 pub loop-i-init : goal.loop-i-init

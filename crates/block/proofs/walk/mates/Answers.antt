@@ -1,8 +1,6 @@
 -- `block::walk::mates` meets its contract: the first n of the mates that were read are those that lie in the block.
-use borrow.Author.Rules.{rules}
-use mathlib.Core.Path.{◌∙◌, sym, ap}
+use mathlib.Core.Path.{◌∙◌, ap}
 use native.Mathlib.Omega.{arith}
-use lib.ListN.{length-drop, length-take}
 use lib.Seq.{length-take-le}
 use Rattle.strand.specs.Strands.{is_nested}
 use Rattle.block.proofs.SumLaws.{sum_small}

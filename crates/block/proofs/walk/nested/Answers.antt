@@ -1,6 +1,5 @@
 -- `block::walk::nested` meets its contract: mates without an arc are nested; others are tested by levels, with arrays of its own, whose first entries are
 -- zeros.
-use borrow.Author.Rules.{rules}
 use native.Mathlib.Omega.{arith}
 use mathlib.Core.Path.{◌∙◌, sym}
 use lib.ListN.{length, replicate}

@@ -1,8 +1,6 @@
 -- `block::walk::read_mates` meets its contract: out of range the mates are not nested; in range they are tested.
-use borrow.Author.Rules.{rules}
-use borrow.Author.Tests.{not-false, not-true}
+use borrow.Author.Tests.{not-true}
 use mathlib.Core.Path.{◌∙◌}
-use native.Mathlib.Omega.{arith}
 use Rattle.block.proofs.WalkLaws.{not_inside}
 use Rattle.block.proofs.walk.read_mates.Goals as goal
 

@@ -1,12 +1,7 @@
 -- `block::walk::weigh` meets its contract: the total has what the low bytes of the mates passed add, and `outside` is 0 exactly where they are in range.
-use borrow.Author.Rules.{rules}
 use native.Mathlib.Omega.{arith}
-use Prim.Native.Nat.{ℕ, ◌+◌, ◌-◌, ◌*◌, ◌≤◌}
-use mathlib.Core.Path.{◌≡◌, ◌∙◌, ap}
-use lib.ListN.{length}
 use Rattle.lists.specs.Vocabulary.{nth}
-use Rattle.block.specs.Walk.{low_sum}
-use Rattle.block.proofs.WalkLaws.{low_none, low_small, low_next, Counted, counted_none, counted_next, counted_end}
+use Rattle.block.proofs.WalkLaws.{low_none, low_small, low_next, counted_none, counted_next}
 use Rattle.block.proofs.walk.weigh.Goals as goal
 
 pub loop-i-init : goal.loop-i-init

@@ -1,5 +1,4 @@
 -- `block::walk::zeros` meets its contract: the part is tested, and zeros add nothing.
-use borrow.Author.Rules.{rules}
 use mathlib.Core.Path.{◌∙◌, sym}
 use native.Mathlib.Omega.{arith}
 use Rattle.block.proofs.WalkLaws.{zeros_add}

@@ -1,6 +1,4 @@
 -- `codec::entry::keeps` meets its contract: what can be no entry and an empty block keep none; else bases and mates decide.
-use borrow.Author.Rules.{rules}
-use native.Mathlib.Omega.{arith}
 use mathlib.Core.Path.{sym, ◌∙◌}
 use Rattle.codec.proofs.OutcomeLaws as law
 use Rattle.codec.proofs.WriteLaws.{empty_keeps_none, full_keeps}

@@ -1,7 +1,6 @@
 -- `octets::bits::clear` meets its contract: one byte is stored; past the end nothing is.
-use Rattle.octets.proofs.BitLaws.{clear_map_out, without_bit_lem}
+use Rattle.octets.proofs.BitLaws.{clear_map_out}
 use Rattle.octets.specs.Octets.{clear_map}
-use borrow.Author.Rules.{rules}
 use mathlib.Core.Path.{sym}
 use native.Mathlib.Omega.{arith}
 use Rattle.octets.proofs.bits.clear.Goals as goal

@@ -1,7 +1,6 @@
 -- `octets::bits::set` meets its contract: one byte is stored; past the end nothing is.
-use Rattle.octets.proofs.BitLaws.{set_map_out, with_bit_lem}
+use Rattle.octets.proofs.BitLaws.{set_map_out}
 use Rattle.octets.specs.Bits.{set_map}
-use borrow.Author.Rules.{rules}
 use mathlib.Core.Path.{sym}
 use native.Mathlib.Omega.{arith}
 use Rattle.octets.proofs.bits.set.Goals as goal

@@ -1,7 +1,6 @@
 -- `octets::bits::test` meets its contract: one byte is read; past the end every bit is false.
 use Rattle.octets.proofs.BitLaws.{test_out}
 use Rattle.octets.specs.Octets.{map_bit}
-use borrow.Author.Rules.{rules}
 use mathlib.Core.Path.{sym}
 use native.Mathlib.Omega.{arith}
 use Rattle.octets.proofs.bits.test.Goals as goal

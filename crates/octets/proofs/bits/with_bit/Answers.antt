@@ -1,6 +1,5 @@
 -- `octets::bits::with_bit` meets its contract: by the table of all bytes and bits.
 use Rattle.octets.proofs.BitLaws.{with_mask}
-use borrow.Author.Rules.{rules}
 use native.Mathlib.Omega.{arith}
 use Rattle.octets.proofs.bits.with_bit.Goals as goal
 

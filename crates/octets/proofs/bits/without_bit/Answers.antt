@@ -1,6 +1,5 @@
 -- `octets::bits::without_bit` meets its contract: by the table of all bytes and bits.
 use Rattle.octets.proofs.BitLaws.{without_mask}
-use borrow.Author.Rules.{rules}
 use native.Mathlib.Omega.{arith}
 use Rattle.octets.proofs.bits.without_bit.Goals as goal
 

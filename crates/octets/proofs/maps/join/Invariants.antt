@@ -1,10 +1,8 @@
 -- `octets::maps::join` meets its contract: the first i bytes have the numbers of both, the rest is as it was.
-use borrow.Author.Rules.{rules}
-use Prim.Native.Nat.{◌+◌, ◌-◌, ◌≤◌}
-use native.Mathlib.Omega.{arith}
-use mathlib.Core.Path.{◌≡◌, refl}
+use Prim.Native.Nat.{◌-◌, ◌≤◌}
+use mathlib.Core.Path.{◌≡◌}
 use mathlib.Core.Bool.{◌||◌}
-use lib.ListN.{length, length-set}
+use lib.ListN.{length}
 use Rattle.octets.specs.Octets.{map_bit}
 use Rattle.octets.proofs.SetLaws as laws
 use Rattle.octets.proofs.maps.join.Given as goal

@@ -1,11 +1,7 @@
 -- `octets::maps::keep` meets its contract: the first i bytes have the numbers that stay, the rest is as it was.
-use borrow.Author.Rules.{rules}
-use Prim.Native.Nat.{◌-◌, ◌≤◌}
 use native.Mathlib.Omega.{arith}
-use mathlib.Core.Path.{◌≡◌, refl}
-use mathlib.Core.Bool.{◌&&◌}
-use lib.ListN.{length, length-set}
-use Rattle.octets.specs.Octets.{map_bit}
+use mathlib.Core.Path.{refl}
+use lib.ListN.{length-set}
 use Rattle.octets.proofs.SetLaws as laws
 use Rattle.octets.proofs.maps.keep.Goals as goal
 

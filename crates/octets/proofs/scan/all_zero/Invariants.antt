@@ -1,13 +1,10 @@
 -- `octets::scan::all_zero` meets its contract: the largest byte passed is 0 exactly where every byte passed is.
 use Prim.Native.Nat.{◌-◌, ◌≤◌}
-use borrow.Author.Rules.{rules}
 use lib.Dec.{eqb}
 use lib.ListN.{length}
 use mathlib.Core.Path.{◌≡◌}
-use native.Mathlib.Omega.{arith}
 use Rattle.lists.specs.Vocabulary.{every, nth}
 use Rattle.octets.specs.Octets.{is_zero}
-use Rattle.octets.proofs.ScanLaws.{largest_none, largest_next, largest_end}
 use Rattle.octets.proofs.scan.all_zero.Given as goal
 
 abbrev pub invariant-loop-i : goal.invariant-loop-i

@@ -1,11 +1,8 @@
 -- `octets::scan::copy` meets its contract: the first i entries are copied, the rest is as it was.
 use Prim.Native.Nat.{◌-◌, ◌≤◌}
-use borrow.Author.Rules.{rules}
-use lib.ListN.{drop, length, length-set, take}
+use lib.ListN.{drop, length, take}
 use mathlib.Core.List.{◌++◌}
-use mathlib.Core.Path.{◌∙◌, ◌≡◌, refl}
-use native.Mathlib.Omega.{arith}
-use Rattle.octets.proofs.ScanLaws as laws
+use mathlib.Core.Path.{◌≡◌}
 use Rattle.octets.proofs.scan.copy.Given as goal
 
 abbrev pub invariant-loop-i : goal.invariant-loop-i

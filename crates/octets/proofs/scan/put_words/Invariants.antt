@@ -1,12 +1,9 @@
 -- `octets::scan::put_words` meets its contract: the first i numbers are written, the rest is as it was.
 use Prim.Native.Nat.{◌*◌, ◌-◌, ◌≤◌}
 use Rattle.octets.specs.Octets.{bytes_of}
-use borrow.Author.Rules.{rules}
-use lib.ListN.{drop, length, length-set, take}
+use lib.ListN.{drop, length, take}
 use mathlib.Core.List.{◌++◌}
-use mathlib.Core.Path.{◌∙◌, ◌≡◌, refl}
-use native.Mathlib.Omega.{arith}
-use Rattle.octets.proofs.ScanLaws as laws
+use mathlib.Core.Path.{◌≡◌}
 use Rattle.octets.proofs.scan.put_words.Given as goal
 
 abbrev pub invariant-loop-i : goal.invariant-loop-i

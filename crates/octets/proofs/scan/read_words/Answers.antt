@@ -1,13 +1,10 @@
 -- `octets::scan::read_words` meets its contract: the first i numbers are read, the rest is as it was.
-use borrow.Author.Rules.{rules}
-use Prim.Native.Nat.{ℕ, ◌+◌, ◌-◌, ◌*◌, ◌≤◌}
+use Prim.Native.Nat.{◌*◌}
 use native.Mathlib.Omega.{arith}
-use mathlib.Core.Path.{◌≡◌, refl, ap, ◌∙◌}
-use mathlib.Core.List.{◌++◌, append-nil}
-use lib.ListN.{length, drop, drop_of_length-le, length-set}
-use Rattle.octets.specs.Octets.{word16, words}
+use mathlib.Core.Path.{refl}
+use lib.ListN.{length-set}
+use Rattle.octets.specs.Octets.{word16}
 use Rattle.lists.proofs.ListLaws.{tab_more, tab_none}
-use Rattle.lists.specs.Vocabulary.{tab}
 use Rattle.octets.proofs.scan.read_words.Goals as goal
 
 pub loop-i-init : goal.loop-i-init

@@ -1,11 +1,7 @@
 -- `octets::scan::same_bytes` meets its contract: the bytes passed are equal.
-use Prim.Native.Nat.{◌-◌, ◌<◌, ◌≤◌, ℕ}
-use Rattle.octets.proofs.ScanLaws.{same_next}
 use borrow.Author.Rules.{rules}
-use lib.ListN.{length}
-use mathlib.Core.Path.{◌≡◌, sym}
+use mathlib.Core.Path.{sym}
 use native.Mathlib.Omega.{arith}
-use Rattle.lists.specs.Vocabulary.{nth}
 use Rattle.lists.proofs.ListLaws as laws
 use Rattle.octets.proofs.scan.same_bytes.Goals as goal
 

@@ -1,12 +1,8 @@
 -- `octets::scan::same_bytes` meets its contract: the bytes passed are equal.
 use Prim.Native.Nat.{◌-◌, ◌<◌, ◌≤◌, ℕ}
-use Rattle.octets.proofs.ScanLaws.{same_next}
-use borrow.Author.Rules.{rules}
 use lib.ListN.{length}
-use mathlib.Core.Path.{◌≡◌, sym}
-use native.Mathlib.Omega.{arith}
+use mathlib.Core.Path.{◌≡◌}
 use Rattle.lists.specs.Vocabulary.{nth}
-use Rattle.lists.proofs.ListLaws as laws
 use Rattle.octets.proofs.scan.same_bytes.Given as goal
 
 abbrev pub invariant-loop-i : goal.invariant-loop-i

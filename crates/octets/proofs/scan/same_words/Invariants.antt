@@ -1,12 +1,9 @@
 -- `octets::scan::same_words` meets its contract: the numbers passed are equal.
-use borrow.Author.Rules.{rules}
 use Prim.Native.Nat.{ℕ, ◌-◌, ◌*◌, ◌≤◌, ◌<◌}
-use native.Mathlib.Omega.{arith}
 use mathlib.Core.Path.{◌≡◌}
 use lib.ListN.{length}
 use Rattle.octets.specs.Octets.{words}
 use Rattle.lists.specs.Vocabulary.{nth}
-use Rattle.octets.proofs.ScanLaws.{other_word, same_word, all_words}
 use Rattle.octets.proofs.scan.same_words.Given as goal
 
 abbrev pub invariant-loop-i : goal.invariant-loop-i

@@ -1,7 +1,6 @@
 -- `octets::scan::word_at` meets its contract: two bytes below 256 make the number.
 use native.Mathlib.Omega.{arith}
 use Rattle.octets.specs.Octets.{word16}
-use borrow.Author.Rules.{rules}
 use Rattle.octets.proofs.scan.word_at.Goals as goal
 
 pub returns : goal.returns

@@ -1,12 +1,8 @@
 -- `octets::scan::zero` meets its contract: the first i bytes are zero, the rest is as it was.
 use Prim.Native.Nat.{◌-◌, ◌≤◌}
-use borrow.Author.Fill.{fill_more}
-use borrow.Author.Rules.{rules}
-use lib.ListN.{drop, length, length-set, replicate}
+use lib.ListN.{drop, length, replicate}
 use mathlib.Core.List.{◌++◌}
-use mathlib.Core.Path.{◌∙◌, ◌≡◌, refl}
-use native.Mathlib.Omega.{arith}
-use Rattle.octets.proofs.ScanLaws as laws
+use mathlib.Core.Path.{◌≡◌}
 use Rattle.octets.proofs.scan.zero.Given as goal
 
 abbrev pub invariant-loop-i : goal.invariant-loop-i
