@@ -1,6 +1,4 @@
 -- `codec::entry::clean` meets its contract: a sound block stays, any other is zeroed.
-use borrow.Author.Rules.{rules}
-use borrow.Author.Tests.{not-false, not-true}
 use mathlib.Core.Path.{◌∙◌, sym}
 use Rattle.block.proofs.ContentLaws.{clean_no, clean_yes}
 use Rattle.codec.proofs.entry.clean.Goals as goal

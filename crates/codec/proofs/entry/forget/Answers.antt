@@ -1,5 +1,4 @@
 -- `codec::entry::forget` meets its contract: an entry loses bit d of both maps and gets its checksum; any other block stays.
-use borrow.Author.Rules.{rules}
 use Rattle.block.proofs.ContentLaws.{forgot_size, forgot_mark, forgot_bits}
 use native.Mathlib.Omega.{arith}
 use mathlib.Core.Path.{◌∙◌}

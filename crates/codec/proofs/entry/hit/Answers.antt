@@ -1,5 +1,4 @@
 -- `codec::entry::hit` meets its contract: a bit of the hit map.
-use borrow.Author.Rules.{rules}
 use Rattle.block.specs.Content.{hit_in}
 use Rattle.codec.proofs.entry.hit.Goals as goal
 

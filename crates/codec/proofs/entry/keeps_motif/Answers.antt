@@ -1,7 +1,5 @@
 -- `codec::entry::keeps_motif` meets its contract: bases, number of mates and mates are compared one after the other; each return is one law.
-use borrow.Author.Rules.{rules}
 use mathlib.Core.Path.{sym, ◌∙◌}
-use borrow.Author.Tests.{not-true, not-false}
 use Rattle.codec.proofs.WriteLaws.{other_bases, other_count, same_bases}
 use Rattle.codec.proofs.entry.keeps_motif.Goals as goal
 

@@ -1,5 +1,4 @@
 -- `codec::entry::searched` meets its contract: a bit of the searched map.
-use borrow.Author.Rules.{rules}
 use Rattle.block.specs.Content.{searched_in}
 use Rattle.codec.proofs.entry.searched.Goals as goal
 

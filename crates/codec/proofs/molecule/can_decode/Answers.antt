@@ -1,6 +1,4 @@
 -- `codec::molecule::can_decode` meets its contract: each return is one condition.
-use borrow.Author.Rules.{rules}
-use native.Mathlib.Omega.{arith}
 use Rattle.codec.proofs.OutcomeLaws as law
 use Rattle.codec.proofs.molecule.can_decode.Goals as goal
 

@@ -1,6 +1,4 @@
 -- `codec::molecule::decode_molecule` meets its contract: where it can be decoded, the strand of the block is laid over the slices; else they stay.
-use borrow.Author.Rules.{rules}
-use borrow.Author.Tests.{not-true, not-false}
 use native.Mathlib.Omega.{arith}
 use mathlib.Core.Path.{sym, ◌∙◌}
 use Rattle.codec.proofs.OutcomeLaws as law

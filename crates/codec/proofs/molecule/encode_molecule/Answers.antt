@@ -1,6 +1,4 @@
 -- `codec::molecule::encode_molecule` meets its contract: content and checksum make the block; where the molecule does not fit, no byte changed.
-use borrow.Author.Rules.{rules}
-use borrow.Author.Tests.{not-true, not-false}
 use native.Mathlib.Omega.{arith}
 use mathlib.Core.Path.{sym, ◌∙◌}
 use Rattle.codec.proofs.OutcomeLaws as law

@@ -1,8 +1,7 @@
 -- `codec::parts::put_content` meets its contract: head, bases and mates are written one after the other, each over the whole of its part.
 use borrow.Author.Rules.{rules}
 use lib.ListN.{length}
-use lib.Seq.{length-take-le}
-use mathlib.Core.Path.{refl, sym}
+use mathlib.Core.Path.{refl}
 use Rattle.codec.proofs.CodeLaws as laws
 use Rattle.codec.proofs.parts.put_content.Goals as goal
 

@@ -1,10 +1,5 @@
 -- `codec::parts::put_head` meets its contract: two bytes are stored, and the bytes from 2 on are the own bytes with zeros behind them.
-use borrow.Author.Rules.{rules}
 use native.Mathlib.Omega.{arith}
-use mathlib.Core.Path.{ap, ◌∙◌}
-use lib.ListN.{length}
-use lib.ListN.{length-take, length-drop, length-set}
-use Rattle.block.proofs.PartLaws.{length_head}
 use Rattle.codec.proofs.CodeLaws as laws
 use Rattle.codec.proofs.parts.put_head.Goals as goal
 
