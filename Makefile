@@ -1,21 +1,24 @@
 # The library for programs that link it: `make lib` writes target/lib, `make install` puts it in place with the header.
-# First `rt staticlib capi`, which proves the library and writes the archive that both are made of (x86-64).
+# First `make archive`, which proves the library and writes the archive that both are made of, for any x86-64 processor.
 PREFIX = /usr/local
 DESTDIR =
 
-ARCHIVE = target/staticlib/libcapi.a
+ARCHIVE = crates/capi/out/libcapi.a
 HEADER = include/lakhido.h
 OUT = target/lib
 # The loader's name of the shared library: it counts changes that break programs that are linked already.
 SONAME = liblakhido.so.0
 VERSION := $(shell sed -n 's/^\#define LAKHIDO_VERSION "\(.*\)"$$/\1/p' $(HEADER))
 
-.PHONY: lib install
+.PHONY: archive lib install
 
 lib: $(OUT)/liblakhido.a $(OUT)/liblakhido.so $(OUT)/lakhido.pc
 
+archive:
+	cd crates/capi && rt lib --cpu=x86-64
+
 $(ARCHIVE):
-	@echo 'make: $@ is not there: `rt staticlib capi` writes it' >&2; exit 1
+	@echo 'make: $@ is not there: `make archive` writes it' >&2; exit 1
 
 $(OUT)/liblakhido.a: $(ARCHIVE)
 	@mkdir -p $(OUT)

@@ -1,6 +1,6 @@
 /* Lakhido: motif search and answer cache for folded RNA.
  *
- * Link with target/staticlib/libcapi.a, which `rt staticlib capi` writes (x86-64). Each function is proved to give the answer and to leave the
+ * Link with crates/capi/out/libcapi.a, which `make archive` writes (x86-64). Each function is proved to give the answer and to leave the
  * buffers that this file describes, for all inputs that keep the rules of "Buffers" (crates/capi/src/lib.rt has the contracts). This file
  * is written by hand: tools/verify-interface holds its declarations and numbers to the library's source; its text nothing checks.
  *

@@ -8,7 +8,7 @@ import re
 HEADER, WRAPPER = 'include/lakhido.h', 'bindings/rust/src'
 
 # Where the structs of the interface are, and its functions.
-EXPORTED = ('crates/interface/src', 'crates/capi/src')
+EXPORTED = ('crates/interface/src', 'crates/capi*/src')
 
 # Names of parameters: in the Rattle source, and in header and wrapper. Any other name is the same in all three.
 NAMES = {'p': 'motif_bases', 'pm': 'motif_mates', 'q': 'bases', 'qm': 'mates', 'd': 'number'}
@@ -111,7 +111,7 @@ def rattle_source(root):
     """Also the parameters as they are written, and a line for what is exported in a form that this script does not know."""
     text = '\n'.join(read(os.path.join(root, path, '*.rt')) for path in EXPORTED)
     written, results = {}, {}
-    for one in re.finditer(r'#\[no_mangle\]\s*pub extern "C" fn (\w+)\(([^()]*)\)(?:\s*->\s*(\w+))?\s*(?:ensures|requires|\{)', text):
+    for one in re.finditer(r'#\[unsafe\(no_mangle\)\]\s*pub extern "C" fn (\w+)\(([^()]*)\)(?:\s*->\s*(\w+))?\s*(?:ensures|requires|\{)', text):
         written[one[1]], results[one[1]] = typed(one[2]), one[3] or '()'
     kinds = rust_types(text, 'C', constants(root, ARRAY_LENGTHS))
     functions = {name: passed(written[name]) + [('result', results[name])] for name in written}

@@ -1,6 +1,10 @@
 #!/usr/bin/env python3
 """Names the points of the walk in proof files, and lays their lines out.
 
+It works on proofs of the older form (Proof.antt, with `.before` and `Need-..`) and calls `rt dev`, which today's kit has not. With today's proof files,
+Invariants.antt and Answers.antt, only `--laws` works, and the rest is not needed: there `c` is one flat record, whose fields the check lists, and `rt fmt` lays
+the files out. The rest is kept for who works on a version with the older proofs, with its kit.
+
     python3 tools/proofpoints.py CRATE [FUNCTION..]            rewrites proofs/**/Proof.antt of the crate, or of these functions
     python3 tools/proofpoints.py CRATE [FUNCTION..] --check    does so, and checks the crate: an answer that is refused keeps its paths
     python3 tools/proofpoints.py CRATE [FUNCTION..] --infer    does so, and puts `_` for arguments that the checker finds by itself

@@ -1,4 +1,4 @@
-//! Links the library's archive, libcapi.a, from the folder LAKHIDO_LIB_DIR (a relative path is from the folder of this package), or from target/staticlib of
+//! Links the library's archive, libcapi.a, from the folder LAKHIDO_LIB_DIR (a relative path is from the folder of this package), or from crates/capi/out of
 //! the repository. With the feature `c-peers` it also compiles the plain C versions of benches/peers, which the benchmark times against;
 //! with `older` it links the archive of an older version, too.
 use std::env;
@@ -14,12 +14,12 @@ fn main() {
     let here = PathBuf::from(env::var_os("CARGO_MANIFEST_DIR").expect("cargo sets CARGO_MANIFEST_DIR"));
     println!("cargo::rerun-if-env-changed=LAKHIDO_LIB_DIR");
     // The linker runs in the folder of the workspace, which may be another: the path is absolute.
-    let folder = here.join(env::var_os("LAKHIDO_LIB_DIR").unwrap_or_else(|| "../../target/staticlib".into()));
+    let folder = here.join(env::var_os("LAKHIDO_LIB_DIR").unwrap_or_else(|| "../../crates/capi/out".into()));
     let archive = folder.join("libcapi.a");
     println!("cargo::rerun-if-changed={}", archive.display());
     if !archive.exists() {
         println!(
-            "cargo::error=lakhido: {} is not there. Build it with `rt staticlib capi` in the repository, or set LAKHIDO_LIB_DIR to the folder that holds libcapi.a",
+            "cargo::error=lakhido: {} is not there. Build it with `make archive` in the repository, or set LAKHIDO_LIB_DIR to the folder that holds libcapi.a",
             archive.display()
         );
         return;

@@ -74,7 +74,7 @@
 //! # }
 //! ```
 //!
-//! To build: `rt staticlib capi` in the repository proves the library and writes `target/staticlib/libcapi.a` (x86-64), which this crate links. Another
+//! To build: `make archive` in the repository proves the library and writes `crates/capi/out/libcapi.a` (x86-64), which this crate links. Another
 //! folder is named by the variable `LAKHIDO_LIB_DIR`.
 //!
 //! A call needs no more than [`STACK`] bytes of stack.

@@ -14,7 +14,7 @@ use Rattle.lists.proofs.ListLaws.{every_at}
 use Rattle.embedding.specs.Row.{Closed, Split, IsRow, Bounds, unit_at, arc_at}
 use Rattle.embedding.specs.Embedding.{letters_fit}
 use Rattle.embedding.proofs.Rows.{empty_row, unit_row, combine_row, arc_row, row_from, row_within, fewer_starts, narrow_row}
-use Rattle.embedding.proofs.Bounds.{bounds-within, bounds-up}
+use Rattle.embedding.proofs.Bounds.{bounds_within, bounds_up}
 use Rattle.rows.specs.Rows.{Written, Remade, matches, bound_at, last_at}
 use Rattle.arcs.specs.Arcs.{Setting, Bounded, RowOf, Prepended, KeptRow}
 use Rattle.arcs.proofs.Arcs.{Around}
@@ -48,13 +48,13 @@ module _ {p q tables : List ℕ} {from to lo hi : ℕ} (D : Bounded p q tables f
   bounded_within lo' hi' a b c =
       record {
         room = omega (arith, D.room);
-        start = omega (arith, D.start, bounds-up D.bounds lo lo' (omega arith) a (omega arith));
-        bounds = bounds-within a c D.bounds;
+        start = omega (arith, D.start, bounds_up D.bounds lo lo' (omega arith) a (omega arith));
+        bounds = bounds_within a c D.bounds;
       }
 
   -- The first start is no later than the last one.
   pub starts : (i : ℕ) → from ≤ to → lo ≤ i → i ≤ hi → from ≤ last_at (length p) tables to i
-  starts i ft a b = omega (arith, D.start, bounds-up D.bounds lo i (omega arith) a b)
+  starts i ft a b = omega (arith, D.start, bounds_up D.bounds lo i (omega arith) a b)
 
 -- The bases of the molecule are letters.
 pub letter_at : {p pm q qm : List ℕ} {from to : ℕ} → Setting p pm q qm from to → (i : ℕ) → i < length q → is_letter molecule_side (nth q i) ≡ true
@@ -88,7 +88,7 @@ module _ {p pm q qm tables : List ℕ} {from to : ℕ} where
       → RowOf p pm q qm tables from to h r new
   right_row {n} {l} {r} {h} {e} w mid ys new A D le tw F G W =
       record {
-        is = combine_row (omega (arith, A.up)) (omega (arith, A.end)) A.split_r (bounds-within A.low (omega (arith, A.end)) D.bounds) F.is
+        is = combine_row (omega (arith, A.up)) (omega (arith, A.end)) A.split_r (bounds_within A.low (omega (arith, A.end)) D.bounds) F.is
             G.is (looked_into from (last_at (length p) tables to h) to w mid ys new le tw (omega arith) W);
       }
 

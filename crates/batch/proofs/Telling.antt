@@ -58,9 +58,9 @@ zeros_left k n =
 pub planned_held : (catalog motifs h cache todo : List ℕ) → h ≡ map_bytes (held catalog) → PlannedTo motifs h cache todo (block_count motifs)
     → (t d : ℕ) → t < block_count motifs → d < 512 → map_bit todo (map_size * t) d ≡ true → held catalog d ≡ true
 unfolding planned_by
-planned_held catalog motifs h cache todo eh P t d l k yes-bit =
+planned_held catalog motifs h cache todo eh P t d l k yes_bit =
     sym (ap (λ (m : List ℕ). map_bit m 0 d) eh ∙ map_bit_lem (held catalog) d k)
-    ∙ and_left (map_bit h 0 d) _ (sym (piece_bit todo t d k ∙ ap (λ (m : List ℕ). map_bit m 0 d) (P.each t l) ∙ map_bit_lem _ d k) ∙ yes-bit)
+    ∙ and_left (map_bit h 0 d) _ (sym (piece_bit todo t d k ∙ ap (λ (m : List ℕ). map_bit m 0 d) (P.each t l) ∙ map_bit_lem _ d k) ∙ yes_bit)
 
 module _ (catalog cache motifs : List ℕ) (work : ℕ) (hits : List ℕ) (e : batch_verdict catalog cache motifs work (length hits) ≡ Accepted)
     (sound : AllSound cache) where
@@ -130,24 +130,24 @@ module _ (catalog cache motifs : List ℕ) (work : ℕ) (hits : List ℕ) (e : b
     long : (m : ℕ → Bool) → length (entry m) ≡ block_size
     long m = entry_length (p t) (motif_proper motifs (batch.batch_facts catalog cache motifs work (length hits) e).1 t l) (held catalog) m
 
-    in-copy : slot < block_count (copy t)
-    in-copy = omega (arith, A.size, size_clean, slot_below)
+    in_copy : slot < block_count (copy t)
+    in_copy = omega (arith, A.size, size_clean, slot_below)
 
     alike_next : Alike (suc t)
     alike_next =
         record {
-          size = ap length copy_next ∙ length_put slot (entry (held catalog)) (copy t) (long (held catalog)) (omega (arith, in-copy)) ∙ A.size;
+          size = ap length copy_next ∙ length_put slot (entry (held catalog)) (copy t) (long (held catalog)) (omega (arith, in_copy)) ∙ A.size;
           same = λ s k q d m.
               elim (ℕ_discrete s slot) [
                 | yes x ↦ ap (λ (c : List ℕ). is_known c q d)
-                    (ap₂ block_of x copy_next ∙ block_put slot (entry (held catalog)) (copy t) (long (held catalog)) (omega (arith, in-copy)))
+                    (ap₂ block_of x copy_next ∙ block_put slot (entry (held catalog)) (copy t) (long (held catalog)) (omega (arith, in_copy)))
                     ∙ known (held catalog) q d m
                     ∙ sym (ap (λ (c : List ℕ). is_known c q d)
                     (ap₂ block_of x clean_next ∙ block_put slot (entry hit) (clean t) (long hit) (omega (arith, slot_below)))
                     ∙ known hit q d m)
                 | no x ↦ ap (λ (c : List ℕ). is_known c q d)
                     (ap (block_of s) copy_next
-                    ∙ block_other slot (entry (held catalog)) (copy t) (long (held catalog)) (omega (arith, in-copy)) s x (omega (arith, A.size)))
+                    ∙ block_other slot (entry (held catalog)) (copy t) (long (held catalog)) (omega (arith, in_copy)) s x (omega (arith, A.size)))
                     ∙ A.same s k q d m
                     ∙ sym (ap (λ (c : List ℕ). is_known c q d)
                     (ap (block_of s) clean_next

@@ -2,6 +2,7 @@
 use calls::{BatchRead, Batched};
 use catalog_testing::lines::Request;
 use catalog_testing::{held, lines, requests};
+use std::io;
 use testing::answer;
 use testing::answer::WRONG;
 use testing::input::{digit_at, number};
@@ -15,9 +16,9 @@ const BLOCK: usize = 512;
 // ---- answers
 
 // How many molecules were read; 0 after a refusal.
-fn number_read(read: BatchRead) -> usize {
+fn number_read(read: &BatchRead) -> usize {
     if let BatchRead::Molecules(n) = read {
-        return n;
+        return *n;
     }
     0
 }
@@ -34,7 +35,7 @@ fn told(b: Batched, wanted: usize, motifs: usize) -> usize {
     let read = b.read;
     let counts = b.counts;
     let searched = b.searched;
-    let sum = sum_numbers(sum_numbers(number_read(read), &counts), &searched);
+    let sum = sum_numbers(sum_numbers(number_read(&read), &counts), &searched);
     if sum != wanted {
         return WRONG;
     }
@@ -131,10 +132,10 @@ fn made(c: Request, line: &[u8], s: &mut [u8]) -> usize {
 }
 
 // The answer of the batch of a line, which is written where it is wrong.
-pub fn answer(line: &[u8], s: &mut [u8]) -> usize {
+pub fn answer<P: Print>(out: &P, line: &[u8], s: &mut [u8]) -> io::Result<usize> {
     let c = lines::call(line, b'M');
     let r = made(c, line, s);
-    held(c, line, s, r)
+    held(out, c, line, s, r)
 }
 
 // Writes the strand of a line as a block of the buffer.

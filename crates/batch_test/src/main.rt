@@ -10,57 +10,74 @@
 mod batches;
 
 use catalog_testing::tell;
+use std::io;
+use std::io::{BufReader, Read};
 use testing::answer::NOTHING;
 use testing::input;
 use testing::input::MOST_LINES;
 
 // Acts on a line; the number that is counted.
-fn act(line: &[u8], kind: u8, s: &mut [u8]) -> usize {
+fn act<P: Print>(out: &P, line: &[u8], kind: u8, s: &mut [u8]) -> io::Result<usize> {
     match kind {
-        b'M' => batches::answer(line, s),
+        b'M' => batches::answer(out, line, s),
         b'P' => {
             batches::put(line, s);
-            NOTHING
+            Ok(NOTHING)
         }
-        _ => catalog_testing::act(line, kind, s),
+        _ => catalog_testing::act(out, line, kind, s),
     }
 }
 
 // Writes the name of a group and its counts, and begins anew.
-fn report(line: &[u8], counts: &mut [u16]) {
-    tell::report_calls(line, counts);
-    tell::report_batches(counts);
-    tell::report_rows(counts);
+fn report<P: Print>(out: &P, line: &[u8], counts: &mut [u16]) -> io::Result<()> {
+    tell::report_calls(out, line, counts)?;
+    tell::report_batches(out, counts)?;
+    tell::report_rows(out, counts)
 }
 
-fn step(line: &[u8], s: &mut [u8], counts: &mut [u16]) {
+fn step<P: Print>(out: &P, line: &[u8], s: &mut [u8], counts: &mut [u16]) -> io::Result<()> {
     let kind = input::kind(line);
     if kind == b'G' {
-        return report(line, counts);
+        return report(out, line, counts);
     }
-    tell::count(counts, kind, act(line, kind, s));
+    tell::count(counts, kind, act(out, line, kind, s)?);
+    Ok(())
 }
 
 // The lines of the input, 99,999 at most.
-fn all(line: &mut [u8], s: &mut [u8], counts: &mut [u16]) {
+fn all<P: Print, R: Read>(
+    out: &P,
+    from: &mut R,
+    line: &mut [u8],
+    s: &mut [u8],
+    counts: &mut [u16],
+) -> io::Result<()> {
     let mut i: usize = 0;
     while i < MOST_LINES {
-        if !input::read(line) {
-            return;
+        if !input::read(from, line)? {
+            return Ok(());
         }
-        step(line, s, counts);
+        step(out, line, s, counts)?;
         i += 1;
     }
+    Ok(())
 }
 
 // A reference to an array is borrowed as a slice at no cost, where the array itself would be spelled out by the prover.
-fn run(line: &mut [u8; 104], s: &mut [u8; 313856], counts: &mut [u16; 111]) {
-    all(line, s, counts);
+fn run<P: Print, R: Read>(
+    out: &P,
+    from: &mut R,
+    line: &mut [u8; 104],
+    s: &mut [u8; 313856],
+    counts: &mut [u16; 111],
+) -> io::Result<()> {
+    all(out, from, line, s, counts)
 }
 
-fn main() {
+fn main(rt: HostRuntime) -> io::Result<()> {
+    let mut from = BufReader::new(rt.alloc(), rt.reader())?;
     let mut line = [0u8; 104];
     let mut s = [0u8; 313856];
     let mut counts = [0u16; 111];
-    run(&mut line, &mut s, &mut counts);
+    run(&rt, &mut from, &mut line, &mut s, &mut counts)
 }

@@ -139,14 +139,14 @@ counted_none mates n = record { few = omega arith; none = λ e k l. absurd (omeg
 -- r says whether mate i is one of them.
 pub counted_next : (mates : List ℕ) (n i outside r : ℕ) → Counted mates n i outside → r ≤ 1 → (nth mates i < n → r ≡ 0) → (n ≤ nth mates i → r ≡ 1)
     → Counted mates n (i + 1) (outside + r)
-counted_next mates n i outside r C one yes-below not-below =
+counted_next mates n i outside r C one yes_below not-below =
     record {
       few = omega (arith, C.few);
       none = λ e k l. elim (ℕ_discrete k i) [
         | yes q ↦ rw q (elim (dec_lt (nth mates i) n) [ yes h ↦ h | no h ↦ absurd (omega (arith, not-below (omega arith))) ])
         | no q ↦ C.none (omega arith) k (omega arith)
       ];
-      found = λ h. omega (arith, C.found (λ k l. h k (omega arith)), yes-below (h i (omega arith)));
+      found = λ h. omega (arith, C.found (λ k l. h k (omega arith)), yes_below (h i (omega arith)));
     }
 
 pub counted_end : (mates : List ℕ) (n i outside : ℕ) → Counted mates n i outside → i ≤ n → n ≤ i → Tells (eqb outside 0) (Inside (nth mates) n)

@@ -2,6 +2,8 @@
 // and 275. `words` has the strand's mates, from 162 the lengths of bases, mates, searched and hits, then how many answers were right and how
 // many wrong.
 use super::{blocks, parts, strands};
+use std::io;
+use std::io::Read;
 use testing::input::number;
 use testing::output::say;
 use testing::slices::{bond, clear, entry_at, first, part, set_entry, sum_bytes, sum_entries};
@@ -27,17 +29,18 @@ fn maps(bytes: &mut [u8], words: &mut [u16], a: usize, b: usize) {
 }
 
 // `G`: a group of cases ends here. Its name stands in the line.
-fn group(line: &[u8], words: &mut [u16]) {
-    say(part(line, 20, 27));
-    output::number(b" ", entry_at(words, 166));
-    output::number(b" right, ", entry_at(words, 167));
-    say(b" wrong\n");
+fn group<P: Print>(out: &P, line: &[u8], words: &mut [u16]) -> io::Result<()> {
+    say(out, part(line, 20, 27))?;
+    output::number(out, b" ", entry_at(words, 166))?;
+    output::number(out, b" right, ", entry_at(words, 167))?;
+    say(out, b" wrong\n")?;
     set_entry(words, 166, 0);
     set_entry(words, 167, 0);
+    Ok(())
 }
 
 // The commands that ask nothing. `A a b`: an arc. `P a b`: number a is searched (b 0) or a hit (b 1).
-fn prepare(kind: u8, bytes: &mut [u8], words: &mut [u16]) -> usize {
+fn prepare<P: Print>(out: &P, kind: u8, bytes: &mut [u8], words: &mut [u16]) -> io::Result<usize> {
     let a = number(bytes, 2, 5);
     let b = number(bytes, 8, 5);
     match kind {
@@ -45,9 +48,9 @@ fn prepare(kind: u8, bytes: &mut [u8], words: &mut [u16]) -> usize {
         b'A' => bond(words, a, b),
         b'C' => maps(bytes, words, a, b),
         b'P' => octets::bits::set(bytes, 210 + b % 2 * 65, a),
-        _ => group(bytes, words),
+        _ => group(out, bytes, words)?,
     }
-    parts::NOTHING
+    Ok(parts::NOTHING)
 }
 
 // ---- questions
@@ -89,22 +92,28 @@ fn decode(kind: u8, image: &[u8], size: usize, bytes: &mut [u8], words: &mut [u1
 }
 
 // What the line's command answers; `blocks` and `strands` have the other letters.
-fn answer(kind: u8, image: &mut [u8], bytes: &mut [u8], words: &mut [u16]) -> usize {
+fn answer<P: Print>(
+    out: &P,
+    kind: u8,
+    image: &mut [u8],
+    bytes: &mut [u8],
+    words: &mut [u16],
+) -> io::Result<usize> {
     match kind {
-        b'N' | b'A' | b'C' | b'P' | b'G' => prepare(kind, bytes, words),
-        b'M' | b'K' | b'O' | b'U' => strands::answer(kind, image, bytes, words),
-        b'D' | b'E' => decode(kind, image, 512, bytes, words),
-        b'd' => decode(kind, image, 511, bytes, words),
-        b'W' => sum(image, bytes, words),
-        _ => blocks::answer(kind, image, bytes),
+        b'N' | b'A' | b'C' | b'P' | b'G' => prepare(out, kind, bytes, words),
+        b'M' | b'K' | b'O' | b'U' => Ok(strands::answer(kind, image, bytes, words)),
+        b'D' | b'E' => Ok(decode(kind, image, 512, bytes, words)),
+        b'd' => Ok(decode(kind, image, 511, bytes, words)),
+        b'W' => Ok(sum(image, bytes, words)),
+        _ => Ok(blocks::answer(kind, image, bytes)),
     }
 }
 
 // A wrong answer: its line, then what was got.
-fn tell(line: &[u8], got: usize) {
-    say(part(line, 0, 48));
-    output::number(b" ", got % 65536);
-    say(b"\n");
+fn tell<P: Print>(out: &P, line: &[u8], got: usize) -> io::Result<()> {
+    say(out, part(line, 0, 48))?;
+    output::number(out, b" ", got % 65536)?;
+    say(out, b"\n")
 }
 
 // One more at i.
@@ -113,37 +122,45 @@ fn count(words: &mut [u16], i: usize) {
 }
 
 // An answer is counted, and told where it is wrong; a sum counts modulo 65536.
-fn expect(line: &[u8], words: &mut [u16], got: usize) {
+fn expect<P: Print>(out: &P, line: &[u8], words: &mut [u16], got: usize) -> io::Result<()> {
     if got == parts::NOTHING {
-        return;
+        return Ok(());
     }
     if got % 65536 == number(line, 14, 5) {
-        return count(words, 166);
+        count(words, 166);
+        return Ok(());
     }
-    tell(line, got);
+    tell(out, line, got)?;
     count(words, 167);
+    Ok(())
 }
 
 // The next line into the first 48 bytes, and its letter; 0 where the input has no more.
-fn read(bytes: &mut [u8]) -> u8 {
+fn read<R: Read>(lines: &mut R, bytes: &mut [u8]) -> io::Result<u8> {
     let from = 0;
     let n = 48;
     if bytes.len() < n {
-        return 0;
+        return Ok(0);
     }
-    if input::read(&mut bytes[from..n]) {
-        return input::kind(bytes);
+    if input::read(lines, &mut bytes[from..n])? {
+        return Ok(input::kind(bytes));
     }
-    0
+    Ok(0)
 }
 
 // The next line; false where the input has no more.
-pub fn run(image: &mut [u8], bytes: &mut [u8], words: &mut [u16]) -> bool {
-    let kind = read(bytes);
+pub fn run<P: Print, R: Read>(
+    out: &P,
+    lines: &mut R,
+    image: &mut [u8],
+    bytes: &mut [u8],
+    words: &mut [u16],
+) -> io::Result<bool> {
+    let kind = read(lines, bytes)?;
     if kind == 0 {
-        return false;
+        return Ok(false);
     }
-    let got = answer(kind, image, bytes, words);
-    expect(bytes, words, got);
-    true
+    let got = answer(out, kind, image, bytes, words)?;
+    expect(out, bytes, words, got)?;
+    Ok(true)
 }

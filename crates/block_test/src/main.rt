@@ -8,22 +8,32 @@ mod cases;
 mod parts;
 mod strands;
 
+use std::io;
+use std::io::{BufReader, Read};
 use testing::input::MOST_LINES;
 
 // Every line of the input.
-fn lines(image: &mut [u8], bytes: &mut [u8], words: &mut [u16]) {
+fn lines<P: Print, R: Read>(
+    out: &P,
+    input: &mut R,
+    image: &mut [u8],
+    bytes: &mut [u8],
+    words: &mut [u16],
+) -> io::Result<()> {
     let mut i: usize = 0;
     while i < MOST_LINES {
-        if !cases::run(image, bytes, words) {
-            return;
+        if !cases::run(out, input, image, bytes, words)? {
+            return Ok(());
         }
         i += 1;
     }
+    Ok(())
 }
 
-fn main() {
+fn main(rt: HostRuntime) -> io::Result<()> {
+    let mut input = BufReader::new(rt.alloc(), rt.reader())?;
     let mut image = [0u8; 1537];
     let mut bytes = [0u8; 340];
     let mut words = [0u16; 168];
-    lines(&mut image, &mut bytes, &mut words);
+    lines(&rt, &mut input, &mut image, &mut bytes, &mut words)
 }

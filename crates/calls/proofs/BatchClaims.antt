@@ -242,23 +242,23 @@ module _ (embeds : Strand → Strand → Bool) (catalog motifs : List ℕ) (work
       query_does embeds catalog cache only work hits
       ((query_accepts catalog cache only work (length hits)).1 (f.0, motif_proper motifs f.1 0 there, fits, f.3 0 there))
 
-  in-batch-is : in_batch ≡ asked (piece (block_count catalog) 0 hits)
+  in_batch_is : in_batch ≡ asked (piece (block_count catalog) 0 hits)
   unfolding query_at batch_query batch_to
-  in-batch-is =
+  in_batch_is =
       query_does embeds catalog cache only work (piece (block_count catalog) 0 hits) (law.query_accepted_at embeds catalog motifs work cache hits e 0 there)
 
   same_answer : alone.answer ≡ in_batch.answer
   unfolding query_accepted
-  same_answer = ap (λ (x : QueryEffect). x.answer) alone_is ∙ sym (ap (λ (x : QueryEffect). x.answer) in-batch-is)
+  same_answer = ap (λ (x : QueryEffect). x.answer) alone_is ∙ sym (ap (λ (x : QueryEffect). x.answer) in_batch_is)
 
   same_cache : in_batch.cache ≡ alone.cache
   unfolding query_accepted
-  same_cache = ap (λ (x : QueryEffect). x.cache) in-batch-is ∙ sym (ap (λ (x : QueryEffect). x.cache) alone_is)
+  same_cache = ap (λ (x : QueryEffect). x.cache) in_batch_is ∙ sym (ap (λ (x : QueryEffect). x.cache) alone_is)
 
   same_hits : put_piece (block_count catalog) 0 in_batch.hits hits ≡ alone.hits
   unfolding query_accepted
   same_hits =
-      ap (λ (x : QueryEffect). put_piece (block_count catalog) 0 x.hits hits) in-batch-is
+      ap (λ (x : QueryEffect). put_piece (block_count catalog) 0 x.hits hits) in_batch_is
       ∙ first_piece (block_count catalog) (select (block_count catalog) (is_hit embeds catalog (entry_for cache only) only)) hits
       (select_short (is_hit embeds catalog (entry_for cache only) only) (block_count catalog)) fits
       ∙ sym (ap (λ (x : QueryEffect). x.hits) alone_is)

@@ -10,7 +10,7 @@ use Rattle.lists.specs.Vocabulary.{lowest}
 use Rattle.lists.proofs.ListLaws.{lowest_all, lowest_found}
 use Rattle.strand.specs.Strands.{Strand}
 use Rattle.refusals.specs.Rules.{motif_side, no_side, bad_motifs, too_long, Keeps, RefusesBy, BatchNumbered, of_table, of_motifs, of_long, work_size}
-use Rattle.refusals.proofs.Refusing.{Numbering, NumberingBy, call_number, if-numbered, work_numbered, when_by, lowest_by, none_by, first_by, refuses_by}
+use Rattle.refusals.proofs.Refusing.{Numbering, NumberingBy, call_number, if_numbered, work_numbered, when_by, lowest_by, none_by, first_by, refuses_by}
 use Rattle.refusals.proofs.Refusing.{keeps_by}
 use Rattle.refusals.specs.declared.Refusal.{Refusal}
 use Rattle.refusals.specs.declared.Verdict.{Verdict}
@@ -100,7 +100,7 @@ unfolding batch_verdict
 batch_numbered catalog cache motifs work room =
     first_by BatchNumbered _ _ (of_table_lem _ (buffers_numbered catalog cache))
     (first_by BatchNumbered _ _ (motifs_numbered motifs)
-    (first_by BatchNumbered _ _ (of_table_lem _ (if-numbered 9 no_side (call_number 9 0 (omega arith) (omega arith) (λ n. refl)) _))
+    (first_by BatchNumbered _ _ (of_table_lem _ (if_numbered 9 no_side (call_number 9 0 (omega arith) (omega arith) (λ n. refl)) _))
     (first_by BatchNumbered _ _ (of_table_lem _ (work_numbered (longest_motif motifs) most_molecule_bases work)) (none_by BatchNumbered))))
 
 module _ (embeds : Strand → Strand → Bool) (catalog cache motifs : List ℕ) (work : ℕ) (hits : List ℕ) where

@@ -17,7 +17,7 @@ use Rattle.refusals.proofs.RuleLaws.{first_one, first_skip, first_stop, first_pa
 use Rattle.refusals.specs.declared.Verdict.TheVariants.{Accepted}
 use Rattle.block.specs.Block.{block_of, block_count}
 use Rattle.block.specs.Motif.{motif_handed_in, holds_motif}
-use Rattle.block.proofs.ContentLaws.{motif_proper as handed-proper, held_sound}
+use Rattle.block.proofs.ContentLaws.{motif_proper as handed_proper, held_sound}
 use Rattle.calls.specs.Buffers.{most_motif_bases, motif_verdict, is_whole}
 use Rattle.calls.specs.Motifs.{most_motifs, motif_of, no_motif_at, long_motif_at, motifs_verdict, UsableMotifs, longest_to}
 use Rattle.calls.proofs.ReadingLaws.{whole_is}
@@ -115,7 +115,7 @@ module _ (motifs : List ℕ) where
     unfolding motif_of
     motif_proper t l =
         let a = held_sound (block_of t motifs) (ok.each t l) in
-        let p = handed-proper (block_of t motifs) a.0 a.1 in
+        let p = handed_proper (block_of t motifs) a.0 a.1 in
         record { same = p.same; enough = p.enough; small = unfold motif_of in (ok.short t l); letters = p.letters; nested = p.nested }
 
     pub motif_verdict_lem : (t : ℕ) → t < block_count motifs → motif_verdict (motif_of motifs t) ≡ Accepted

@@ -8,7 +8,7 @@ use lib.ListN.{length}
 use Rattle.strand.specs.Folds.{fold_of}
 use Rattle.strand.specs.Strands.{Strand, least_motif, least_molecule}
 use Rattle.refusals.specs.Rules.{motif_side, molecule_side, no_side, refuse_if, Refuses, Keeps}
-use Rattle.refusals.proofs.Refusing.{Numbering, call_number, if-numbered, lowest_numbered, none_numbered, first_numbered, work_numbered, refuses_by}
+use Rattle.refusals.proofs.Refusing.{Numbering, call_number, if_numbered, lowest_numbered, none_numbered, first_numbered, work_numbered, refuses_by}
 use Rattle.refusals.proofs.Refusing.{keeps_by}
 use Rattle.refusals.specs.declared.Refusal.{Refusal}
 use Rattle.strand.proofs.VerdictLaws.{strand_numbered}
@@ -26,7 +26,7 @@ use Rattle.calls.specs.Calls.{query_outcome}
 pub buffers_numbered : (catalog cache : List ℕ) → Numbering (buffers_verdict catalog cache)
 unfolding buffers_verdict
 buffers_numbered catalog cache =
-    first_numbered _ _ (if-numbered 10 no_side (call_number 10 0 (omega arith) (omega arith) (λ n. refl)) _)
+    first_numbered _ _ (if_numbered 10 no_side (call_number 10 0 (omega arith) (omega arith) (λ n. refl)) _)
     (first_numbered _ _ (lowest_numbered 11 no_side (λ place. call_number 11 place (omega arith) (omega arith) (λ n. absurd (n refl))) _ _) none_numbered)
 
 molecule_numbered : (q : Strand) → Numbering (molecule_verdict q)
@@ -38,14 +38,14 @@ unfolding motif_verdict
 motif_numbered p = strand_numbered motif_side (omega arith) least_motif most_motif_bases p.bases p.mates (λ h. absurd (omega arith))
 
 number_numbered : (b : Bool) → Numbering (refuse_if 12 no_side b)
-number_numbered b = if-numbered 12 no_side (call_number 12 0 (omega arith) (omega arith) (λ n. refl)) b
+number_numbered b = if_numbered 12 no_side (call_number 12 0 (omega arith) (omega arith) (λ n. refl)) b
 
 add_numbered : (catalog cache : List ℕ) (d : ℕ) (q : Strand) → Numbering (add_verdict catalog cache d q)
 unfolding add_verdict
 add_numbered catalog cache d q =
     first_numbered _ _ (buffers_numbered catalog cache)
     (first_numbered _ _ (number_numbered _)
-    (first_numbered _ _ (if-numbered 13 no_side (call_number 13 0 (omega arith) (omega arith) (λ n. refl)) _)
+    (first_numbered _ _ (if_numbered 13 no_side (call_number 13 0 (omega arith) (omega arith) (λ n. refl)) _)
     (first_numbered _ _ (molecule_numbered q) none_numbered)))
 
 remove_numbered : (catalog cache : List ℕ) (d : ℕ) → Numbering (remove_verdict catalog cache d)
@@ -53,14 +53,14 @@ unfolding remove_verdict
 remove_numbered catalog cache d =
     first_numbered _ _ (buffers_numbered catalog cache)
     (first_numbered _ _ (number_numbered _)
-    (first_numbered _ _ (if-numbered 14 no_side (call_number 14 0 (omega arith) (omega arith) (λ n. refl)) _) none_numbered))
+    (first_numbered _ _ (if_numbered 14 no_side (call_number 14 0 (omega arith) (omega arith) (λ n. refl)) _) none_numbered))
 
 query_numbered : (catalog cache : List ℕ) (p : Strand) (work room : ℕ) → Numbering (query_verdict catalog cache p work room)
 unfolding query_verdict work_verdict
 query_numbered catalog cache p work room =
     first_numbered _ _ (buffers_numbered catalog cache)
     (first_numbered _ _ (motif_numbered p)
-    (first_numbered _ _ (if-numbered 9 no_side (call_number 9 0 (omega arith) (omega arith) (λ n. refl)) _)
+    (first_numbered _ _ (if_numbered 9 no_side (call_number 9 0 (omega arith) (omega arith) (λ n. refl)) _)
     (first_numbered _ _ (work_numbered (length p.bases) most_molecule_bases work) none_numbered)))
 
 -- ---- the calls

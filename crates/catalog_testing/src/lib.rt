@@ -20,38 +20,39 @@ pub mod requests;
 pub mod tell;
 
 use lines::Request;
+use std::io;
 use testing::answer::{NOTHING, WRONG};
 use testing::input::number;
 use testing::output::say;
 use testing::slices::{clear, set_byte};
 
 // The answer r of the call of a line, held to the line, which is written where it is wrong.
-pub fn held(c: Request, line: &[u8], s: &[u8], r: usize) -> usize {
+pub fn held<P: Print>(out: &P, c: Request, line: &[u8], s: &[u8], r: usize) -> io::Result<usize> {
     if requests::right(c, line, s, r) {
-        return r;
+        return Ok(r);
     }
-    say(line);
-    WRONG
+    say(out, line)?;
+    Ok(WRONG)
 }
 
-fn answer(line: &[u8], kind: u8, s: &mut [u8]) -> usize {
+fn answer<P: Print>(out: &P, line: &[u8], kind: u8, s: &mut [u8]) -> io::Result<usize> {
     let c = lines::call(line, kind);
     let r = requests::made(c, line, s);
-    held(c, line, s, r)
+    held(out, c, line, s, r)
 }
 
 // Acts on a line; the number that is counted.
-pub fn act(line: &[u8], kind: u8, s: &mut [u8]) -> usize {
+pub fn act<P: Print>(out: &P, line: &[u8], kind: u8, s: &mut [u8]) -> io::Result<usize> {
     match kind {
-        b'A' | b'R' | b'Q' => answer(line, kind, s),
+        b'A' | b'R' | b'Q' => answer(out, line, kind, s),
         b'S' | b'B' => {
             set_byte(s, number(line, 2, 7), number(line, 23, 5));
-            tell::byte_set(kind)
+            Ok(tell::byte_set(kind))
         }
         b'N' => {
             clear(s);
-            NOTHING
+            Ok(NOTHING)
         }
-        _ => NOTHING,
+        _ => Ok(NOTHING),
     }
 }

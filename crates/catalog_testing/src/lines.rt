@@ -3,7 +3,7 @@ use testing::input::{digit_at, number};
 use testing::slices::{byte_at, set_byte, set_entry};
 
 // A call: its letter (A, R or Q) and number, and how many bytes and entries the slices have that it gets.
-#[derive(Drop)]
+#[derive(Clone, Copy)]
 pub struct Request {
     pub kind: u8,
     pub d: usize,

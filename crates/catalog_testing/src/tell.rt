@@ -1,5 +1,6 @@
 // The counts of a group: at 1 to 99 refusals by row, behind them the others. Accepted calls have three counts: the calls, and the sums of the two numbers
 // of their answers.
+use std::io;
 use testing::answer::{NOTHING, WRONG};
 use testing::input::number;
 use testing::output::say;
@@ -66,64 +67,66 @@ pub fn count(counts: &mut [u16], kind: u8, r: usize) {
 }
 
 // Writes a text and a count, and counts anew.
-fn write(counts: &mut [u16], text: &[u8], k: usize) {
-    output::number(text, entry_at(counts, k));
+fn write<P: Print>(out: &P, counts: &mut [u16], text: &[u8], k: usize) -> io::Result<()> {
+    output::number(out, text, entry_at(counts, k))?;
     set_entry(counts, k, 0);
+    Ok(())
 }
 
 // Writes a row of refusals and its count, if there are any.
-fn write_row(counts: &mut [u16], row: usize) {
+fn write_row<P: Print>(out: &P, counts: &mut [u16], row: usize) -> io::Result<()> {
     if entry_at(counts, row) == 0 {
-        return;
+        return Ok(());
     }
-    output::number(b" ", row);
-    write(counts, b":", row);
+    output::number(out, b" ", row)?;
+    write(out, counts, b":", row)
 }
 
-fn write_rows(counts: &mut [u16]) {
+fn write_rows<P: Print>(out: &P, counts: &mut [u16]) -> io::Result<()> {
     let mut row = 1;
     while row < ROWS {
-        write_row(counts, row);
+        write_row(out, counts, row)?;
         row += 1;
     }
+    Ok(())
 }
 
-fn write_updates(counts: &mut [u16]) {
-    write(counts, b"; adds and removes ", UPDATES);
-    write(counts, b" with arcs ", UPDATES + 1);
-    write(counts, b" and depths ", UPDATES + 2);
+fn write_updates<P: Print>(out: &P, counts: &mut [u16]) -> io::Result<()> {
+    write(out, counts, b"; adds and removes ", UPDATES)?;
+    write(out, counts, b" with arcs ", UPDATES + 1)?;
+    write(out, counts, b" and depths ", UPDATES + 2)
 }
 
-fn write_queries(counts: &mut [u16]) {
-    write(counts, b", queries ", QUERIES);
-    write(counts, b" with hits ", QUERIES + 1);
-    write(counts, b" and searches ", QUERIES + 2);
+fn write_queries<P: Print>(out: &P, counts: &mut [u16]) -> io::Result<()> {
+    write(out, counts, b", queries ", QUERIES)?;
+    write(out, counts, b" with hits ", QUERIES + 1)?;
+    write(out, counts, b" and searches ", QUERIES + 2)
 }
 
 // Writes the name of a group and how often calls were wrong and accepted.
-pub fn report_calls(line: &[u8], counts: &mut [u16]) {
-    say(part(line, 5, number(line, 2, 2)));
-    write(counts, b": wrong ", WRONGS);
-    write_updates(counts);
-    write_queries(counts);
+pub fn report_calls<P: Print>(out: &P, line: &[u8], counts: &mut [u16]) -> io::Result<()> {
+    say(out, part(line, 5, number(line, 2, 2)))?;
+    write(out, counts, b": wrong ", WRONGS)?;
+    write_updates(out, counts)?;
+    write_queries(out, counts)
 }
 
-pub fn report_batches(counts: &mut [u16]) {
-    write(counts, b", batches ", BATCHES);
-    write(counts, b" of motifs ", BATCHES + 1);
-    write(counts, b" with reads ", BATCHES + 2);
+pub fn report_batches<P: Print>(out: &P, counts: &mut [u16]) -> io::Result<()> {
+    write(out, counts, b", batches ", BATCHES)?;
+    write(out, counts, b" of motifs ", BATCHES + 1)?;
+    write(out, counts, b" with reads ", BATCHES + 2)
 }
 
 // Writes how many bytes were set, and the refusals.
-pub fn report_rows(counts: &mut [u16]) {
-    write(counts, b"; bytes set ", BYTES);
-    say(b"; refused by row");
-    write_rows(counts);
-    say(b"\n");
+pub fn report_rows<P: Print>(out: &P, counts: &mut [u16]) -> io::Result<()> {
+    write(out, counts, b"; bytes set ", BYTES)?;
+    say(out, b"; refused by row")?;
+    write_rows(out, counts)?;
+    say(out, b"\n")
 }
 
 // Writes the name of a group and its counts without those of batches, and begins anew.
-pub fn report(line: &[u8], counts: &mut [u16]) {
-    report_calls(line, counts);
-    report_rows(counts);
+pub fn report<P: Print>(out: &P, line: &[u8], counts: &mut [u16]) -> io::Result<()> {
+    report_calls(out, line, counts)?;
+    report_rows(out, counts)
 }

@@ -9,7 +9,7 @@ use lib.Dec.{ltb, leb}
 use borrow.Author.Tests.{ltb-true, ltb-false, leb-true, leb-false}
 use Rattle.strand.specs.Strands.{Nested}
 use Rattle.embedding.specs.Row.{Closed, Split, Best, IsRow, Bounds, unit_at, over_at, arc_at, over_by}
-use Rattle.embedding.proofs.Bounds.{bounds-end}
+use Rattle.embedding.proofs.Bounds.{bounds_end}
 use Rattle.embedding.proofs.Answers.{by_test, clash}
 use Rattle.embedding.proofs.Splitting.{restrict}
 use Rattle.embedding.proofs.Recurrence.{later, empty, combine, single_takes, single_skips, extend_takes, extend_skips}
@@ -133,7 +133,7 @@ module _ {fit : ℕ → ℕ → Bool} {pm qm : ℕ → ℕ} {lo z : ℕ} where
   -- The entries of a row are starts of the rows behind it.
   pub row_within : {s e : ℕ} {b f : ℕ → ℕ} → Bounds fit z s e b → s ≤ e → IsRow fit pm qm lo (min z (b s)) z s e f
       → (j : ℕ) → lo ≤ j → j ≤ min z (b s) → f j ≤ min z (b e)
-  row_within D se F j a h = let B = F.best j a h in omega (arith, B.reach.upto, bounds-end D se (omega arith) B.reach)
+  row_within D se F j a h = let B = F.best j a h in omega (arith, B.reach.upto, bounds_end D se (omega arith) B.reach)
 
   pub combine_row : {s i e : ℕ} {b f g h : ℕ → ℕ} → s ≤ i → i ≤ e → Split qm s i e → Bounds fit z s i b → IsRow fit pm qm lo (min z (b s)) z s i f
       → IsRow fit pm qm lo (min z (b i)) z i e g → ((j : ℕ) → lo ≤ j → j ≤ min z (b s) → h j ≡ g (f j)) → IsRow fit pm qm lo (min z (b s)) z s e h

@@ -1,24 +1,21 @@
 -- What a letter rule does not tell apart, no search does: all of them read of the bases their number and the places where the rule passes. Two spellings of the
 -- same bases are not told apart by the letter rule.
-use Prim.Native.Nat.{ℕ, suc, ◌+◌, ◌-◌, ◌≤◌, min}
+use Prim.Native.Nat.{ℕ, ◌+◌, ◌-◌, ◌≤◌, min}
 use mathlib.Core.Path.{◌≡◌, refl, sym, ap, ap₂, subst, fun_ext, ◌∙◌}
 use mathlib.Core.Bool.{Bool}
-use mathlib.Core.Logic.{◌↔◌}
 use mathlib.Core.List.{List}
 use native.Mathlib.Omega.{arith}
 use native.Mathlib.Decide.{dec_lt}
 use lib.Dec.{eqb}
-use lib.ListN.{length, take, drop, length-take, length-drop, get_or-eq_default}
-use Rattle.lists.specs.Vocabulary.{nth, some, lowest, largest, choose}
+use lib.ListN.{length, drop, length-take, length-drop, get_or-eq_default}
+use Rattle.lists.specs.Vocabulary.{nth}
 use Rattle.lists.proofs.Stretches.{nth_stretch}
-use Rattle.refusals.specs.declared.Verdict.{Verdict}
-use Rattle.refusals.specs.Rules.{no_side, wrong_slice, refuse_if, first, by_verdict}
 use Rattle.letters.specs.Letters.{letters_match, ReadAlike}
 use Rattle.letters.proofs.LetterLaws.{alike_first, alike_second}
 use Rattle.strand.specs.Strands.{Strand, Respelled}
 use Rattle.strand.proofs.Spellings.{alike_pair}
-use Rattle.embedding.specs.Embedding.{fits, Emb, EmbedsIn}
-use Rattle.embedding.specs.Longest.{prefix_ok, longest, verified, verify_verdict, verify_answer, embeds}
+use Rattle.embedding.specs.Embedding.{fits, Emb}
+use Rattle.embedding.specs.Longest.{longest, verified, verify_verdict, verify_answer, embeds}
 use Rattle.embedding.specs.Windows.{window_bases, window_mates, carries, some_carries, first_start, tightest_length}
 use Rattle.embedding.specs.Statements.{NotToldApart, SameFound, EmbedAlike}
 

@@ -17,7 +17,7 @@ use Rattle.strand.specs.Strands.{Inside, Nested, greatest_length, pair_verdict}
 use Rattle.refusals.specs.Rules.{no_side, refusal, Refuses}
 use Rattle.lists.proofs.ListLaws.{not_not, choose_yes, choose_no}
 use Rattle.refusals.proofs.RuleLaws.{first_one, first_pass, first_skip, first_stop, rule_yes, rule_no, rule_pass, by_refused, by_accepted}
-use Rattle.refusals.proofs.Refusing.{Numbering, call_number, if-numbered, none_numbered, first_numbered, refuses_by}
+use Rattle.refusals.proofs.Refusing.{Numbering, call_number, if_numbered, none_numbered, first_numbered, refuses_by}
 use Rattle.strand.proofs.FoldLaws.{fold_is, fold_only}
 use Rattle.strand.proofs.VerdictLaws.{pair_proper, proper_pair, proper_mates, pair_numbered}
 use Rattle.embedding.specs.declared.Verified.{Verified}
@@ -113,7 +113,7 @@ module _ (p pm q qm v : List ℕ) where
   unfolding verify_verdict
   verify_numbered =
       first_numbered _ _ (pair_numbered p pm q qm)
-      (first_numbered _ _ (if-numbered 9 no_side (call_number 9 0 (omega arith) (omega arith) (λ n. refl)) _) none_numbered)
+      (first_numbered _ _ (if_numbered 9 no_side (call_number 9 0 (omega arith) (omega arith) (λ n. refl)) _) none_numbered)
 
   -- It tells a refusal exactly where the rules refuse.
   pub verify_refuses : Refuses (verify_verdict p pm q qm v) Refused (verify_answer p pm q qm v)

@@ -2,13 +2,15 @@
 // of arcs and the depth of the molecule, or refused with number, side and place.
 #![tactic(auto)]
 
+use std::io;
+
 mod cases;
 mod make;
 mod naive;
 mod random;
 mod tell;
 
-fn main() {
-    cases::run();
-    random::run();
+fn main(rt: HostRuntime) -> io::Result<()> {
+    cases::run(&rt)?;
+    random::run(&rt)
 }

@@ -3,12 +3,13 @@
 use super::make::nested;
 use super::naive::fits;
 use embedding::Verified;
+use std::io;
 use strand::Fold;
 use testing::output::{number, say};
 use testing::slices::set_entry;
 
 // The next random number, how many answers are wrong and how many are yes, and the sums of the arcs and of the depths that they say.
-#[derive(Drop)]
+#[derive(Clone, Copy)]
 struct Tally {
     seed: usize,
     wrong: usize,
@@ -171,19 +172,19 @@ fn pairs(count: usize, kinds: usize) -> Tally {
     sum
 }
 
-fn tell(name: &[u8], t: Tally) {
-    say(name);
-    number(b" ", t.wrong);
-    number(b" yes ", t.yes);
-    number(b" arcs ", t.arcs);
-    number(b" depths ", t.depths);
-    say(b"\n");
+fn tell<P: Print>(out: &P, name: &[u8], t: Tally) -> io::Result<()> {
+    say(out, name)?;
+    number(out, b" ", t.wrong)?;
+    number(out, b" yes ", t.yes)?;
+    number(out, b" arcs ", t.arcs)?;
+    number(out, b" depths ", t.depths)?;
+    say(out, b"\n")
 }
 
 // Of 1, 2 and 5 letters, and of three of which two match each other.
-pub fn run() {
-    tell(b"all lists, 1 letter: wrong", pairs(50, 0));
-    tell(b"all lists, 2 letters: wrong", pairs(50, 1));
-    tell(b"all lists, 5 letters: wrong", pairs(50, 4));
-    tell(b"all lists, G, U and T: wrong", pairs(50, 5));
+pub fn run<P: Print>(out: &P) -> io::Result<()> {
+    tell(out, b"all lists, 1 letter: wrong", pairs(50, 0))?;
+    tell(out, b"all lists, 2 letters: wrong", pairs(50, 1))?;
+    tell(out, b"all lists, 5 letters: wrong", pairs(50, 4))?;
+    tell(out, b"all lists, G, U and T: wrong", pairs(50, 5))
 }

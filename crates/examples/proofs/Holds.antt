@@ -100,15 +100,15 @@ own_stories : ByModel settled_story × ByModel reused_story × ByModel shared_sl
     × ByModel one_slot_spellings
 unfolding AllByModel stories
 own_stories =
-    let altered-and-on = (computed.settled).1.1.1 in
-    let spelled-and-on = altered-and-on.1.1 in (
+    let altered_and_on = (computed.settled).1.1.1 in
+    let spelled_and_on = altered_and_on.1.1 in (
       (computed.settled).0,
       (computed.settled).1.0,
       (computed.settled).1.1.0,
-      altered-and-on.1.0,
-      spelled-and-on.1.1.0,
-      spelled-and-on.0,
-      spelled-and-on.1.0,
+      altered_and_on.1.0,
+      spelled_and_on.1.1.0,
+      spelled_and_on.0,
+      spelled_and_on.1.0,
     )
 
 also_hold : AllHold also

@@ -3,7 +3,7 @@
 use mathlib.Core.Path.{◌≡◌, refl, sym, ap, subst, ◌∙◌}
 use mathlib.Core.Bool.{Bool, true, false, true≢false, not, ◌&&◌, ◌||◌}
 use mathlib.Core.List.{List}
-use Prim.Native.Nat.{ℕ, ◌+◌, ◌-◌, ◌*◌, ◌/◌, ◌≤◌, ◌<◌, min}
+use Prim.Native.Nat.{ℕ, ◌+◌, ◌-◌, ◌≤◌, ◌<◌, min}
 use native.Mathlib.Decide.{ℕ_discrete, dec_lt}
 use native.Mathlib.Numerals.{add-one}
 use native.Mathlib.Omega.{arith}
@@ -12,7 +12,7 @@ use lib.ListN.{length, get_or-eq_default}
 use borrow.Author.Tests.{eq-eqb, ne_eqb, eqb-true}
 use Rattle.lists.specs.Vocabulary.{nth, choose, every, all}
 use Rattle.lists.proofs.ListLaws.{not_not, every_at, choose_yes, choose_no}
-use Rattle.letters.specs.Letters.{is_tor_u, is_letter, not_letter, letters_match, ReadAlike}
+use Rattle.letters.specs.Letters.{is_letter, not_letter, letters_match, ReadAlike}
 use Rattle.letters.specs.Classes.{letter_class, other_letter}
 
 pub one_most : {r : ℕ} (b : Bool) → r ≡ choose b 1 0 → r ≤ 1

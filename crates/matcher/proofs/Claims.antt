@@ -11,7 +11,7 @@ use lib.Seq.{ext_get_or}
 use borrow.Author.Tests.{le-ltb}
 use Rattle.refusals.specs.Rules.{no_side, wrong_slice, by_verdict, Refuses}
 use Rattle.refusals.proofs.RuleLaws.{first_without, rule_no, by_refused, by_accepted}
-use Rattle.refusals.proofs.Refusing.{Numbering, call_number, if-numbered, none_numbered, first_numbered, work_numbered, refuses_by}
+use Rattle.refusals.proofs.Refusing.{Numbering, call_number, if_numbered, none_numbered, first_numbered, work_numbered, refuses_by}
 use Rattle.strand.proofs.FoldLaws.{fold_is, fold_only}
 use Rattle.strand.proofs.VerdictLaws.{pair_proper, proper_pair, pair_numbered}
 use Rattle.lists.specs.Vocabulary.{nth}
@@ -82,7 +82,7 @@ show_numbered : (p pm q qm : List ℕ) (places work : ℕ) → Numbering (show_v
 unfolding show_verdict
 show_numbered p pm q qm places work =
     first_numbered _ _ (pair_numbered p pm q qm)
-    (first_numbered _ _ (if-numbered 9 no_side (call_number 9 0 (omega arith) (omega arith) (λ n. refl)) _)
+    (first_numbered _ _ (if_numbered 9 no_side (call_number 9 0 (omega arith) (omega arith) (λ n. refl)) _)
     (first_numbered _ _ (work_numbered (length p) (length q) work) none_numbered))
 
 -- ---- the motif with no bases

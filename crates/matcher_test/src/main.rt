@@ -15,63 +15,68 @@
 mod ask;
 mod tally;
 
+use std::io;
+use std::io::{BufReader, Read};
 use tally::Tally;
 use testing::input::{MOST_LINES, kind, read};
 use testing::pairs::{LINE, TEXT, rounds, say_name};
 use testing::slices::part;
 
-fn asked(t: Tally, line: &[u8], i: usize, call: usize) -> Tally {
-    tally::judged(t, line, ask::ask(line, i, call))
+fn asked<P: Print>(out: &P, t: Tally, line: &[u8], i: usize, call: usize) -> io::Result<Tally> {
+    tally::judged(out, t, line, ask::ask(line, i, call))
 }
 
-fn both(t: Tally, line: &[u8], i: usize) -> Tally {
+fn both<P: Print>(out: &P, t: Tally, line: &[u8], i: usize) -> io::Result<Tally> {
     let letter = kind(line);
     if letter == b'l' {
-        return asked(t, line, i, 0);
+        return asked(out, t, line, i, 0);
     }
     if letter == b's' {
-        return asked(t, line, i, 1);
+        return asked(out, t, line, i, 1);
     }
-    asked(asked(t, line, i, 0), line, i, 1)
+    let sum = asked(out, t, line, i, 0)?;
+    asked(out, sum, line, i, 1)
 }
 
-fn case(t: Tally, line: &[u8]) -> Tally {
+fn case<P: Print>(out: &P, t: Tally, line: &[u8]) -> io::Result<Tally> {
     let n = rounds(line, 70, 6);
     let mut sum = t;
     let mut i = 0;
     while i < n {
-        sum = both(sum, line, i);
+        sum = both(out, sum, line, i)?;
         i += 1;
     }
-    sum
+    Ok(sum)
 }
 
-fn group(t: Tally, line: &[u8]) -> Tally {
-    say_name(line);
-    tally::report(t);
-    tally::none()
+fn group<P: Print>(out: &P, t: Tally, line: &[u8]) -> io::Result<Tally> {
+    say_name(out, line)?;
+    tally::report(out, t)?;
+    Ok(tally::none())
 }
 
-fn step(t: Tally, line: &[u8]) -> Tally {
+fn step<P: Print>(out: &P, t: Tally, line: &[u8]) -> io::Result<Tally> {
     if kind(line) == b'=' {
-        return group(t, line);
+        return group(out, t, line);
     }
-    case(t, line)
+    case(out, t, line)
 }
 
-fn cases(line: &mut [u8]) {
+fn cases<P: Print, R: Read>(out: &P, input: &mut R, line: &mut [u8]) -> io::Result<()> {
     let mut t = tally::none();
     let mut i: usize = 0;
     while i < MOST_LINES {
-        if !read(line) {
-            return;
+        if !read(input, line)? {
+            return Ok(());
         }
-        t = step(t, part(line, 0, TEXT));
+        t = step(out, t, part(line, 0, TEXT))?;
         i += 1;
     }
+    Ok(())
 }
 
-fn main() {
+fn main(rt: HostRuntime) -> io::Result<()> {
+    let mut input = BufReader::new(rt.alloc(), rt.reader())?;
     let mut line = [0u8; LINE];
-    cases(&mut line);
+    cases(&rt, &mut input, &mut line)
 }

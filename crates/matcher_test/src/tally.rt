@@ -1,5 +1,6 @@
 // Counts of calls, and their report.
 use super::ask::Asked;
+use std::io;
 use testing::answer::{first_of, is_refused, second_of};
 use testing::output::{number, say};
 use testing::pairs;
@@ -43,21 +44,21 @@ fn counted(t: Tally, a: Asked) -> Tally {
     }
 }
 
-pub fn report(t: Tally) {
-    number(b": calls ", t.calls);
-    number(b", refused ", t.refused);
-    number(b", whole motif ", t.whole);
-    number(b", no prefix ", t.empty);
-    number(b", arcs ", t.arcs);
-    number(b", depths ", t.depths);
-    number(b", wrong ", t.wrong);
-    say(b"\n");
+pub fn report<P: Print>(out: &P, t: Tally) -> io::Result<()> {
+    number(out, b": calls ", t.calls)?;
+    number(out, b", refused ", t.refused)?;
+    number(out, b", whole motif ", t.whole)?;
+    number(out, b", no prefix ", t.empty)?;
+    number(out, b", arcs ", t.arcs)?;
+    number(out, b", depths ", t.depths)?;
+    number(out, b", wrong ", t.wrong)?;
+    say(out, b"\n")
 }
 
 // The tally with one more call, which is told where it is wrong.
-pub fn judged(t: Tally, line: &[u8], a: Asked) -> Tally {
+pub fn judged<P: Print>(out: &P, t: Tally, line: &[u8], a: Asked) -> io::Result<Tally> {
     if !a.right {
-        pairs::tell(line, a.told);
+        pairs::tell(out, line, a.told)?;
     }
-    counted(t, a)
+    Ok(counted(t, a))
 }

@@ -4,7 +4,7 @@ use mathlib.Core.Bool.{Bool, true, false, not, ◌&&◌, ◌||◌}
 use mathlib.Core.List.{List}
 use Prim.Native.Nat.{ℕ, ◌+◌, ◌-◌, ◌*◌, ◌/◌, ◌%◌, ◌^◌, ◌<◌, ◌≤◌}
 use native.Mathlib.Omega.{arith}
-use native.Mathlib.Nat.{zero-div}
+use native.Mathlib.Nat.{zero_div}
 use native.Mathlib.Decide.{ℕ_discrete}
 use lib.Dec.{T, eqb, eqb→eq, ltb, ltb→lt}
 use lib.Bits.{bit_and, bit_or, and_mask, and_shr, and_mod, and_le_l, or_shr, or_mod}
@@ -86,7 +86,7 @@ module _ (b k : ℕ) (hb : b < 256) (hk : k < 8) where
 pub test_out : (s : List ℕ) (at d : ℕ) → length s ≤ at + d / 8 → map_bit s at d ≡ false
 unfolding map_bit bit_of
 test_out s at d h =
-    ap (λ (b : ℕ). eqb (b / 2 ^ (d % 8) % 2) 1) (get_or-eq_default s 0 h) ∙ ap (λ (b : ℕ). eqb (b % 2) 1) (zero-div (2 ^ (d % 8)))
+    ap (λ (b : ℕ). eqb (b / 2 ^ (d % 8) % 2) 1) (get_or-eq_default s 0 h) ∙ ap (λ (b : ℕ). eqb (b % 2) 1) (zero_div (2 ^ (d % 8)))
 
 pub set_map_out : (s : List ℕ) (at d : ℕ) → length s ≤ at + d / 8 → set_map s at d ≡ s
 unfolding set_map
@@ -143,7 +143,7 @@ apart_in_map at d d' n e q = n (omega arith)
 -- The byte 0 has no bit.
 pub zero_bit : (k : ℕ) → bit_of 0 k ≡ false
 unfolding bit_of
-zero_bit k = ap (λ (q : ℕ). eqb (q % 2) 1) (zero-div (2 ^ k))
+zero_bit k = ap (λ (q : ℕ). eqb (q % 2) 1) (zero_div (2 ^ k))
 
 and_test : ℕ → ℕ → Bool
 and_test x y = same (eqb (bit_and x y) 1) (eqb x 1 && eqb y 1)

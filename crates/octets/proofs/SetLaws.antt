@@ -46,14 +46,14 @@ module _ (m s : List ℕ) (at j : ℕ) (small : nth m j < 256) where
       (λ k h. and_bit (nth m j) (nth s (at + j)) k ∙ ap₂ (λ (a b : Bool). a && b) (first_at k h) (sym (bit_at s at j k h)))
 
   out_byte : nth s (at + j) < 256 → bit_and (nth m j) (255 - nth s (at + j)) ≡ byte_of (λ d. map_bit m 0 d && not (map_bit s at d)) j
-  out_byte small-s =
+  out_byte small_s =
       byte_from (λ d. map_bit m 0 d && not (map_bit s at d)) j _ (omega (arith, and_le_l (nth m j) (255 - nth s (at + j))))
       (λ k h. and_bit (nth m j) (255 - nth s (at + j)) k
-      ∙ ap₂ (λ (a b : Bool). a && b) (first_at k h) (not_bit (nth s (at + j)) k small-s h ∙ ap not (sym (bit_at s at j k h))))
+      ∙ ap₂ (λ (a b : Bool). a && b) (first_at k h) (not_bit (nth s (at + j)) k small_s h ∙ ap not (sym (bit_at s at j k h))))
 
   join_byte : nth s (at + j) < 256 → bit_or (nth m j) (nth s (at + j)) ≡ byte_of (λ d. map_bit m 0 d || map_bit s at d) j
-  join_byte small-s =
-      byte_from (λ d. map_bit m 0 d || map_bit s at d) j _ (or_lt 8 (nth m j) (nth s (at + j)) small small-s)
+  join_byte small_s =
+      byte_from (λ d. map_bit m 0 d || map_bit s at d) j _ (or_lt 8 (nth m j) (nth s (at + j)) small small_s)
       (λ k h. or_bit (nth m j) (nth s (at + j)) k ∙ ap₂ (λ (a b : Bool). a || b) (first_at k h) (sym (bit_at s at j k h)))
 
 -- ---- the pass: the first i bytes are those of p, the rest is as it was
@@ -94,12 +94,12 @@ module _ (m s w : List ℕ) (at i : ℕ) (h : i < length m) (small : nth w i < 2
 
   pub out_more : nth s (at + i) < 256 → w ≡ made_to (λ d. map_bit m 0 d && not (map_bit s at d)) i m
       → set w i (bit_and (nth w i) (255 - nth s (at + i))) ≡ made_to (λ d. map_bit m 0 d && not (map_bit s at d)) (i + 1) m
-  out_more small-s e =
+  out_more small_s e =
       let q : nth w i ≡ nth m i = made_at _ m i w h e in
-      made_more _ m i _ w h e (ap (λ (x : ℕ). bit_and x (255 - nth s (at + i))) q ∙ out_byte m s at i (rw q at small) small-s)
+      made_more _ m i _ w h e (ap (λ (x : ℕ). bit_and x (255 - nth s (at + i))) q ∙ out_byte m s at i (rw q at small) small_s)
 
   pub join_more : nth s (at + i) < 256 → w ≡ made_to (λ d. map_bit m 0 d || map_bit s at d) i m
       → set w i (bit_or (nth w i) (nth s (at + i))) ≡ made_to (λ d. map_bit m 0 d || map_bit s at d) (i + 1) m
-  join_more small-s e =
+  join_more small_s e =
       let q : nth w i ≡ nth m i = made_at _ m i w h e in
-      made_more _ m i _ w h e (ap (λ (x : ℕ). bit_or x (nth s (at + i))) q ∙ join_byte m s at i (rw q at small) small-s)
+      made_more _ m i _ w h e (ap (λ (x : ℕ). bit_or x (nth s (at + i))) q ∙ join_byte m s at i (rw q at small) small_s)

@@ -2,6 +2,7 @@
 #![tactic(auto)]
 
 use catalog::{Added, Queried};
+use std::io;
 
 // Adds a hairpin under number 0 and asks for the motif GC with its bond; answers how many molecules have it. `catalog` and `cache` are zeroed
 // blocks of 512 bytes, `hits` has an entry for each catalog block, `work` 64 * (2 + 1) + 8 * 160 entries.
@@ -17,12 +18,13 @@ fn first_query(catalog: &mut [u8], cache: &mut [u8], work: &mut [u16], hits: &mu
     0
 }
 
-fn main() {
+fn main(rt: HostRuntime) -> io::Result<()> {
     let mut catalog = [0u8; 1024];
     let mut cache = [0u8; 512];
     let mut work = [0u16; 1472];
     let mut hits = [0u16; 2];
     if first_query(&mut catalog, &mut cache, &mut work, &mut hits) == 1 {
-        io::write_all(1, b"found\n");
+        println!(rt; "found")?;
     }
+    Ok(())
 }

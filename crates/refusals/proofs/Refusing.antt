@@ -83,8 +83,8 @@ module _ (number side : ℕ) where
   pub when_numbered : (b : Bool) → (b ≡ true → Numbered number side 0) → Numbering (refuse_if number side b)
   when_numbered = when_by Numbered number side
 
-  pub if-numbered : Numbered number side 0 → (b : Bool) → Numbering (refuse_if number side b)
-  if-numbered ok b = when_numbered b (λ e. ok)
+  pub if_numbered : Numbered number side 0 → (b : Bool) → Numbering (refuse_if number side b)
+  if_numbered ok b = when_numbered b (λ e. ok)
 
   pub lowest_numbered : ((place : ℕ) → Numbered number side place) → (n : ℕ) (p : ℕ → Bool) → Numbering (refuse_at_lowest number side n p)
   lowest_numbered = lowest_by Numbered number side
@@ -96,7 +96,7 @@ pub first_numbered : (v : Verdict) (vs : List Verdict) → Numbering v → Numbe
 first_numbered = first_by Numbered
 
 pub work_numbered : (m n work : ℕ) → Numbering (work_rule m n work)
-work_numbered m n work = if-numbered 8 no_side (call_number 8 0 (omega arith) (omega arith) (λ n. refl)) _
+work_numbered m n work = if_numbered 8 no_side (call_number 8 0 (omega arith) (omega arith) (λ n. refl)) _
 
 -- A call that comes to a value by its verdict, of which `answer` is read: refusals have different answers, and no other answer is one of them.
 module _ {E A : Type 0} (v : Verdict) (f : Refusal → E) (x : E) (answer : E → A) (refused : Refusal → A) (tells : (r : Refusal) → answer (f r) ≡ refused r)
@@ -115,8 +115,8 @@ module _ {E A : Type 0} (v : Verdict) (f : Refusal → E) (x : E) (answer : E �
   -- and a refusal leaves the two buffers as it found them
   pub keeps_by : (one two : E → List ℕ) (a b : List ℕ) → ((r : Refusal) → one (f r) ≡ a) → ((r : Refusal) → two (f r) ≡ b)
       → Keeps refused (answer (by_verdict v f x)) a b (one (by_verdict v f x)) (two (by_verdict v f x))
-  keeps_by one two a b same-one same-two = go v
+  keeps_by one two a b same_one same_two = go v
     where
       go : (w : Verdict) → Keeps refused (answer (by_verdict w f x)) a b (one (by_verdict w f x)) (two (by_verdict w f x))
       go Accepted r e = absurd (apart r (sym (ap answer (by_accepted Accepted f x refl)) ∙ e))
-      go (Refused s) r e = let w = by_refused (Refused s) f x s refl in (ap one w ∙ same-one s, ap two w ∙ same-two s)
+      go (Refused s) r e = let w = by_refused (Refused s) f x s refl in (ap one w ∙ same_one s, ap two w ∙ same_two s)

@@ -1,12 +1,13 @@
 // The screen program: it reads the input from standard input, calls screening::screen, and writes the output. Where a read fails it prints nothing,
 // for an input that is cut short would give a wrong hit list. Where a write fails or takes only a part, the output is not complete. Both are told by
-// one line on standard error. Out of reach: a program of the language ends with exit status 0, after a failure too; errno, so the line names no cause;
-// and a pipe whose reader is gone, where the system's signal ends the program before it can tell anything (docs/DECISIONS.md, Failed reads and writes).
+// one line on standard error, which names no cause, and by exit status 1 (docs/DECISIONS.md, Failed reads and writes).
 #![tactic(auto)]
 
-ghost use Rattle.io.specs.Counts.{IsPrefixLen};
+ghost use Rattle.screen.specs.Counts.{IsPrefixLen};
 
 use screening::Screened;
+use std::io::Read;
+use std::process::ExitCode;
 
 // The longest input has 33,280 bytes; one more byte is read to tell a longer one.
 const INPUT_ROOM: usize = 33281;
@@ -47,24 +48,22 @@ fn hits_buffer() -> [u16; HITS_ROOM] {
     [0u16; HITS_ROOM]
 }
 
-// Reads standard input until it ends, the buffer is full or a read fails.
-fn read_input(input: &mut [u8]) -> Input
+// Reads until the input ends, the buffer is full or a read fails.
+fn read_input<R: Read>(from: &mut R, input: &mut [u8]) -> Input
     ensures { IsPrefixLen result.bytes input.new }
 {
     let mut n = 0;
     while n < input.len() {
-        let got = libc::read(libc::STDIN_FILENO, &mut input[n..]);
-        if got < 0 {
-            return Input {
-                bytes: n,
-                failed: true,
-            };
+        match from.read(&mut input[n..]) {
+            Ok(0) => break,
+            Ok(more) => n += more,
+            Err(_) => {
+                return Input {
+                    bytes: n,
+                    failed: true,
+                };
+            }
         }
-        let more = io::count(got, &input[n..]);
-        if more == 0 {
-            break;
-        }
-        n += more;
     }
     Input {
         bytes: n,
@@ -72,45 +71,53 @@ fn read_input(input: &mut [u8]) -> Input
     }
 }
 
+// Tells a failure by a line on standard error.
+fn failed<R: Eprint>(rt: &R, line: &str) -> ExitCode {
+    let _ = rt.eprintln(line);
+    ExitCode::FAILURE
+}
+
 // Writes the first n bytes.
-fn write(out: &[u8], n: usize) {
+fn write<R: Print + Eprint>(rt: &R, out: &[u8], n: usize) -> ExitCode {
     let a = 0;
     if n <= out.len() {
-        if !io::write_all(libc::STDOUT_FILENO, &out[a..n]) {
-            io::write_all(
-                libc::STDERR_FILENO,
-                b"screen: standard output cannot be written\n",
-            );
+        if rt.write_all(&out[a..n]).is_err() {
+            return failed(rt, "screen: standard output cannot be written");
         }
     }
+    ExitCode::SUCCESS
 }
 
 // Writes the output of the input, with the buffers of the call.
-fn answer(input: &[u8], out: &mut [u8], cache: &mut [u8], work: &mut [u16], hits: &mut [u16]) {
+fn answer<R: Print + Eprint>(
+    rt: &R,
+    input: &[u8],
+    out: &mut [u8],
+    cache: &mut [u8],
+    work: &mut [u16],
+    hits: &mut [u16],
+) -> ExitCode {
     if let Screened::Written(n) = screening::screen(input, out, cache, work, hits) {
-        write(out, n);
+        return write(rt, out, n);
     }
+    ExitCode::SUCCESS
 }
 
 // The same with buffers of its own.
-fn run(input: &[u8]) {
+fn run<R: Print + Eprint>(rt: &R, input: &[u8]) -> ExitCode {
     let mut out = out_buffer();
     let mut cache = cache_buffer();
     let mut work = work_buffer();
     let mut hits = hits_buffer();
-    answer(input, &mut out, &mut cache, &mut work, &mut hits);
+    answer(rt, input, &mut out, &mut cache, &mut work, &mut hits)
 }
 
-fn main() {
+fn main(rt: HostRuntime) -> ExitCode {
     let mut input = input_buffer();
-    let read = read_input(&mut input);
+    let read = read_input(&mut rt.stdin(), &mut input);
     if read.failed {
-        io::write_all(
-            libc::STDERR_FILENO,
-            b"screen: standard input cannot be read\n",
-        );
-        return;
+        return failed(&rt, "screen: standard input cannot be read");
     }
     let n = read.bytes;
-    run(&input[..n]);
+    run(&rt, &input[..n])
 }

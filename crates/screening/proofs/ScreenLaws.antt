@@ -14,7 +14,7 @@ use Rattle.refusals.specs.Rules.{motif_side, no_side, wrong_slice, first, refuse
 use Rattle.lists.proofs.ListLaws.{and_true, and_left, never, select_short}
 use Rattle.strand.proofs.VerdictLaws.{accepted_proper}
 use Rattle.block.specs.Content.{block_size, empty_block}
-use Rattle.block.proofs.ContentLaws.{motif_proper as handed-proper, held_sound}
+use Rattle.block.proofs.ContentLaws.{motif_proper as handed_proper, held_sound}
 use Rattle.refusals.specs.declared.Refusal.{Refusal}
 use Rattle.block.specs.Motif.{holds_motif, sound_motif, motif_handed_in}
 use Rattle.block.specs.Block.{block_of, block_count}
@@ -192,7 +192,7 @@ motif_sound s e = (held_sound s e).0
 
 -- A motif's block holds a proper strand.
 pub motif_proper : (s : List ℕ) → holds_motif s ≡ true → Proper motif_side least_motif 160 (motif_handed_in s).bases (motif_handed_in s).mates
-motif_proper s e = let a = held_sound s e in handed-proper s a.0 a.1
+motif_proper s e = let a = held_sound s e in handed_proper s a.0 a.1
 
 pub motif_fits : (s : List ℕ) (n : ℕ) → holds_motif s ≡ true → n ≡ length (motif_handed_in s).bases → n ≤ 160
 motif_fits s n e k = omega (arith, (motif_proper s e).small)

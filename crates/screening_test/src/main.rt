@@ -4,6 +4,8 @@
 #![tactic(auto)]
 
 use screening::Screened;
+use std::io;
+use std::io::Read;
 use testing::input::{kind, number};
 use testing::output::say;
 use testing::slices::{first, part, set_byte, set_entry};
@@ -36,52 +38,72 @@ fn put(image: &mut [u8], d: usize, n: usize) {
     buffer::put_molecule(image, d, part(&bases, 0, n), first(&mates, n));
 }
 
-fn tell(input: &[u8], out: &mut [u8], cache: &mut [u8], work: &mut [u16], hits: &mut [u16]) {
+fn tell<P: Print>(
+    to: &P,
+    input: &[u8],
+    out: &mut [u8],
+    cache: &mut [u8],
+    work: &mut [u16],
+    hits: &mut [u16],
+) -> io::Result<()> {
     if let Screened::Written(n) = screening::screen(input, out, cache, work, hits) {
-        return say(part(out, 0, n));
+        return say(to, part(out, 0, n));
     }
-    say(b"no room\n");
+    say(to, b"no room\n")
 }
 
 // The buffers, with other bytes than zero in them. One has an entry too few: 1 the output, 2 the cache, 3 the work, 4 the hits.
-fn lend_out(input: &[u8], wrong: usize, cache: &mut [u8], work: &mut [u16], hits: &mut [u16]) {
+fn lend_out<P: Print>(
+    to: &P,
+    input: &[u8],
+    wrong: usize,
+    cache: &mut [u8],
+    work: &mut [u16],
+    hits: &mut [u16],
+) -> io::Result<()> {
     let mut out = [7u8; 202];
     if wrong == 1 {
-        return tell(input, &mut out[..201], cache, work, hits);
+        return tell(to, input, &mut out[..201], cache, work, hits);
     }
-    tell(input, &mut out, cache, work, hits);
+    tell(to, input, &mut out, cache, work, hits)
 }
 
-fn lend_cache(input: &[u8], wrong: usize, work: &mut [u16], hits: &mut [u16]) {
+fn lend_cache<P: Print>(
+    to: &P,
+    input: &[u8],
+    wrong: usize,
+    work: &mut [u16],
+    hits: &mut [u16],
+) -> io::Result<()> {
     let mut cache = [7u8; 512];
     if wrong == 2 {
-        return lend_out(input, wrong, &mut cache[..511], work, hits);
+        return lend_out(to, input, wrong, &mut cache[..511], work, hits);
     }
-    lend_out(input, wrong, &mut cache, work, hits);
+    lend_out(to, input, wrong, &mut cache, work, hits)
 }
 
-fn short_work(input: &[u8], hits: &mut [u16]) {
+fn short_work<P: Print>(to: &P, input: &[u8], hits: &mut [u16]) -> io::Result<()> {
     let mut work = short_buffer();
-    lend_cache(input, 0, &mut work, hits);
+    lend_cache(to, input, 0, &mut work, hits)
 }
 
-fn lend_work(input: &[u8], wrong: usize, hits: &mut [u16]) {
+fn lend_work<P: Print>(to: &P, input: &[u8], wrong: usize, hits: &mut [u16]) -> io::Result<()> {
     if wrong == 3 {
-        return short_work(input, hits);
+        return short_work(to, input, hits);
     }
     let mut work = work_buffer();
-    lend_cache(input, wrong, &mut work, hits);
+    lend_cache(to, input, wrong, &mut work, hits)
 }
 
-fn screen(input: &[u8], wrong: usize) {
+fn screen<P: Print>(to: &P, input: &[u8], wrong: usize) -> io::Result<()> {
     let mut hits = [7u16; 64];
     if wrong == 4 {
-        return lend_work(input, wrong, &mut hits[..63]);
+        return lend_work(to, input, wrong, &mut hits[..63]);
     }
-    lend_work(input, wrong, &mut hits);
+    lend_work(to, input, wrong, &mut hits)
 }
 
-fn step(line: &[u8], image: &mut [u8]) {
+fn step<P: Print>(to: &P, line: &[u8], image: &mut [u8]) -> io::Result<()> {
     let a = number(line, 2, 5);
     let b = number(line, 8, 5);
     match kind(line) {
@@ -91,27 +113,29 @@ fn step(line: &[u8], image: &mut [u8]) {
         }
         b'S' => set_byte(image, a, b),
         _ => {
-            say(line);
-            screen(part(image, 0, a), b);
+            say(to, line)?;
+            screen(to, part(image, 0, a), b)?;
         }
     }
+    Ok(())
 }
 
-fn steps(text: &[u8], image: &mut [u8]) {
+fn steps<P: Print>(to: &P, text: &[u8], image: &mut [u8]) -> io::Result<()> {
     let mut i = 0;
     while i < text.len() / 14 {
-        step(part(text, i % 65536 * 14, 14), image);
+        step(to, part(text, i % 65536 * 14, 14), image)?;
         i += 1;
     }
+    Ok(())
 }
 
-fn over(text: &[u8]) {
+fn over<P: Print>(to: &P, text: &[u8]) -> io::Result<()> {
     let mut image = image_buffer();
-    steps(text, &mut image);
+    steps(to, text, &mut image)
 }
 
-fn main() {
-    let mut text = io::large_buffer();
-    let n = io::read_full(0, &mut text);
-    over(&text[..n]);
+fn main(rt: HostRuntime) -> io::Result<()> {
+    let mut text = Vec::new(rt.alloc());
+    rt.reader().read_to_end(&mut text)?;
+    over(&rt, &text)
 }

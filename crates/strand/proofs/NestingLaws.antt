@@ -72,11 +72,11 @@ module _ (mate : ℕ → ℕ) (n : ℕ) where
   pub apart_closes : Inside mate n → Paired mate n → Apart mate n → (k : ℕ) → k < n → Closes mate k
   apart_closes I P h k l u a b = go (dec_lt u (mate u))
     where
-      in-n : u < n
-      in-n = omega (arith, I k l)
+      in_n : u < n
+      in_n = omega (arith, I k l)
 
       back : mate (mate u) ≡ u
-      back = P u in-n
+      back = P u in_n
 
       not_end : mate u ≡ mate k → ⊥
       not_end e = omega (arith, ap mate e, back, P k l)
@@ -88,7 +88,7 @@ module _ (mate : ℕ → ℕ) (n : ℕ) where
       go (yes x) = (omega arith, upper (dec_lt (mate k) (mate u)))
         where
           upper : Dec (mate k < mate u) → mate u < mate k
-          upper (yes y) = absurd (h k u in-n a b y)
+          upper (yes y) = absurd (h k u in_n a b y)
           upper (no y) = elim (ℕ_discrete (mate u) (mate k)) [ yes e ↦ absurd (not_end e) | no e ↦ omega arith ]
       go (no x) = (lower (dec_lt (mate u) k), omega arith)
         where

@@ -13,7 +13,7 @@ use Rattle.strand.specs.Strands.{Strand, same_strand, mate_outside, not_mutual, 
 use Rattle.strand.specs.Strands.{check_verdict, pair_verdict, Pair, least_motif, least_molecule, greatest_length}
 use Rattle.refusals.specs.Rules.{unequal_lengths, no_bases, too_long, bad_letter, bad_mate, mates_not_mutual, arcs_cross}
 use Rattle.refusals.specs.Rules.{motif_side, molecule_side, first, Numbered}
-use Rattle.refusals.proofs.Refusing.{Numbering, strand_number, when_numbered, if-numbered, lowest_numbered, none_numbered, first_numbered}
+use Rattle.refusals.proofs.Refusing.{Numbering, strand_number, when_numbered, if_numbered, lowest_numbered, none_numbered, first_numbered}
 use Rattle.refusals.proofs.RuleLaws.{first_one, first_pass, rule_pass, rule_at_pass}
 use Rattle.lists.proofs.ListLaws.{and_true, not_not, true_not, every_true, some_no, some_none, lowest_all, same_eq}
 use Rattle.strand.proofs.NestingLaws.{uncrossed_apart, apart_uncrossed, inside_of, paired_of}
@@ -164,9 +164,9 @@ module _ (side : ℕ) (known : side ≤ molecule_side) where
       → Numbering (strand_verdict side least greatest bases mates)
   unfolding strand_verdict
   strand_numbered least greatest bases mates only =
-      first_numbered _ _ (if-numbered 1 side (plain 1 (omega arith) (omega arith) (λ e. absurd (omega arith))) _)
+      first_numbered _ _ (if_numbered 1 side (plain 1 (omega arith) (omega arith) (λ e. absurd (omega arith))) _)
       (first_numbered _ _ (when_numbered 2 side _ (λ t. plain 2 (omega arith) (omega arith) (λ e. only (omega (arith, ltb-true (length bases) least t)))))
-      (first_numbered _ _ (if-numbered 3 side (plain 3 (omega arith) (omega arith) (λ e. absurd (omega arith))) _)
+      (first_numbered _ _ (if_numbered 3 side (plain 3 (omega arith) (omega arith) (λ e. absurd (omega arith))) _)
       (first_numbered _ _ (lowest_numbered 4 side (placed 4 (omega arith) (omega arith)) _ _)
       (first_numbered _ _ (lowest_numbered 5 side (placed 5 (omega arith) (omega arith)) _ _)
       (first_numbered _ _ (lowest_numbered 6 side (placed 6 (omega arith) (omega arith)) _ _)

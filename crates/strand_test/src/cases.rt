@@ -6,68 +6,86 @@
 // first a bases with the first b mates, and `x` and `y` check all of them as the motif and as the molecule of a pair, `z` as the molecule for the
 // motif that has no bases.
 use super::{make, tell};
-use libc::STDIN_FILENO;
+use std::io;
+use std::io::Read;
 use testing::input;
 use testing::input::{digit_at, digits, filled, number};
 use testing::output::say;
 use testing::slices::{first, part, set_byte, set_entry};
 
 // The answers for a small strand.
-fn judge(kind: u8, bases: &[u8], mates: &[u16], least: usize, greatest: usize) {
+fn judge<P: Print>(
+    out: &P,
+    kind: u8,
+    bases: &[u8],
+    mates: &[u16],
+    least: usize,
+    greatest: usize,
+) -> io::Result<()> {
     if kind == b's' {
-        return tell::both(bases, mates);
+        return tell::both(out, bases, mates);
     }
     if kind == b'l' {
-        return tell::limited(bases, mates, least, greatest);
+        return tell::limited(out, bases, mates, least, greatest);
     }
     if kind == b'p' {
-        return tell::pair(bases, mates, b"A", &[0]);
+        return tell::pair(out, bases, mates, b"A", &[0]);
     }
     if kind == b'q' {
-        return tell::pair(b"A", &[0], bases, mates);
+        return tell::pair(out, b"A", &[0], bases, mates);
     }
     if kind == b'e' {
-        return tell::pair(b"", &[], bases, mates);
+        return tell::pair(out, b"", &[], bases, mates);
     }
     if kind == b'w' {
-        tell::pair(bases, mates, bases, mates);
+        return tell::pair(out, bases, mates, bases, mates);
     }
+    Ok(())
 }
 
-fn small(kind: u8, line: &[u8]) {
+fn small<P: Print>(out: &P, kind: u8, line: &[u8]) -> io::Result<()> {
     let mut mates = [0u16; 10];
     digits(line, 13, &mut mates);
     judge(
+        out,
         kind,
         part(line, 2, filled(line, 2, 10)),
         first(&mates, filled(line, 13, 10)),
         digit_at(line, 24),
         digit_at(line, 25),
-    );
+    )
 }
 
-fn long(kind: u8, a: usize, b: usize, bases: &mut [u8], mates: &mut [u16]) {
+fn long<P: Print>(
+    out: &P,
+    kind: u8,
+    a: usize,
+    b: usize,
+    bases: &mut [u8],
+    mates: &mut [u16],
+) -> io::Result<()> {
     if kind == b'f' {
-        return make::lay(a, b, mates);
+        make::lay(a, b, mates);
     }
     if kind == b'b' {
-        return set_byte(bases, a, b);
+        set_byte(bases, a, b);
     }
     if kind == b'm' {
-        return set_entry(mates, a, b);
+        set_entry(mates, a, b);
     }
     if kind == b'c' {
-        return tell::both(part(bases, 0, a), first(mates, b));
+        return tell::both(out, part(bases, 0, a), first(mates, b));
     }
     if kind == b'x' {
-        return tell::pair(bases, mates, b"A", &[0]);
+        return tell::pair(out, bases, mates, b"A", &[0]);
     }
     if kind == b'y' {
-        return tell::pair(b"A", &[0], bases, mates);
+        return tell::pair(out, b"A", &[0], bases, mates);
     }
     if kind == b'z' {
-        tell::pair(b"", &[], bases, mates);
+        return tell::pair(out, b"", &[], bases, mates);
     }
+    Ok(())
 }
 
 fn is_small(kind: u8) -> bool {
@@ -77,36 +95,44 @@ fn is_small(kind: u8) -> bool {
     }
 }
 
-fn case(line: &[u8], bases: &mut [u8], mates: &mut [u16]) {
+fn case<P: Print>(out: &P, line: &[u8], bases: &mut [u8], mates: &mut [u16]) -> io::Result<()> {
     let kind = input::kind(line);
     if is_small(kind) {
-        return small(kind, line);
+        return small(out, kind, line);
     }
-    long(kind, number(line, 2, 5), number(line, 8, 5), bases, mates);
+    long(
+        out,
+        kind,
+        number(line, 2, 5),
+        number(line, 8, 5),
+        bases,
+        mates,
+    )
 }
 
-fn told(line: &[u8], bases: &mut [u8], mates: &mut [u16]) {
-    say(line);
-    case(line, bases, mates);
-    say(b"\n");
+fn told<P: Print>(out: &P, line: &[u8], bases: &mut [u8], mates: &mut [u16]) -> io::Result<()> {
+    say(out, line)?;
+    case(out, line, bases, mates)?;
+    say(out, b"\n")
 }
 
-fn cases(text: &[u8], bases: &mut [u8], mates: &mut [u16]) {
+fn cases<P: Print>(out: &P, text: &[u8], bases: &mut [u8], mates: &mut [u16]) -> io::Result<()> {
     let mut i = 0;
     while i < text.len() / 48 {
-        told(part(text, i % 65536 * 48, 47), bases, mates);
+        told(out, part(text, i % 65536 * 48, 47), bases, mates)?;
         i += 1;
     }
+    Ok(())
 }
 
-fn over(text: &[u8]) {
+fn over<P: Print>(out: &P, text: &[u8]) -> io::Result<()> {
     let mut bases = [65u8; 4097];
     let mut mates = [0u16; 4097];
-    cases(text, &mut bases, &mut mates);
+    cases(out, text, &mut bases, &mut mates)
 }
 
-pub fn run() {
-    let mut text = io::large_buffer();
-    let n = io::read_full(STDIN_FILENO, &mut text);
-    over(&text[..n]);
+pub fn run<R: Input + Print + AllocGlobal>(rt: &R) -> io::Result<()> {
+    let mut text = Vec::new(rt.alloc());
+    rt.reader().read_to_end(&mut text)?;
+    over(rt, &text)
 }

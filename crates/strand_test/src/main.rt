@@ -3,13 +3,15 @@
 // and the depth, or refused with number, side and place.
 #![tactic(auto)]
 
+use std::io;
+
 mod cases;
 mod make;
 mod naive;
 mod random;
 mod tell;
 
-fn main() {
-    cases::run();
-    random::run();
+fn main(rt: HostRuntime) -> io::Result<()> {
+    cases::run(&rt)?;
+    random::run(&rt)
 }

@@ -1,5 +1,6 @@
 // Random strands, and all lists of five mates from 0 to 5, against the definition written out.
 use super::{make, naive, tell};
+use std::io;
 use testing::answer;
 use testing::output::{number, say};
 use testing::random::next;
@@ -163,54 +164,55 @@ fn rounds(
     }
 }
 
-fn tell_count(counts: &[usize], k: usize) {
+fn tell_count<P: Print>(out: &P, counts: &[usize], k: usize) -> io::Result<()> {
     if k < counts.len() {
-        number(b" ", counts[k]);
+        number(out, b" ", counts[k])?;
     }
+    Ok(())
 }
 
 // The accepted, and the refused by row.
-fn report_rows(counts: &[usize]) {
-    tell_count(counts, 0);
-    tell_count(counts, 1);
-    tell_count(counts, 2);
-    tell_count(counts, 3);
-    tell_count(counts, 4);
-    tell_count(counts, 5);
-    tell_count(counts, 6);
-    tell_count(counts, 7);
+fn report_rows<P: Print>(out: &P, counts: &[usize]) -> io::Result<()> {
+    tell_count(out, counts, 0)?;
+    tell_count(out, counts, 1)?;
+    tell_count(out, counts, 2)?;
+    tell_count(out, counts, 3)?;
+    tell_count(out, counts, 4)?;
+    tell_count(out, counts, 5)?;
+    tell_count(out, counts, 6)?;
+    tell_count(out, counts, 7)
 }
 
-fn report(name: &[u8], counts: &[usize]) {
-    say(name);
-    say(b": compared");
-    tell_count(counts, ALL);
-    say(b", disagreements");
-    tell_count(counts, WRONG);
-    say(b", accepted and by row");
-    report_rows(counts);
-    say(b"; arcs");
-    tell_count(counts, ARCS);
-    say(b", depths");
-    tell_count(counts, DEPTHS);
-    say(b"\n");
+fn report<P: Print>(out: &P, name: &[u8], counts: &[usize]) -> io::Result<()> {
+    say(out, name)?;
+    say(out, b": compared")?;
+    tell_count(out, counts, ALL)?;
+    say(out, b", disagreements")?;
+    tell_count(out, counts, WRONG)?;
+    say(out, b", accepted and by row")?;
+    report_rows(out, counts)?;
+    say(out, b"; arcs")?;
+    tell_count(out, counts, ARCS)?;
+    say(out, b", depths")?;
+    tell_count(out, counts, DEPTHS)?;
+    say(out, b"\n")
 }
 
 // So many strands of a kind.
-fn family(name: &[u8], kind: usize, times: usize) {
+fn family<P: Print>(out: &P, name: &[u8], kind: usize, times: usize) -> io::Result<()> {
     let mut bases = [0u8; 64];
     let mut mates = [0u16; 64];
     let mut stack = [0u16; 64];
     let mut counts = [0usize; 104];
     rounds(kind, times, &mut bases, &mut mates, &mut stack, &mut counts);
-    report(name, &counts);
+    report(out, name, &counts)
 }
 
-pub fn run() {
-    family(b"any mates", 0, 1000);
-    family(b"all five mates from 0 to 5", 1, 7776);
-    family(b"nested, some bases no letters", 2, 1000);
-    family(b"nested, one mate altered", 3, 1000);
-    family(b"nested, two arcs exchanged", 5, 1000);
-    family(b"nested", 7, 1000);
+pub fn run<P: Print>(out: &P) -> io::Result<()> {
+    family(out, b"any mates", 0, 1000)?;
+    family(out, b"all five mates from 0 to 5", 1, 7776)?;
+    family(out, b"nested, some bases no letters", 2, 1000)?;
+    family(out, b"nested, one mate altered", 3, 1000)?;
+    family(out, b"nested, two arcs exchanged", 5, 1000)?;
+    family(out, b"nested", 7, 1000)
 }

@@ -1,5 +1,6 @@
 // Answers as numbers and as text.
 use refusals::Verdict;
+use std::io;
 use strand::Checked;
 use testing::answer;
 use testing::output::{number, say};
@@ -19,41 +20,51 @@ pub fn code_of_check(v: Checked) -> usize {
     }
 }
 
-fn refusal(a: usize) {
-    number(b" refused ", answer::row(a));
-    number(b" ", answer::side(a));
-    number(b" ", answer::place(a));
+fn refusal<P: Print>(out: &P, a: usize) -> io::Result<()> {
+    number(out, b" refused ", answer::row(a))?;
+    number(out, b" ", answer::side(a))?;
+    number(out, b" ", answer::place(a))
 }
 
-fn fold(a: usize) {
-    number(b" with arcs ", answer::first_of(a));
-    number(b" and depth ", answer::second_of(a));
+fn fold<P: Print>(out: &P, a: usize) -> io::Result<()> {
+    number(out, b" with arcs ", answer::first_of(a))?;
+    number(out, b" and depth ", answer::second_of(a))
 }
 
-pub fn tell(a: usize) {
+pub fn tell<P: Print>(out: &P, a: usize) -> io::Result<()> {
     if answer::is_refused(a) {
-        return refusal(a);
+        return refusal(out, a);
     }
-    say(b" accepted");
+    say(out, b" accepted")?;
     if a != 0 {
-        fold(a);
+        fold(out, a)?;
     }
+    Ok(())
 }
 
 // A strand as a molecule and as a motif.
-pub fn both(bases: &[u8], mates: &[u16]) {
-    say(b" molecule");
-    tell(code_of_check(strand::check(bases, mates)));
-    say(b", motif");
-    tell(code_of(strand::check_strand(bases, mates, 0, 0, 120)));
+pub fn both<P: Print>(out: &P, bases: &[u8], mates: &[u16]) -> io::Result<()> {
+    say(out, b" molecule")?;
+    tell(out, code_of_check(strand::check(bases, mates)))?;
+    say(out, b", motif")?;
+    tell(out, code_of(strand::check_strand(bases, mates, 0, 0, 120)))
 }
 
 // A motif with limits of its own.
-pub fn limited(bases: &[u8], mates: &[u16], least: usize, greatest: usize) {
-    tell(code_of(strand::check_strand(bases, mates, 0, least, greatest)));
+pub fn limited<P: Print>(
+    out: &P,
+    bases: &[u8],
+    mates: &[u16],
+    least: usize,
+    greatest: usize,
+) -> io::Result<()> {
+    tell(
+        out,
+        code_of(strand::check_strand(bases, mates, 0, least, greatest)),
+    )
 }
 
 // A motif and a molecule.
-pub fn pair(p: &[u8], pm: &[u16], q: &[u8], qm: &[u16]) {
-    tell(code_of(strand::check_pair(p, pm, q, qm)));
+pub fn pair<P: Print>(out: &P, p: &[u8], pm: &[u16], q: &[u8], qm: &[u16]) -> io::Result<()> {
+    tell(out, code_of(strand::check_pair(p, pm, q, qm)))
 }

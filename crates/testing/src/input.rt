@@ -1,12 +1,25 @@
 // The fields of an input line, in fixed columns below 256.
 use super::slices::{byte_at, set_entry};
+use std::io;
+use std::io::{ErrorKind, Read};
 
 // How many lines an input that is read line by line has at most.
 pub const MOST_LINES: usize = 99999;
 
 // Reads the next line, which is as long as the slice; false where the input ends before.
-pub fn read(line: &mut [u8]) -> bool {
-    io::read_full(0, line) == line.len()
+pub fn read<R: Read>(input: &mut R, line: &mut [u8]) -> io::Result<bool> {
+    match input.read_exact(line) {
+        Ok(()) => Ok(true),
+        Err(e) => ended(e),
+    }
+}
+
+// The input has ended, or it cannot be read.
+fn ended(e: io::Error) -> io::Result<bool> {
+    if e.kind() == ErrorKind::UnexpectedEof {
+        return Ok(false);
+    }
+    Err(e)
 }
 
 // The letter in column 0, and 0 for no bytes.

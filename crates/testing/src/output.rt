@@ -1,11 +1,12 @@
 // What a test program writes.
+use std::io;
 
-pub fn say(text: &[u8]) {
-    io::write_all(1, text);
+pub fn say<P: Print>(out: &P, text: &[u8]) -> io::Result<()> {
+    out.write_all(text)
 }
 
 // A text, and a number behind it.
-pub fn number(text: &[u8], n: usize) {
-    say(text);
-    io::print_decimal(1, n as u64);
+pub fn number<P: Print>(out: &P, text: &[u8], n: usize) -> io::Result<()> {
+    say(out, text)?;
+    out.print(n)
 }

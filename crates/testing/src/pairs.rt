@@ -5,6 +5,7 @@ use super::input::{kind, number};
 use super::output;
 use super::output::say;
 use super::slices::part;
+use std::io;
 
 // The bytes of a line, with its end and without.
 pub const LINE: usize = 112;
@@ -19,7 +20,7 @@ const FIELD: usize = 24;
 const NAME: usize = 46;
 
 // An answer: one number for what it found or for its refusal (see `answer`), and the arcs and the depth that it has as one number, 0 after a refusal.
-#[derive(Drop)]
+#[derive(Clone, Copy)]
 pub struct Told {
     pub got: usize,
     pub fold: usize,
@@ -66,15 +67,15 @@ pub fn wanted_fold(line: &[u8], i: usize, told: Told) -> usize {
 }
 
 // Writes the name of a group.
-pub fn say_name(line: &[u8]) {
-    say(part(line, 2, NAME));
+pub fn say_name<P: Print>(out: &P, line: &[u8]) -> io::Result<()> {
+    say(out, part(line, 2, NAME))
 }
 
 // Tells a wrong call: its line, then the numbers that it answered.
-pub fn tell(line: &[u8], told: Told) {
-    say(b"wrong: ");
-    say(line);
-    output::number(b" gave ", told.got);
-    output::number(b" ", told.fold);
-    say(b"\n");
+pub fn tell<P: Print>(out: &P, line: &[u8], told: Told) -> io::Result<()> {
+    say(out, b"wrong: ")?;
+    say(out, line)?;
+    output::number(out, b" gave ", told.got)?;
+    output::number(out, b" ", told.fold)?;
+    say(out, b"\n")
 }

@@ -35,10 +35,10 @@ module _ (qm : List ℕ) (lo : ℕ) where
   bonded i hi a b n U = n (U.alone i a b)
 
 -- One more unbonded base.
-pub loop-step : (p pm q : List ℕ) {qm : List ℕ} {from lo hi : ℕ} (k i : ℕ) → Unbonded qm lo hi → lo ≤ i → i < hi
+pub loop_step : (p pm q : List ℕ) {qm : List ℕ} {from lo hi : ℕ} (k i : ℕ) → Unbonded qm lo hi → lo ≤ i → i < hi
     → Best (letters_fit p q) (nth pm) (nth qm) (length p) from k lo i
     → Best (letters_fit p q) (nth pm) (nth qm) (length p) from (unit_at (matches p (nth q i)) (nth pm) (length p) k) lo (i + 1)
-loop-step p pm q k i U a b B =
+loop_step p pm q k i U a b B =
     rw (add-one i) (combine a (omega arith) (λ u x y z. absurd (omega (arith, U.alone u x (omega arith)))) B (unit_best k i B.reach.upto))
 
 -- The arc (l, r), which is come to with `from`. What lies inside takes the motif from `from` to `here`, and, where `from` matches the left end,

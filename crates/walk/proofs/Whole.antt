@@ -12,7 +12,7 @@ use Rattle.embedding.specs.Embedding.{letters_fit}
 use Rattle.embedding.specs.Row.{Best, arc_at}
 use Rattle.embedding.specs.Longest.{longest}
 use Rattle.embedding.proofs.Recurrence.{unique, later, empty}
-use Rattle.embedding.proofs.Bounds.{bounds-end}
+use Rattle.embedding.proofs.Bounds.{bounds_end}
 use Rattle.embedding.proofs.Computed.{longest_best}
 use Rattle.refusals.specs.Rules.{motif_side, molecule_side, work_size}
 use Rattle.rows.specs.Rows.{matches, bound_at}
@@ -55,7 +55,7 @@ module _ {p q tables : List ℕ} {from l r : ℕ} (D : Bounded p q tables from (
   arc_skipped pm qm most e h fm =
       record {
         reach = later from l (r + 1) (omega arith) (omega arith) (omega arith) (omega arith) (empty from l fm).reach;
-        most = λ k R. omega (arith, bounds-end D.bounds (omega arith) D.start R);
+        most = λ k R. omega (arith, bounds_end D.bounds (omega arith) D.start R);
       }
 
   -- Its end, from its inner row.

@@ -3,7 +3,7 @@
 -- before it and what lies behind it are taken one after the other.
 use Prim.Native.Nat.{ℕ, suc, ◌+◌, ◌-◌, ◌≤◌, ◌<◌}
 use mathlib.Core.Path.{◌≡◌, refl, sym, ap, subst, ◌∙◌}
-use mathlib.Core.Bool.{Bool, true, false}
+use mathlib.Core.Bool.{Bool, true}
 use mathlib.Core.List.{List}
 use native.Mathlib.Decide.{dec_lt, ℕ_discrete}
 use native.Mathlib.Omega.{arith}
@@ -19,7 +19,7 @@ use Rattle.embedding.specs.Row.{Split, Reach, Best, Bounds, unit_at}
 use Rattle.embedding.specs.Longest.{longest, embeds}
 use Rattle.embedding.proofs.Arc.{arc_closed}
 use Rattle.embedding.proofs.Recurrence.{empty, combine, rest}
-use Rattle.embedding.proofs.Bounds.{bounds-past}
+use Rattle.embedding.proofs.Bounds.{bounds_past}
 use Rattle.embedding.proofs.Rows.{unit_best}
 use Rattle.embedding.proofs.Computed.{longest_best, embeds_longest}
 use Rattle.rows.specs.Rows.{matches, bound_at}
@@ -132,7 +132,7 @@ module _ {p pm q qm : List ℕ} {lo hi from l : ℕ} (H : Inside (nth pm) (lengt
   -- The rest of the window cannot take the rest of the motif, by bounds up to base e and a position for each base from there on.
   cannot : {b : ℕ → ℕ} (e : ℕ) → Bounds (letters_fit p q) (length p) l e b → l ≤ e → e ≤ hi → from ≤ b l → b e + (hi - e) < length p
       → Carried p pm q qm lo hi → ⊥
-  cannot e D le eh h short C = omega (arith, bounds-past D le eh h (rest T.split T.best T.best.reach.upto (whole_reach H C)))
+  cannot e D le eh h short C = omega (arith, bounds_past D le eh h (rest T.split T.best T.best.reach.upto (whole_reach H C)))
 
   -- It has fewer bases.
   pub too_short : hi - l < length p - from → Carried p pm q qm lo hi → ⊥

@@ -16,48 +16,52 @@ mod ask;
 mod every;
 mod tally;
 
+use std::io;
+use std::io::{BufReader, Read};
 use tally::Tally;
 use testing::input::{MOST_LINES, kind, read};
 use testing::pairs::{LINE, TEXT, rounds, say_name};
 use testing::slices::part;
 
-fn case(t: Tally, line: &[u8]) -> Tally {
+fn case<P: Print>(out: &P, t: Tally, line: &[u8]) -> io::Result<Tally> {
     let n = rounds(line, 64, 4);
     let mut sum = t;
     let mut i = 0;
     while i < n {
-        sum = tally::judged(sum, line, ask::ask(line, i));
+        sum = tally::judged(out, sum, line, ask::ask(line, i))?;
         i += 1;
     }
-    sum
+    Ok(sum)
 }
 
-fn group(t: Tally, line: &[u8]) -> Tally {
-    say_name(line);
-    tally::report(t);
-    tally::none()
+fn group<P: Print>(out: &P, t: Tally, line: &[u8]) -> io::Result<Tally> {
+    say_name(out, line)?;
+    tally::report(out, t)?;
+    Ok(tally::none())
 }
 
-fn step(t: Tally, line: &[u8]) -> Tally {
+fn step<P: Print>(out: &P, t: Tally, line: &[u8]) -> io::Result<Tally> {
     if kind(line) == b'=' {
-        return group(t, line);
+        return group(out, t, line);
     }
-    case(t, line)
+    case(out, t, line)
 }
 
-fn cases(line: &mut [u8]) {
+fn cases<P: Print, R: Read>(out: &P, input: &mut R, line: &mut [u8]) -> io::Result<()> {
     let mut t = tally::none();
     let mut i: usize = 0;
     while i < MOST_LINES {
-        if !read(line) {
-            return;
+        if !read(input, line)? {
+            return Ok(());
         }
-        t = step(t, part(line, 0, TEXT));
+        t = step(out, t, part(line, 0, TEXT))?;
         i += 1;
     }
+    Ok(())
 }
 
-fn main() {
+fn main(rt: HostRuntime) -> io::Result<()> {
+    let mut input = BufReader::new(rt.alloc(), rt.reader())?;
     let mut line = [0u8; LINE];
-    cases(&mut line);
+    cases(&rt, &mut input, &mut line)
 }

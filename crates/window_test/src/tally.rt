@@ -1,5 +1,6 @@
 // Counts of calls, and their report.
 use super::ask::Asked;
+use std::io;
 use testing::answer::{first_of, is_refused, second_of};
 use testing::output::{number, say};
 use testing::pairs;
@@ -58,23 +59,23 @@ fn counted(t: Tally, a: Asked) -> Tally {
     }
 }
 
-pub fn report(t: Tally) {
-    number(b": calls ", t.calls);
-    number(b", refused ", t.refused);
-    number(b", found ", t.found);
-    number(b", nowhere ", t.nowhere);
-    number(b", starts ", t.starts);
-    number(b", lengths ", t.lengths);
-    number(b", arcs ", t.arcs);
-    number(b", depths ", t.depths);
-    number(b", wrong ", t.wrong);
-    say(b"\n");
+pub fn report<P: Print>(out: &P, t: Tally) -> io::Result<()> {
+    number(out, b": calls ", t.calls)?;
+    number(out, b", refused ", t.refused)?;
+    number(out, b", found ", t.found)?;
+    number(out, b", nowhere ", t.nowhere)?;
+    number(out, b", starts ", t.starts)?;
+    number(out, b", lengths ", t.lengths)?;
+    number(out, b", arcs ", t.arcs)?;
+    number(out, b", depths ", t.depths)?;
+    number(out, b", wrong ", t.wrong)?;
+    say(out, b"\n")
 }
 
 // The tally with one more call, which is told where it is wrong.
-pub fn judged(t: Tally, line: &[u8], a: Asked) -> Tally {
+pub fn judged<P: Print>(out: &P, t: Tally, line: &[u8], a: Asked) -> io::Result<Tally> {
     if !a.right {
-        pairs::tell(line, a.told);
+        pairs::tell(out, line, a.told)?;
     }
-    counted(t, a)
+    Ok(counted(t, a))
 }

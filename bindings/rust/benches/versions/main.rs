@@ -1,8 +1,8 @@
 //! Times this version of the library against an older one. Both archives are linked into one program and called in turn on the same inputs, so that the
 //! machine's moods meet both: what is said of a version "of the time of the one before" is this program's output. The older archive is libcapi.a of a clone of
-//! the older version (`rt staticlib capi` there):
+//! the older version (`make archive` there; up to version 0.6.1 `rt staticlib capi`, of that time's `rt`, which writes target/staticlib/libcapi.a):
 //!
-//!     LAKHIDO_OLDER_LIB=../older/target/staticlib/libcapi.a cargo bench --features older --bench versions -- length query
+//!     LAKHIDO_OLDER_LIB=../older/crates/capi/out/libcapi.a cargo bench --features older --bench versions -- length query
 //!
 //! Words after `--` choose the calls: length, show, window, soundness, query.
 #[allow(dead_code)]

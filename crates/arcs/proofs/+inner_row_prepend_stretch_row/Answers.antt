@@ -129,7 +129,8 @@ inner_row-prepend-requires t c =
     ) in
     let same : length c.if-heavy_r-r.work ≡ length c.args.work.now = elim c.if-heavy_r-r.branch [
       | inner_row-then-heavy_r-r b ↦
-          ap length b.work-is ∙ b.combine.auto.row ∙ back_length (length c.args.p.now + 1) c.close.new.work (omega (arith, long)) b.stretch_row.new.work b.stretch_row.auto.work
+          ap length b.work-is ∙ b.combine.auto.row ∙ back_length (length c.args.p.now + 1) c.close.new.work
+              (omega (arith, long)) b.stretch_row.new.work b.stretch_row.auto.work
           ∙ c.close.auto.work ∙ c.inner_row.auto.work
       | inner_row-else-heavy_r-r b ↦ ap length b.work-is ∙ c.close.auto.work ∙ c.inner_row.auto.work
     ] in (

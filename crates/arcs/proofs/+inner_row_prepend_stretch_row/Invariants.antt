@@ -30,7 +30,8 @@ decreases-stretch_row l = l.hi - l.lo
 
 abbrev pub invariant-prepend-loop-i : goal.invariant-prepend-loop-i
 invariant-prepend-loop-i l =
-    (l.lo ≤ l.i) × (l.i ≤ l.hi) × Sealed l.qm l.lo l.i × Prepended l.p l.pm l.q l.qm l.tables l.from l.to l.i l.hi l.initial.work l.work × (length l.work ≡ length l.initial.work)
+    (l.lo ≤ l.i) × (l.i ≤ l.hi) × Sealed l.qm l.lo l.i × Prepended l.p l.pm l.q l.qm l.tables l.from l.to l.i l.hi l.initial.work l.work ×
+        (length l.work ≡ length l.initial.work)
 
 abbrev pub decreases-prepend-loop-i : goal.decreases-prepend-loop-i
 decreases-prepend-loop-i l = l.i - l.lo

@@ -1,5 +1,4 @@
 -- `embedding::judge` meets its contract: each return is the rule that is the first to refuse, or none.
-use borrow.Author.Rules.{rules}
 use mathlib.Core.Path.{sym, ◌∙◌}
 use Rattle.embedding.proofs.VerifyLaws.{judged_pair, judged_count, judged_pass}
 use Rattle.embedding.proofs.judge.Goals as goal

@@ -1,6 +1,5 @@
 -- `embedding::verify` meets its contract: the verdict refuses, or the test of the places tells whether they are an embedding, and
 -- the mates of an accepted molecule are nested.
-use borrow.Author.Rules.{rules}
 use mathlib.Core.Path.{sym, ◌∙◌}
 use Rattle.embedding.proofs.VerifyLaws.{accepted_facts, accepted_mates, answer_refused, answer_yes, answer_no}
 use Rattle.embedding.proofs.verify.Goals as goal

@@ -1,11 +1,5 @@
 -- `letters::all_letters` meets its contract: `least` is 1 exactly where the first i bases are letters.
-use Prim.Native.Nat.{◌-◌, ◌≤◌}
 use native.Mathlib.Omega.{arith}
-use mathlib.Core.Path.{◌≡◌}
-use borrow.Author.Rules.{rules}
-use lib.ListN.{length}
-use Rattle.lists.specs.Vocabulary.{nth, choose, every}
-use Rattle.letters.specs.Letters.{is_letter}
 use Rattle.letters.proofs.LetterLaws.{least_none, least_next, least_end}
 use Rattle.letters.proofs.all_letters.Goals as goal
 

@@ -1,5 +1,4 @@
 -- `letters::is_letter` meets its contract: at most one of the five tests is 1.
-use borrow.Author.Rules.{rules}
 use native.Mathlib.Omega.{arith}
 use Rattle.letters.proofs.LetterLaws.{one_most, two_most, letter_sum}
 use Rattle.letters.proofs.is_letter.Goals as goal

@@ -1,5 +1,4 @@
 -- `letters::letter_class` meets its contract: the sum is the class.
-use borrow.Author.Rules.{rules}
 use native.Mathlib.Omega.{arith}
 use Rattle.letters.proofs.LetterLaws.{class_sum, class_fits}
 use Rattle.letters.proofs.letter_class.Goals as goal

@@ -1,5 +1,4 @@
 -- `letters::letters_match` meets its contract: the same byte, or the other spelling of the second.
-use borrow.Author.Rules.{rules}
 use borrow.Author.Tests.{eq-eqb, ne_eqb}
 use mathlib.Core.Path.{sym, ◌∙◌}
 use Rattle.letters.proofs.LetterLaws.{match_other, either_yes, either_no}

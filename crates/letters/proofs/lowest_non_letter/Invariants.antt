@@ -1,13 +1,9 @@
 -- `letters::lowest_non_letter` meets its contract: where all bases are letters it is the length; else the first i bases are letters.
-use borrow.Author.Rules.{rules}
 use Prim.Native.Nat.{◌-◌, ◌≤◌}
-use native.Mathlib.Omega.{arith}
-use mathlib.Core.Path.{◌≡◌, sym, ◌∙◌}
+use mathlib.Core.Path.{◌≡◌}
 use lib.ListN.{length}
 use Rattle.lists.specs.Vocabulary.{lowest}
 use Rattle.letters.specs.Letters.{not_letter}
-use Rattle.lists.proofs.ListLaws.{lowest_all, lowest_none, lowest_more, lowest_found, lowest_end}
-use Rattle.letters.proofs.LetterLaws.{none_other, other_found, letter_found}
 use Rattle.letters.proofs.lowest_non_letter.Given as goal
 
 abbrev pub invariant-loop-i : goal.invariant-loop-i

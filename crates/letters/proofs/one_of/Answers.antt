@@ -1,5 +1,4 @@
 -- `letters::one_of` meets its contract: at most one of the two tests is 1.
-use borrow.Author.Rules.{rules}
 use Rattle.letters.proofs.LetterLaws.{one_of_first, one_of_second}
 use Rattle.letters.proofs.one_of.Goals as goal
 

@@ -1,5 +1,4 @@
 -- `letters::other_letter` meets its contract: the sum is the other spelling.
-use borrow.Author.Rules.{rules}
 use native.Mathlib.Omega.{arith}
 use Rattle.letters.proofs.LetterLaws.{other_sum, class_fits, other_fits}
 use Rattle.letters.proofs.other_letter.Goals as goal

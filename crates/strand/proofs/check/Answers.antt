@@ -1,5 +1,4 @@
 -- `strand::check` meets its contract: the verdict of the rules, and the fold of an accepted strand, whose mates are nested.
-use borrow.Author.Rules.{rules}
 use native.Mathlib.Omega.{arith}
 use mathlib.Core.Path.{◌∙◌, sym, ap}
 use Rattle.refusals.proofs.RuleLaws.{by_refused, by_accepted}

@@ -1,5 +1,4 @@
 -- `strand::check_pair` meets its contract: the verdict on the motif where it refuses, else that on the molecule.
-use borrow.Author.Rules.{rules}
 use mathlib.Core.Path.{sym, ◌∙◌}
 use Rattle.refusals.specs.Rules.{first}
 use Rattle.strand.specs.Strands.{pair_verdict}

@@ -1,5 +1,4 @@
 -- `strand::check_strand` meets its contract: each return is the first rule that refuses; the rules before it passed.
-use borrow.Author.Rules.{rules}
 use mathlib.Core.Path.{sym, ◌∙◌}
 use Rattle.lists.proofs.ListLaws.{not_not, true_not}
 use Rattle.strand.proofs.CheckLaws.{refused_unequal, refused_no_bases, refused_too_long, refused_letter, refused_mate, refused_not_mutual}
@@ -13,7 +12,8 @@ pub returns-then-bases-least : goal.returns-then-bases-least
 returns-then-bases-least c = c.refuse-then-bases-least.ensures ∙ refused_no_bases _ _ _ _ _ c.if-mates-bases.false c.if-bases-least.true
 
 pub returns-then-greatest-bases : goal.returns-then-greatest-bases
-returns-then-greatest-bases c = c.refuse-then-greatest-bases.ensures ∙ refused_too_long _ _ _ _ _ c.if-mates-bases.false c.if-bases-least.false c.if-greatest-bases.true
+returns-then-greatest-bases c = c.refuse-then-greatest-bases.ensures ∙ refused_too_long _ _ _ _ _ c.if-mates-bases.false c.if-bases-least.false
+    c.if-greatest-bases.true
 
 pub returns-then-letter-bases : goal.returns-then-letter-bases
 returns-then-letter-bases c =

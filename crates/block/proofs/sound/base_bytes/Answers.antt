@@ -27,7 +27,8 @@ pub returns-then-not-bases : goal.returns-then-not-bases
 returns-then-not-bases c =
     let wrong = not-true _ c.if-not-bases.true in
     record {
-      ok_value = wrong ∙ laws.not_all_letters _ _ _ _ _ _ (sym c.zeros-head.ensures.ok_value ∙ not-false _ c.if-not-head.false) (sym c.bases-bases.ensures.ok_value ∙ wrong);
+      ok_value = wrong ∙ laws.not_all_letters _ _ _ _ _ _ (sym c.zeros-head.ensures.ok_value ∙ not-false _ c.if-not-head.false)
+          (sym c.bases-bases.ensures.ok_value ∙ wrong);
       sum_value = λ e. never (sym wrong ∙ e);
     }
 

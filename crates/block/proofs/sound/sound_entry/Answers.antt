@@ -13,7 +13,8 @@ pub returns-then-s-eq0 : goal.returns-then-s-eq0
 returns-then-s-eq0 c = c.all_zero.ensures ∙ laws.entry_unmarked _ c.if-s-ne-BLOCK_SIZE.false c.if-s-eq0.true
 
 pub returns-then-not-content : goal.returns-then-not-content
-returns-then-not-content c = laws.entry_content _ c.if-s-ne-BLOCK_SIZE.false c.if-s-eq0.false (sym c.content-content.ensures.ok_value ∙ not-true _ c.if-not-content.true)
+returns-then-not-content c = laws.entry_content _ c.if-s-ne-BLOCK_SIZE.false c.if-s-eq0.false
+    (sym c.content-content.ensures.ok_value ∙ not-true _ c.if-not-content.true)
 
 pub returns-then-not-maps : goal.returns-then-not-maps
 returns-then-not-maps c =

@@ -1,4 +1,6 @@
 -- `codec::entry::encode_entry` meets its contract: content, both maps and checksum follow each other; where something does not fit, no byte changed.
+use borrow.Author.Rules.{rules}
+use borrow.Author.Tests.{not-true, not-false}
 use native.Mathlib.Omega.{arith}
 use mathlib.Core.Path.{sym, ◌∙◌}
 use Rattle.codec.proofs.OutcomeLaws as law
@@ -11,12 +13,10 @@ pub returns-then-not-strand_fits : goal.returns-then-not-strand_fits
 returns-then-not-strand_fits c = law.entry_too_long _ _ _ _ _ (sym c.strand_fits.ensures ∙ c.if-not-strand_fits.true)
 
 pub returns-then-searched-ne-MAP_SIZE : goal.returns-then-searched-ne-MAP_SIZE
-returns-then-searched-ne-MAP_SIZE c =
-    law.entry_searched_size _ _ _ _ _ (sym c.strand_fits.ensures ∙ c.if-not-strand_fits.false) c.if-searched-ne-MAP_SIZE.true
+returns-then-searched-ne-MAP_SIZE c = law.entry_searched_size _ _ _ _ _ (sym c.strand_fits.ensures ∙ c.if-not-strand_fits.false) c.if-searched-ne-MAP_SIZE.true
 
 pub returns-then-hits-ne-MAP_SIZE : goal.returns-then-hits-ne-MAP_SIZE
-returns-then-hits-ne-MAP_SIZE c =
-    law.entry_hits_size _ _ _ _ _ (sym c.strand_fits.ensures ∙ c.if-not-strand_fits.false) c.if-searched-ne-MAP_SIZE.false
+returns-then-hits-ne-MAP_SIZE c = law.entry_hits_size _ _ _ _ _ (sym c.strand_fits.ensures ∙ c.if-not-strand_fits.false) c.if-searched-ne-MAP_SIZE.false
     c.if-hits-ne-MAP_SIZE.true
 
 pub put_content-requires : goal.put_content-requires
@@ -38,8 +38,8 @@ pub returns : goal.returns
 unfolding content_of
 returns c =
     let f = law.fits_all 120 _ _ _ (sym c.strand_fits.ensures ∙ c.if-not-strand_fits.false) in
-    law.entry_done _ _ _ _ _ (sym c.strand_fits.ensures ∙ c.if-not-strand_fits.false) _ c.if-searched-ne-MAP_SIZE.false
-    c.if-hits-ne-MAP_SIZE.false (entry_put_lem
+    law.entry_done _ _ _ _ _ (sym c.strand_fits.ensures ∙ c.if-not-strand_fits.false) _ c.if-searched-ne-MAP_SIZE.false c.if-hits-ne-MAP_SIZE.false
+        (entry_put_lem
     _ _ _ _ c.args.s.now _ _ _ _ f.0 f.1 f.2 c.if-searched-ne-MAP_SIZE.false c.if-hits-ne-MAP_SIZE.false c.put_content.ensures
     c.copy.ensures c.copy-2.ensures (c.put_checksum.ensures
     ∙ rechecked_whole_lem _ (omega (arith, f.0, c.copy-2.auto.dst, c.copy.auto.dst, c.put_content.auto.s))))

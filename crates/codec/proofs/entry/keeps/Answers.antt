@@ -1,4 +1,6 @@
 -- `codec::entry::keeps` meets its contract: what can be no entry and an empty block keep none; else bases and mates decide.
+use borrow.Author.Rules.{rules}
+use native.Mathlib.Omega.{arith}
 use mathlib.Core.Path.{sym, ◌∙◌}
 use Rattle.codec.proofs.OutcomeLaws as law
 use Rattle.codec.proofs.WriteLaws.{empty_keeps_none, full_keeps}
@@ -11,8 +13,7 @@ pub returns-then-n-gt-ENTRY_BASES : goal.returns-then-n-gt-ENTRY_BASES
 returns-then-n-gt-ENTRY_BASES c = law.keeps_too_long _ _ c.if-s-ne-BLOCK_SIZE.false c.if-n-gt-ENTRY_BASES.true
 
 pub returns-then-all_zero : goal.returns-then-all_zero
-returns-then-all_zero c =
-    empty_keeps_none _ _ _ (sym c.all_zero.ensures ∙ c.if-all_zero.true)
+returns-then-all_zero c = empty_keeps_none _ _ _ (sym c.all_zero.ensures ∙ c.if-all_zero.true)
     ∙ law.keeps_by_motif _ _ c.if-s-ne-BLOCK_SIZE.false c.if-n-gt-ENTRY_BASES.false
 
 pub returns : goal.returns

@@ -1,10 +1,7 @@
 -- `embedding::places::has_place` meets its contract. The invariant of the binary search: places before lo are below x, those from hi on above it.
-use Prim.Native.Nat.{ℕ, ◌+◌, ◌-◌, ◌/◌, ◌≤◌, ◌<◌}
-use native.Mathlib.Omega.{arith}
+use Prim.Native.Nat.{ℕ, ◌-◌, ◌≤◌, ◌<◌}
 use lib.ListN.{length}
 use Rattle.lists.specs.Vocabulary.{nth}
-use Rattle.embedding.proofs.Answers.{tells_yes, tells_no}
-use Rattle.embedding.proofs.Placing.{has_none, order_le}
 use Rattle.embedding.proofs.places.has_place.Given as goal
 
 abbrev pub invariant-loop-lo : goal.invariant-loop-lo

@@ -1,10 +1,7 @@
 -- `embedding::places::in_order` meets its contract. The invariant: the first i places rise and lie below n.
-use mathlib.Core.Logic.{⊎_elim}
 use Prim.Native.Nat.{◌-◌}
-use native.Mathlib.Omega.{arith}
 use lib.ListN.{length}
-use Rattle.embedding.proofs.Answers.{tells_yes, tells_no}
-use Rattle.embedding.proofs.Placing.{OrderedTo, order_none, order_next, order_end}
+use Rattle.embedding.proofs.Placing.{OrderedTo}
 use Rattle.embedding.proofs.places.in_order.Given as goal
 
 abbrev pub invariant-loop-i : goal.invariant-loop-i

@@ -1,9 +1,6 @@
 -- `embedding::places::is_embedding` meets its contract: order and range, letters and arcs together are an embedding, and an embedding has each of them.
-use native.Mathlib.Omega.{arith}
-use borrow.Author.Rules.{rules}
-use Rattle.lists.proofs.ListLaws.{not_not, true_not}
-use Rattle.embedding.proofs.Answers.{tells_no, tells_same}
-use Rattle.embedding.proofs.Placing.{all_embed, embed_order, embed_letters, embed_arcs}
+use Rattle.embedding.proofs.Answers.{tells_same}
+use Rattle.embedding.proofs.Placing.{all_embed, embed_arcs}
 use Rattle.embedding.proofs.places.is_embedding.Goals as goal
 
 pub returns : goal.returns

@@ -1,11 +1,7 @@
 -- `embedding::places::same_arcs` meets its contract. The invariant: the arcs of the first i positions are kept.
-use borrow.Author.Count.{below_more}
 use Prim.Native.Nat.{ℕ, ◌-◌, ◌≤◌, ◌<◌}
-use native.Mathlib.Omega.{arith}
 use lib.ListN.{length}
 use Rattle.embedding.specs.Places.{ArcKept}
-use Rattle.lists.proofs.ListLaws.{not_not, true_not}
-use Rattle.embedding.proofs.Answers.{tells_yes, tells_no}
 use Rattle.embedding.proofs.places.same_arcs.Given as goal
 
 abbrev pub invariant-loop-i : goal.invariant-loop-i

@@ -9,7 +9,8 @@ use Rattle.octets.proofs.ScanLaws as laws
 use Rattle.octets.proofs.scan.copy.Given as goal
 
 abbrev pub invariant-loop-i : goal.invariant-loop-i
-invariant-loop-i l = (l.i ≤ length l.src) × (length l.src ≡ length l.initial.dst) × (length l.dst ≡ length l.initial.dst) × (l.dst ≡ take l.i l.src ++ drop l.i l.initial.dst)
+invariant-loop-i l = (l.i ≤ length l.src) × (length l.src ≡ length l.initial.dst) × (length l.dst ≡ length l.initial.dst) ×
+    (l.dst ≡ take l.i l.src ++ drop l.i l.initial.dst)
 
 abbrev pub decreases-loop-i : goal.decreases-loop-i
 decreases-loop-i l = length l.src - l.i

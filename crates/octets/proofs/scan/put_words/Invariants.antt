@@ -10,7 +10,8 @@ use Rattle.octets.proofs.ScanLaws as laws
 use Rattle.octets.proofs.scan.put_words.Given as goal
 
 abbrev pub invariant-loop-i : goal.invariant-loop-i
-invariant-loop-i l = (l.i ≤ length l.src) × (2 * length l.src ≤ length l.initial.s) × (length l.s ≡ length l.initial.s) × (l.s ≡ bytes_of (take l.i l.src) ++ drop (2 * l.i) l.initial.s)
+invariant-loop-i l = (l.i ≤ length l.src) × (2 * length l.src ≤ length l.initial.s) × (length l.s ≡ length l.initial.s) ×
+    (l.s ≡ bytes_of (take l.i l.src) ++ drop (2 * l.i) l.initial.s)
 
 abbrev pub decreases-loop-i : goal.decreases-loop-i
 decreases-loop-i l = length l.src - l.i

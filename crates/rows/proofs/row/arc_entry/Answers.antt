@@ -1,11 +1,6 @@
 -- `rows::row::arc_entry` meets its contract: the row of an unbonded y tells the one part, the classes in the tables the other (`over_known`).
-use borrow.Author.Rules.{rules}
 use mathlib.Core.Path.{sym}
 use native.Mathlib.Omega.{arith}
-use lib.ListN.{length}
-use Rattle.lists.specs.Vocabulary.{nth}
-use Rattle.rows.specs.Rows.{matches}
-use Rattle.embedding.proofs.Entries.{unit_small}
 use Rattle.rows.proofs.Passes.{with_some}
 use Rattle.rows.proofs.TableLaws.{over_known}
 use Rattle.rows.proofs.row.arc_entry.Goals as goal

@@ -1,5 +1,4 @@
 -- `rows::row::close_arc` meets its contract: one pass, or three passes over whole rows, leave the entries of the arc (`remade_short`, `remade`).
-use borrow.Author.Rules.{rules}
 use native.Mathlib.Omega.{arith}
 use Rattle.rows.proofs.Parts.{part}
 use Rattle.rows.proofs.Passes as passes

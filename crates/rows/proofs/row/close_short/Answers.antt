@@ -1,11 +1,8 @@
 -- `rows::row::close_short` meets its contract. The invariant: the entries before j are the arc's, those from j on as before (`Written`).
-use borrow.Author.Rules.{rules}
-use Prim.Native.Nat.{◌+◌, ◌-◌, ◌≤◌, min, max}
 use native.Mathlib.Omega.{arith}
 use Rattle.lists.specs.Vocabulary.{nth}
-use Rattle.embedding.specs.Row.{over_at}
-use Rattle.rows.specs.Rows.{Written, matches}
-use Rattle.rows.proofs.Pass.{pass_none, pass_set, pass_end}
+use Rattle.rows.specs.Rows.{matches}
+use Rattle.rows.proofs.Pass.{pass_set}
 use Rattle.rows.proofs.Passes as passes
 use Rattle.rows.proofs.TableLaws.{own_match, mate_match}
 use Rattle.rows.proofs.row.close_short.Goals as goal

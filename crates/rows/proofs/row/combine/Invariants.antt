@@ -1,17 +1,13 @@
 -- `rows::row::combine` meets its contract. The invariant: the entries before j are looked up, those from j on as before (`Written`). What is read is not yet
 -- written: the first row's entry for j stands at j or later, and its value is j or more.
-use mathlib.Core.Path.{◌≡◌}
-use mathlib.Core.List.{List}
-use Prim.Native.Nat.{ℕ, ◌+◌, ◌-◌, ◌≤◌, ◌<◌}
-use native.Mathlib.Omega.{arith}
-use lib.ListN.{length}
+use Prim.Native.Nat.{◌+◌, ◌-◌, ◌≤◌}
 use Rattle.lists.specs.Vocabulary.{nth}
 use Rattle.rows.specs.Rows.{Written}
-use Rattle.rows.proofs.Pass.{pass_none, pass_set, pass_end}
 use Rattle.rows.proofs.row.combine.Given as goal
 
 abbrev pub invariant-loop-j : goal.invariant-loop-j
-invariant-loop-j l = (l.from ≤ l.j) × (l.j ≤ l.last + 1) × Written (λ k. nth l.initial.row (l.then + nth l.initial.row (l.first + k))) l.initial.row l.row l.from l.j
+invariant-loop-j l = (l.from ≤ l.j) × (l.j ≤ l.last + 1) × Written (λ k. nth l.initial.row (l.then + nth l.initial.row (l.first + k))) l.initial.row l.row
+    l.from l.j
 
 abbrev pub decreases-loop-j : goal.decreases-loop-j
 decreases-loop-j l = l.last + 1 - l.j

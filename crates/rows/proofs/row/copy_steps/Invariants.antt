@@ -1,10 +1,7 @@
 -- `rows::row::copy_steps` meets its contract. The invariant: the entries before j are copied (`Written`).
 use Prim.Native.Nat.{◌-◌, ◌≤◌}
-use native.Mathlib.Omega.{arith}
-use mathlib.Core.Path.{refl}
 use Rattle.lists.specs.Vocabulary.{nth}
 use Rattle.rows.specs.Rows.{Written}
-use Rattle.rows.proofs.Pass.{pass_none, pass_set, pass_end}
 use Rattle.rows.proofs.row.copy_steps.Given as goal
 
 abbrev pub invariant-loop-j : goal.invariant-loop-j

@@ -1,12 +1,8 @@
 -- `rows::row::cut` meets its contract. The invariant: the entries from `at` on are the lesser of the row's and `to`, as far as at + j (`Written`); the row
 -- itself lies before `at`, and stays.
-use borrow.Author.Rules.{rules}
 use Prim.Native.Nat.{◌+◌, ◌-◌, ◌≤◌, min}
-use native.Mathlib.Omega.{arith}
 use Rattle.lists.specs.Vocabulary.{nth}
 use Rattle.rows.specs.Rows.{Written}
-use Rattle.rows.proofs.Pass.{pass_none, pass_end}
-use Rattle.rows.proofs.Passes as passes
 use Rattle.rows.proofs.row.cut.Given as goal
 
 abbrev pub invariant-loop-j : goal.invariant-loop-j

@@ -1,5 +1,4 @@
 -- `rows::row::extend` meets its contract: the base's row in the tables says where it takes each start.
-use borrow.Author.Rules.{rules}
 use Prim.Native.Nat.{ℕ}
 use native.Mathlib.Omega.{arith}
 use mathlib.Core.Path.{ap}

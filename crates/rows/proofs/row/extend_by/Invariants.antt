@@ -1,12 +1,8 @@
 -- `rows::row::extend_by` meets its contract. The invariant: the entries before j are looked up where the base's row leads, j or j + 1 (`Written`); both are
 -- not yet written.
-use borrow.Author.Rules.{rules}
 use Prim.Native.Nat.{◌-◌, ◌≤◌}
-use native.Mathlib.Omega.{arith}
 use Rattle.lists.specs.Vocabulary.{nth}
 use Rattle.rows.specs.Rows.{Written}
-use Rattle.rows.proofs.Pass.{pass_none, pass_set, pass_end}
-use Rattle.rows.proofs.TableLaws as tables
 use Rattle.rows.proofs.row.extend_by.Given as goal
 
 abbrev pub invariant-loop-j : goal.invariant-loop-j

@@ -1,9 +1,6 @@
 -- `rows::row::identity` meets its contract. The invariant: each entry before j is its own index (`Written`).
-use mathlib.Core.Path.{refl}
 use Prim.Native.Nat.{◌+◌, ◌-◌, ◌≤◌}
-use native.Mathlib.Omega.{arith}
 use Rattle.rows.specs.Rows.{Written}
-use Rattle.rows.proofs.Pass.{pass_none, pass_set, pass_end}
 use Rattle.rows.proofs.row.identity.Given as goal
 
 abbrev pub invariant-loop-j : goal.invariant-loop-j

@@ -1,12 +1,6 @@
 -- `rows::row::over` meets its contract. The invariant: past `at` the entries before j are what the arc takes with its left end (`Written`); the row that is
 -- read lies before `at`.
-use borrow.Author.Rules.{rules}
-use Prim.Native.Nat.{◌+◌, ◌-◌, ◌≤◌}
 use native.Mathlib.Omega.{arith}
-use Rattle.lists.specs.Vocabulary.{nth}
-use Rattle.embedding.specs.Row.{over_at}
-use Rattle.rows.specs.Rows.{Written, matches}
-use Rattle.rows.proofs.Pass.{pass_none, pass_end}
 use Rattle.rows.proofs.Passes as passes
 use Rattle.rows.proofs.TableLaws.{own_match, mate_match}
 use Rattle.rows.proofs.row.over.Goals as goal

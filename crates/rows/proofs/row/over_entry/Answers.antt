@@ -1,5 +1,4 @@
 -- `rows::row::over_entry` meets its contract: each return is a case of `over_by`.
-use borrow.Author.Rules.{rules}
 use borrow.Author.Tests.{eq-eqb, ne_eqb}
 use mathlib.Core.Path.{sym, ◌∙◌}
 use native.Mathlib.Numerals.{add-one}
@@ -19,7 +18,8 @@ pub returns-then-pair-y : goal.returns-then-pair-y
 returns-then-pair-y c = sym (entries.by_unlike _ _ _ _ _ _ (eq-eqb _ _ c.if-pair-x.false) c.if-k-j.false c.if-to-k.false (ne_eqb _ _ c.if-pair-y.true))
 
 pub returns-then-next-k : goal.returns-then-next-k
-returns-then-next-k c = sym (entries.by_short _ _ _ _ _ _ (eq-eqb _ _ c.if-pair-x.false) c.if-k-j.false c.if-to-k.false (eq-eqb _ _ c.if-pair-y.false) c.if-next-k.true)
+returns-then-next-k c = sym (entries.by_short _ _ _ _ _ _ (eq-eqb _ _ c.if-pair-x.false) c.if-k-j.false c.if-to-k.false
+    (eq-eqb _ _ c.if-pair-y.false) c.if-next-k.true)
 
 pub returns : goal.returns
 returns c =

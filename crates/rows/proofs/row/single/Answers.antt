@@ -1,5 +1,4 @@
 -- `rows::row::single` meets its contract: the base's row in the tables is copied, and its last entry cut at `to`.
-use borrow.Author.Rules.{rules}
 use native.Mathlib.Omega.{arith}
 use mathlib.Core.Path.{◌∙◌}
 use Rattle.rows.proofs.Pass.{pass_set, pass_as}

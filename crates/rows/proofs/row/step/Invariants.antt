@@ -1,10 +1,7 @@
 -- `rows::row::step` meets its contract. The invariant: the entries before j are taken on, those from j on as before (`Written`).
 use Prim.Native.Nat.{◌-◌, ◌≤◌}
-use native.Mathlib.Omega.{arith}
 use Rattle.lists.specs.Vocabulary.{nth}
 use Rattle.rows.specs.Rows.{Written}
-use Rattle.rows.proofs.Pass.{pass_none, pass_set, pass_end}
-use Rattle.rows.proofs.Passes as passes
 use Rattle.rows.proofs.row.step.Given as goal
 
 abbrev pub invariant-loop-j : goal.invariant-loop-j

@@ -1,7 +1,6 @@
 -- `rows::row::unit` meets its contract: each return is a case of `unit_at`.
 use mathlib.Core.Path.{sym, ◌∙◌}
 use native.Mathlib.Omega.{arith}
-use borrow.Author.Rules.{rules}
 use Rattle.lists.specs.Vocabulary.{nth}
 use Rattle.rows.specs.Rows.{matches}
 use Rattle.embedding.proofs.Entries.{unit_end, unit_left, unit_takes, unit_other}

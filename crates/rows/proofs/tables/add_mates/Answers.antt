@@ -1,9 +1,6 @@
 -- `rows::tables::add_mates` meets its contract. The invariant: the entries before j have both classes, those from j on as before (`Written`).
-use Prim.Native.Nat.{◌-◌, ◌≤◌}
 use native.Mathlib.Omega.{arith}
-use lib.ListN.{length}
-use Rattle.rows.specs.Rows.{Written, classes_at}
-use Rattle.rows.proofs.Pass.{pass_none, pass_set, pass_end}
+use Rattle.rows.proofs.Pass.{pass_set}
 use Rattle.rows.proofs.TableLaws.{mates_step, mates_fit}
 use Rattle.rows.proofs.tables.add_mates.Goals as goal
 

@@ -1,5 +1,4 @@
 -- `rows::tables::fill` meets its contract: the classes and the four rows stand side by side, and each pass leaves the others as they are.
-use borrow.Author.Rules.{rules}
 use native.Mathlib.Omega.{arith}
 use Rattle.rows.proofs.TableLaws as tables
 use Rattle.rows.proofs.tables.fill.Goals as goal

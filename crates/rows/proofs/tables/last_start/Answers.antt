@@ -1,6 +1,4 @@
 -- `rows::tables::last_start` meets its contract: the bound is read where `bound_at` has it, and the lesser of it and `to` is answered.
-use borrow.Author.Rules.{rules}
-use Prim.Native.Nat.{◌+◌, ◌*◌}
 use native.Mathlib.Omega.{arith}
 use Rattle.rows.specs.Rows.{bound_at}
 use Rattle.rows.proofs.tables.last_start.Goals as goal

@@ -1,13 +1,9 @@
 -- `rows::tables::put_classes` meets its contract. The invariant: the entries before j are the classes of the letters (`Written`).
-use borrow.Author.Rules.{rules}
-use Prim.Native.Nat.{◌-◌, ◌*◌, ◌≤◌}
-use native.Mathlib.Omega.{arith}
-use mathlib.Core.Path.{refl}
+use Prim.Native.Nat.{◌-◌, ◌≤◌}
 use lib.ListN.{length}
 use Rattle.lists.specs.Vocabulary.{nth}
 use Rattle.letters.specs.Classes.{letter_class}
 use Rattle.rows.specs.Rows.{Written}
-use Rattle.rows.proofs.Pass.{pass_none, pass_set, pass_end}
 use Rattle.rows.proofs.tables.put_classes.Given as goal
 
 abbrev pub invariant-loop-j : goal.invariant-loop-j

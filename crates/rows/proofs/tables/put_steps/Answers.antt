@@ -1,13 +1,8 @@
 -- `rows::tables::put_steps` meets its contract. The invariant: from `at` on the entries before j are the base's (`Written`); the last one is set after the
 -- loop.
-use Prim.Native.Nat.{◌+◌, ◌-◌, ◌≤◌}
 use native.Mathlib.Omega.{arith}
-use mathlib.Core.Path.{refl, ◌∙◌}
-use lib.ListN.{length, length-set}
-use Rattle.lists.specs.Vocabulary.{nth}
-use Rattle.embedding.specs.Row.{unit_at}
-use Rattle.rows.specs.Rows.{Written, matches}
-use Rattle.rows.proofs.Pass.{pass_none, pass_set}
+use mathlib.Core.Path.{refl}
+use Rattle.rows.proofs.Pass.{pass_set}
 use Rattle.rows.proofs.Passes as passes
 use Rattle.rows.proofs.TableLaws as tables
 use Rattle.rows.proofs.tables.put_steps.Goals as goal

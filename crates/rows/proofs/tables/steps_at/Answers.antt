@@ -1,7 +1,4 @@
 -- `rows::tables::steps_at` meets its contract: the product is that of `steps_at`, and two bits are below 4.
-use borrow.Author.Rules.{rules}
-use Prim.Native.Nat.{◌/◌, ◌%◌}
-use native.Mathlib.Omega.{arith}
 use mathlib.Core.Path.{refl}
 use Rattle.rows.specs.Rows.{steps_at}
 use Rattle.rows.proofs.TableLaws as tables

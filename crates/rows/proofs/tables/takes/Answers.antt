@@ -1,5 +1,4 @@
 -- `rows::tables::takes` meets its contract: the rule passes in one return and does not in the other.
-use borrow.Author.Rules.{rules}
 use mathlib.Core.Path.{sym, ◌∙◌}
 use Rattle.lists.proofs.ListLaws.{choose_yes, choose_no}
 use Rattle.rows.proofs.tables.takes.Goals as goal

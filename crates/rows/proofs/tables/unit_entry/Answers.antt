@@ -1,5 +1,4 @@
 -- `rows::tables::unit_entry` meets its contract: one more where both tests pass.
-use borrow.Author.Rules.{rules}
 use native.Mathlib.Omega.{arith}
 use Rattle.rows.proofs.TableLaws as tables
 use Rattle.rows.proofs.tables.unit_entry.Goals as goal

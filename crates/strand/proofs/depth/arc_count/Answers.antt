@@ -1,11 +1,6 @@
 -- `strand::depth::arc_count` meets its contract: of the first i bases it has counted the left ends.
-use Prim.Native.Nat.{◌-◌, ◌≤◌}
 use native.Mathlib.Omega.{arith}
-use mathlib.Core.Path.{◌≡◌, refl}
-use borrow.Author.Rules.{rules}
-use lib.ListN.{length}
-use Rattle.lists.proofs.Counts.{count}
-use Rattle.strand.specs.Folds.{begins}
+use mathlib.Core.Path.{refl}
 use Rattle.strand.proofs.FoldWalk.{arcs_none, arcs_short, arcs_next, arcs_end}
 use Rattle.strand.proofs.depth.arc_count.Goals as goal
 

@@ -1,10 +1,7 @@
 -- `strand::depth::depth_of` meets its contract: after i bases it has counted the arcs that are open, and the most that were open at once.
-use Prim.Native.Nat.{◌-◌}
 use mathlib.Core.Path.{refl}
 use native.Mathlib.Omega.{arith}
-use borrow.Author.Rules.{rules}
-use lib.ListN.{length}
-use Rattle.strand.proofs.FoldWalk.{Walked, depth_start, depth_short, depth_safe, depth_next, depth_end}
+use Rattle.strand.proofs.FoldWalk.{depth_start, depth_short, depth_safe, depth_next, depth_end}
 use Rattle.strand.proofs.depth.depth_of.Goals as goal
 
 pub loop-i-init : goal.loop-i-init

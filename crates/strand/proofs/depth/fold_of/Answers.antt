@@ -1,5 +1,4 @@
 -- `strand::depth::fold_of` meets its contract: the two counts, and without arcs the depth is 0.
-use borrow.Author.Rules.{rules}
 use mathlib.Core.Path.{sym, ◌∙◌}
 use Rattle.strand.proofs.FoldLaws.{fold_eq, depth_none}
 use Rattle.strand.proofs.depth.fold_of.Goals as goal

@@ -1,10 +1,7 @@
 -- `strand::key::key` meets its contract: the sum over the first i positions lacks what stands from i on, and stays small.
-use borrow.Author.Rules.{rules}
-use Prim.Native.Nat.{◌-◌, ◌*◌, ◌≤◌}
 use native.Mathlib.Omega.{arith}
-use mathlib.Core.Path.{◌≡◌, refl}
-use lib.ListN.{length}
-use Rattle.strand.proofs.KeyLaws.{SummedTo, key_start, key_more, key_end}
+use mathlib.Core.Path.{refl}
+use Rattle.strand.proofs.KeyLaws.{key_start, key_more, key_end}
 use Rattle.strand.proofs.key.key.Goals as goal
 
 pub loop-i-init : goal.loop-i-init

@@ -1,10 +1,8 @@
 -- `strand::key::key` meets its contract: the sum over the first i positions lacks what stands from i on, and stays small.
-use borrow.Author.Rules.{rules}
 use Prim.Native.Nat.{◌-◌, ◌*◌, ◌≤◌}
-use native.Mathlib.Omega.{arith}
-use mathlib.Core.Path.{◌≡◌, refl}
+use mathlib.Core.Path.{◌≡◌}
 use lib.ListN.{length}
-use Rattle.strand.proofs.KeyLaws.{SummedTo, key_start, key_more, key_end}
+use Rattle.strand.proofs.KeyLaws.{SummedTo}
 use Rattle.strand.proofs.key.key.Given as goal
 
 abbrev pub invariant-loop-i : goal.invariant-loop-i

@@ -1,12 +1,7 @@
 -- `strand::levels::all_unbonded` meets its contract: of the first i bases it has counted those that are bonded.
-use Prim.Native.Nat.{◌-◌, ◌≤◌}
-use mathlib.Core.Path.{◌≡◌, refl}
+use mathlib.Core.Path.{refl}
 use native.Mathlib.Omega.{arith}
-use borrow.Author.Rules.{rules}
-use lib.ListN.{length}
-use lib.Dec.{eqb}
-use Rattle.lists.specs.Vocabulary.{nth}
-use Rattle.strand.proofs.LevelWalk.{Differing, differ_start, differ_one, differ_next, unbonded_end}
+use Rattle.strand.proofs.LevelWalk.{differ_start, differ_one, differ_next, unbonded_end}
 use Rattle.strand.proofs.levels.all_unbonded.Goals as goal
 
 pub loop-i-init : goal.loop-i-init

@@ -1,6 +1,5 @@
 -- `strand::levels::is_nested` meets its contract: the names that bases have are those told by their mates exactly in nested mates (`names_nested`).
 use mathlib.Core.Path.{◌∙◌}
-use borrow.Author.Rules.{rules}
 use Rattle.strand.proofs.LevelLaws.{names_nested}
 use Rattle.strand.proofs.levels.is_nested.Goals as goal
 

@@ -1,10 +1,7 @@
 -- `strand::levels::put_names` meets its contract: the first i bases have put their names (`Named`).
-use Prim.Native.Nat.{◌-◌}
-use mathlib.Core.Path.{refl, sym, ◌∙◌}
+use mathlib.Core.Path.{refl}
 use native.Mathlib.Omega.{arith}
-use borrow.Author.Rules.{rules}
-use lib.ListN.{length}
-use Rattle.strand.proofs.LevelWalk.{Named, names_start, told_long, names_safe, names_fit, names_next, names_end}
+use Rattle.strand.proofs.LevelWalk.{names_start, names_safe, names_fit, names_next}
 use Rattle.strand.proofs.levels.put_names.Goals as goal
 
 pub loop-i-init : goal.loop-i-init

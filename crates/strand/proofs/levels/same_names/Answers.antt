@@ -1,12 +1,7 @@
 -- `strand::levels::same_names` meets its contract: of the first i names it has counted those that differ.
-use Prim.Native.Nat.{◌-◌, ◌≤◌}
 use mathlib.Core.Path.{◌∙◌}
 use native.Mathlib.Omega.{arith}
-use borrow.Author.Rules.{rules}
-use lib.ListN.{length}
-use lib.Dec.{eqb}
-use Rattle.lists.specs.Vocabulary.{nth}
-use Rattle.strand.proofs.LevelWalk.{Differing, differ_start, differ_one, differ_next, differ_end, same_every}
+use Rattle.strand.proofs.LevelWalk.{differ_start, differ_one, differ_next, differ_end, same_every}
 use Rattle.strand.proofs.levels.same_names.Goals as goal
 
 pub loop-i-init : goal.loop-i-init

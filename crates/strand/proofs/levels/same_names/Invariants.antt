@@ -1,12 +1,9 @@
 -- `strand::levels::same_names` meets its contract: of the first i names it has counted those that differ.
 use Prim.Native.Nat.{◌-◌, ◌≤◌}
-use mathlib.Core.Path.{◌∙◌}
-use native.Mathlib.Omega.{arith}
-use borrow.Author.Rules.{rules}
 use lib.ListN.{length}
 use lib.Dec.{eqb}
 use Rattle.lists.specs.Vocabulary.{nth}
-use Rattle.strand.proofs.LevelWalk.{Differing, differ_start, differ_one, differ_next, differ_end, same_every}
+use Rattle.strand.proofs.LevelWalk.{Differing}
 use Rattle.strand.proofs.levels.same_names.Given as goal
 
 abbrev pub invariant-loop-i : goal.invariant-loop-i

@@ -1,14 +1,10 @@
 -- `strand::nesting::arcs_close` meets its contract: from the end on, the arcs that begin at i or later hold the mates inside them, so none of them
 -- is crossed.
-use Prim.Native.Nat.{ℕ, ◌-◌, ◌≤◌, ◌<◌}
+use Prim.Native.Nat.{◌-◌}
 use native.Mathlib.Omega.{arith}
 use mathlib.Core.Path.{sym, ap}
 use mathlib.Core.Bool.{not}
-use lib.ListN.{length}
-use Rattle.lists.specs.Vocabulary.{nth}
-use Rattle.strand.specs.Nesting.{Closes}
-use Rattle.lists.proofs.ListLaws.{not_not, true_not}
-use Rattle.strand.proofs.NestingLaws.{crossed_none, crossed_some, closes_more}
+use Rattle.strand.proofs.NestingLaws.{crossed_none, crossed_some}
 use Rattle.strand.proofs.nesting.arcs_close.Goals as goal
 
 pub returns-then-not-closes : goal.returns-then-not-closes

@@ -1,11 +1,8 @@
 -- `strand::nesting::closes` meets its contract: the bases passed have their mates inside the arc; the walk jumps over arcs that do.
 use Prim.Native.Nat.{◌-◌, ◌≤◌, ◌<◌}
-use native.Mathlib.Omega.{arith}
-use mathlib.Core.Path.{sym}
 use lib.ListN.{length}
 use Rattle.lists.specs.Vocabulary.{nth}
-use Rattle.strand.proofs.NestingLaws.{Passed, walk_start, walk_back, walk_past, walk_jump, walk_end}
-use mathlib.Core.Bool.{true≢false}
+use Rattle.strand.proofs.NestingLaws.{Passed}
 use Rattle.strand.proofs.nesting.closes.Given as goal
 
 abbrev pub invariant-loop-k : goal.invariant-loop-k

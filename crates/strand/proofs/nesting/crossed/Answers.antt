@@ -1,10 +1,6 @@
 -- `strand::nesting::crossed` meets its contract: no arc that begins below a crosses the one at i.
-use borrow.Author.Rules.{rules}
-use Prim.Native.Nat.{◌-◌, ◌≤◌}
 use native.Mathlib.Omega.{arith}
-use mathlib.Core.Path.{◌≡◌, sym, ◌∙◌}
-use mathlib.Core.Bool.{false}
-use Rattle.lists.specs.Vocabulary.{nth, some}
+use mathlib.Core.Path.{sym, ◌∙◌}
 use Rattle.strand.specs.Strands.{crosses, crossed_at}
 use Rattle.lists.proofs.ListLaws.{some_yes, some_no, some_more, some_end}
 use Rattle.strand.proofs.nesting.crossed.Goals as goal

@@ -1,12 +1,7 @@
 -- `strand::nesting::largest_mate` meets its contract: none of the first i mates is above the largest so far.
 use Prim.Native.Nat.{ℕ, ◌-◌, ◌≤◌, ◌<◌}
-use native.Mathlib.Omega.{arith}
-use mathlib.Core.Path.{◌≡◌}
-use mathlib.Core.Logic.{⊎_elim}
-use borrow.Author.Rules.{rules}
 use lib.ListN.{length}
 use Rattle.lists.specs.Vocabulary.{nth}
-use Rattle.lists.proofs.Ranges.{lt_suc_cases}
 use Rattle.strand.proofs.nesting.largest_mate.Given as goal
 
 abbrev pub invariant-loop-i : goal.invariant-loop-i

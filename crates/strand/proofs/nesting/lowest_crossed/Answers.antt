@@ -1,11 +1,7 @@
 -- `strand::nesting::lowest_crossed` meets its contract: none of the first i arcs is crossed.
-use Prim.Native.Nat.{◌-◌, ◌≤◌}
 use native.Mathlib.Omega.{arith}
-use mathlib.Core.Path.{◌≡◌, sym, ◌∙◌}
-use lib.ListN.{length}
-use Rattle.lists.specs.Vocabulary.{lowest}
-use Rattle.strand.specs.Strands.{crossed_at}
-use Rattle.lists.proofs.ListLaws.{lowest_none, lowest_more, lowest_found, lowest_end}
+use mathlib.Core.Path.{sym, ◌∙◌}
+use Rattle.lists.proofs.ListLaws.{lowest_none, lowest_more, lowest_found}
 use Rattle.strand.proofs.nesting.lowest_crossed.Goals as goal
 
 pub loop-i-init : goal.loop-i-init

@@ -1,0 +1,26 @@
+-- `screening::put_answer` meets its contract. The text of an answer is by cases on it, and each case is what `put_refusal` or `put_hits` writes. There is
+-- room: the answer fits into `most_output` bytes, and `out` has as many.
+use borrow.Author.Rules.{rules}
+use native.Mathlib.Omega.{arith}
+use Rattle.screening.specs.Text.{most_output}
+use Rattle.screening.proofs.ScreenLaws as law
+use Rattle.screening.proofs.put_answer.Goals as goal
+
+pub put_hits-requires : goal.put_hits-requires
+put_hits-requires c =
+    record {
+      count_in_bounds = (law.fits_hits c.in-Hits.count c.in-Hits.searched _ _ most_output c.in-Hits.is
+          c.requires.answer_fits).0;
+      numbers_in_bounds = omega (
+        arith,
+        (law.fits_hits c.in-Hits.count c.in-Hits.searched _ _ most_output c.in-Hits.is
+            c.requires.answer_fits).1,
+        c.requires.most_output_in_bounds,
+      );
+    }
+
+pub returns-in-Refused : goal.returns-in-Refused
+returns-in-Refused c = law.put_refused c.in-Refused.x _ _ c.in-Refused.is c.put_refusal.ensures
+
+pub returns-in-Hits : goal.returns-in-Hits
+returns-in-Hits c = law.put_hits c.in-Hits.count c.in-Hits.searched _ _ c.in-Hits.is c.put_hits.ensures

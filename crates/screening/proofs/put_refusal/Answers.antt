@@ -1,0 +1,9 @@
+-- `screening::put_refusal` meets its contract. A refusal has at most `most_output` bytes of text whatever its numbers are, so `put_refused` has the room
+-- that it asks for.
+use borrow.Author.Rules.{rules}
+use native.Mathlib.Omega.{arith}
+use Rattle.screening.proofs.TextLaws.{most_refused}
+use Rattle.screening.proofs.put_refusal.Goals as goal
+
+pub put_refused-requires : goal.put_refused-requires
+put_refused-requires c = omega (arith, most_refused c.args.number c.args.side c.args.place (omega arith) (omega arith) (omega arith), c.requires)

@@ -1,0 +1,11 @@
+-- `walk::rest_lent` meets its contract: the tables are made, with room for the bounds of the molecule.
+use Rattle.walk.proofs.rest_lent.Goals as goal
+
+pub whole_end-requires : goal.whole_end-requires
+whole_end-requires c =
+    record {
+      setting = c.requires.setting;
+      walked = c.requires.walked;
+      q_in_bounds = c.requires.q_in_bounds;
+      tables_for = c.prepare.ensures _ c.requires.q_in_bounds_2;
+    }
