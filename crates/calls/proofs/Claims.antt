@@ -141,7 +141,7 @@ module _ (b : List ℕ) (d : ℕ) (ok : sound_entry b ≡ true) (small : Bytes b
       (λ (e : is_empty b ≡ true). rw (law.empty_is b (law.entry_size b ok) e, leaf.empty_forgot d) leaf.empty_entry)
       (λ (e : is_empty b ≡ false). rw (forgot_is e)
       (law.entry_sound_below (motif_in b) (law.entry_proper b ok e) _ _ (λ x m. without_yes d x (hit_in b) (searched_in b) (law.entry_hit_searched b ok e x
-        m))))
+      m))))
       (by_bool (is_empty b))
 
 -- a cleaned block of bytes is bytes
@@ -200,7 +200,7 @@ module _ (p : Strand) (good : Proper motif_side least_motif most_motif_bases p.b
 
 module _ (embeds : Strand → Strand → Bool) where
   pub hit_known : (catalog entry : List ℕ) (p : Strand) (d : ℕ) → is_known entry p d ≡ true → is_hit embeds catalog entry p d
-    ≡ (held catalog d && hit_in entry d)
+      ≡ (held catalog d && hit_in entry d)
   unfolding is_hit
   hit_known catalog entry p d e = ap (λ (t : Bool). held catalog d && t) (choose_yes (is_known entry p d) (hit_in entry d) (embeds p (molecule_at catalog d)) e)
 
@@ -208,7 +208,7 @@ module _ (embeds : Strand → Strand → Bool) where
       → is_hit embeds catalog entry p d ≡ (held catalog d && embeds p (molecule_at catalog d))
   unfolding is_hit
   hit_unknown catalog entry p d e = ap (λ (t : Bool). held catalog d && t) (choose_no (is_known entry p d) (hit_in entry d) (embeds p (molecule_at catalog
-    d)) e)
+      d)) e)
 
   hit_held : (catalog entry : List ℕ) (p : Strand) (d : ℕ) → is_hit embeds catalog entry p d ≡ true → held catalog d ≡ true
   unfolding is_hit

@@ -1,5 +1,4 @@
 -- `batch::answer_lent` meets its contract: the maps that the search leaves tell what each query has to search and its hits.
-use borrow.Author.Rules.{rules}
 use Prim.Native.Nat.{ℕ}
 use mathlib.Core.Path.{refl, ap, ◌∙◌}
 use lib.ListN.{length, length-replicate}

@@ -1,6 +1,5 @@
 -- `batch::batch` meets its contract.
 -- A refusal of the judge is the answer, and no buffer is written. Else the answer on the clean cache is that of the batch.
-use borrow.Author.Rules.{rules}
 use mathlib.Core.Path.{sym, ap, ◌∙◌}
 use lib.ListN.{length}
 use Rattle.refusals.proofs.RuleLaws as rule

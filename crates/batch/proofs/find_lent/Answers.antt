@@ -1,5 +1,4 @@
 -- `batch::find_lent` meets its contract: each step asks what those before it leave; what the plan asks for is held.
-use borrow.Author.Rules.{rules}
 use native.Mathlib.Omega.{arith}
 use Rattle.batch.proofs.AnswerLaws.{map_again}
 use Rattle.batch.proofs.Telling.{planned_held}

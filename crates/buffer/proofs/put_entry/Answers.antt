@@ -1,5 +1,4 @@
 -- `buffer::put_entry` meets its contract: what the encoder leaves in the part that is block k stands in its place.
-use borrow.Author.Rules.{rules}
 use Rattle.buffer.proofs.OutcomeLaws as law
 use Rattle.buffer.proofs.put_entry.Goals as goal
 

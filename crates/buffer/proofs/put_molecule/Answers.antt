@@ -1,5 +1,4 @@
 -- `buffer::put_molecule` meets its contract: what the encoder leaves in the part that is block d stands in its place.
-use borrow.Author.Rules.{rules}
 use Rattle.buffer.proofs.OutcomeLaws as law
 use Rattle.buffer.proofs.put_molecule.Goals as goal
 

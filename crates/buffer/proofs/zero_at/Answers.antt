@@ -1,5 +1,4 @@
 -- `buffer::zero_at` meets its contract: zeros stand in the place of block d.
-use borrow.Author.Rules.{rules}
 use Rattle.buffer.proofs.OutcomeLaws as law
 use Rattle.buffer.proofs.zero_at.Goals as goal
 

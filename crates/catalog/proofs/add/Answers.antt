@@ -1,7 +1,6 @@
 -- `catalog::add` meets its contract.
 -- A refusal of the judge is the answer, and no buffer is written. Else the writers leave every cache block cleaned and the molecule in
 -- block d, and the fold is that of its mates, which are nested: that is `add_outcome`.
-use borrow.Author.Rules.{rules}
 use native.Mathlib.Omega.{arith}
 use mathlib.Core.Path.{sym, ◌∙◌}
 use Rattle.calls.proofs.FactLaws as fact

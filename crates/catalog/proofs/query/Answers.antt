@@ -1,7 +1,6 @@
 -- `catalog::query` meets its contract.
 -- A refusal of the judge is the answer, and no buffer is written. Else what the judge let pass is what the search asks, and the answer from
 -- the slot's entry of the clean cache is `query_outcome`.
-use borrow.Author.Rules.{rules}
 use native.Mathlib.Omega.{arith}
 use mathlib.Core.Path.{sym, ◌∙◌}
 use lib.ListN.{length}

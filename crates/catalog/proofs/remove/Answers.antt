@@ -1,7 +1,6 @@
 -- `catalog::remove` meets its contract.
 -- A refusal of the judge is the answer, and no buffer is written. Else the writers leave block d zeroed and every cache block cleaned
 -- and without the number, and that is `remove_outcome`.
-use borrow.Author.Rules.{rules}
 use mathlib.Core.Path.{sym, ◌∙◌}
 use Rattle.calls.proofs.FactLaws as fact
 use Rattle.calls.proofs.Claims as claim

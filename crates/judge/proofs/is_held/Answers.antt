@@ -1,10 +1,5 @@
 -- `judge::is_held` meets its contract.
 -- A number past the last block is not held; else byte 0 of its block, which is sound, tells.
-use borrow.Author.Rules.{rules}
-use mathlib.Core.Path.{ap}
-use native.Mathlib.Omega.{arith}
-use lib.ListN.{length}
-use Rattle.buffer.proofs.BlockLaws.{length_block}
 use Rattle.calls.proofs.JudgeLaws as judge
 use Rattle.judge.proofs.is_held.Goals as goal
 

@@ -1,6 +1,5 @@
 -- `judge::judge_add` meets its contract.
 -- One return for each rule of `add_verdict`: those of the buffers, 12, 13, then whatever the molecule's own rules come to.
-use borrow.Author.Rules.{rules}
 use mathlib.Core.Path.{sym, ◌∙◌}
 use Rattle.calls.proofs.JudgeLaws as judge
 use Rattle.judge.proofs.SoundLaws.{all_sound}

@@ -1,8 +1,6 @@
 -- `judge::judge_buffers` meets its contract.
 -- One return for each rule of `buffers_verdict`: 10 by the catalog, 10 by the cache, 11 at the lowest unsound block, or accepted.
-use borrow.Author.Rules.{rules}
 use mathlib.Core.Path.{sym, ◌∙◌}
-use borrow.Author.Tests.{not-true, not-false}
 use Rattle.calls.proofs.JudgeLaws as judge
 use Rattle.judge.proofs.judge_buffers.Goals as goal
 

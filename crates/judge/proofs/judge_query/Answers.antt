@@ -1,6 +1,5 @@
 -- `judge::judge_query` meets its contract.
 -- One return for each rule of `query_verdict`: those of the buffers, of the motif, 9, 8, or accepted.
-use borrow.Author.Rules.{rules}
 use native.Mathlib.Omega.{arith}
 use mathlib.Core.Path.{sym, ◌∙◌}
 use Rattle.calls.specs.Buffers.{most_motif_bases}

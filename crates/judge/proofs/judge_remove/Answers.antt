@@ -1,8 +1,6 @@
 -- `judge::judge_remove` meets its contract.
 -- One return for each rule of `remove_verdict`: those of the buffers, 12, 14, or accepted.
-use borrow.Author.Rules.{rules}
 use mathlib.Core.Path.{sym, ◌∙◌}
-use borrow.Author.Tests.{not-true, not-false}
 use Rattle.calls.proofs.JudgeLaws as judge
 use Rattle.judge.proofs.SoundLaws.{all_sound}
 use Rattle.judge.proofs.judge_remove.Goals as goal

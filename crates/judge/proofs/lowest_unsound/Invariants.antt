@@ -1,13 +1,8 @@
 -- `judge::lowest_unsound` meets its contract.
 -- Invariant: none of the first d blocks is unsound. So the first unsound block that the loop meets is the lowest, or there is none.
-use borrow.Author.Rules.{rules}
 use Prim.Native.Nat.{◌-◌, ◌≤◌}
-use native.Mathlib.Omega.{arith}
-use mathlib.Core.Path.{◌≡◌, sym}
-use borrow.Author.Tests.{not-true, not-false}
-use Rattle.calls.proofs.JudgeLaws as judge
+use mathlib.Core.Path.{◌≡◌}
 use Rattle.lists.specs.Vocabulary.{lowest}
-use Rattle.lists.proofs.ListLaws as laws
 use Rattle.calls.specs.Buffers.{unsound_at}
 use Rattle.block.specs.Block.{block_count}
 use Rattle.judge.proofs.lowest_unsound.Given as goal

@@ -1,6 +1,4 @@
 -- `motifs::bases_at` meets its contract: the bases of a motif are a part of its block.
-use borrow.Author.Rules.{rules}
-use native.Mathlib.Omega.{arith}
 use Rattle.motifs.proofs.ReadLaws as reading
 use Rattle.motifs.proofs.bases_at.Goals as goal
 

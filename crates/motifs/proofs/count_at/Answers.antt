@@ -1,6 +1,4 @@
 -- `motifs::count_at` meets its contract: byte 1 of a block with a motif is the number of its bases.
-use borrow.Author.Rules.{rules}
-use native.Mathlib.Omega.{arith}
 use Rattle.motifs.proofs.ReadLaws as reading
 use Rattle.motifs.proofs.count_at.Goals as goal
 

@@ -1,8 +1,6 @@
 -- `motifs::judge` meets its contract.
 -- One return for each rule of `motifs_verdict`: 15 by the size, 15 at the lowest block without a motif, 3 at the lowest motif that is too long, or accepted.
-use borrow.Author.Rules.{rules}
 use mathlib.Core.Path.{sym, ◌∙◌}
-use borrow.Author.Tests.{not-true, not-false}
 use Rattle.calls.proofs.MotifLaws as calls
 use Rattle.motifs.proofs.ReadLaws as reading
 use Rattle.motifs.proofs.judge.Goals as goal

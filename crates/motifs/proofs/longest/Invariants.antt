@@ -1,12 +1,9 @@
 -- `motifs::longest` meets its contract.
 -- Invariant: m is the number of bases of the longest of the first t motifs.
-use borrow.Author.Rules.{rules}
-use native.Mathlib.Omega.{arith}
 use Prim.Native.Nat.{◌-◌, ◌≤◌}
 use mathlib.Core.Path.{◌≡◌}
 use Rattle.block.specs.Block.{block_count}
 use Rattle.calls.specs.Motifs.{longest_to}
-use Rattle.motifs.proofs.ReadLaws as reading
 use Rattle.motifs.proofs.longest.Given as goal
 
 abbrev pub invariant-loop-t : goal.invariant-loop-t

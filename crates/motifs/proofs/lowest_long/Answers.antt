@@ -2,11 +2,8 @@
 -- Invariant: none of the first t motifs is too long. So the first such motif that the loop meets is the lowest, or there is none.
 use borrow.Author.Rules.{rules}
 use native.Mathlib.Omega.{arith}
-use Prim.Native.Nat.{◌-◌, ◌≤◌}
-use mathlib.Core.Path.{◌≡◌, sym}
-use Rattle.lists.specs.Vocabulary.{lowest}
+use mathlib.Core.Path.{sym}
 use Rattle.lists.proofs.ListLaws as list
-use Rattle.block.specs.Block.{block_count}
 use Rattle.calls.specs.Motifs.{long_motif_at}
 use Rattle.calls.proofs.MotifLaws as calls
 use Rattle.motifs.proofs.lowest_long.Goals as goal

@@ -1,14 +1,10 @@
 -- `motifs::lowest_long` meets its contract.
 -- Invariant: none of the first t motifs is too long. So the first such motif that the loop meets is the lowest, or there is none.
-use borrow.Author.Rules.{rules}
-use native.Mathlib.Omega.{arith}
 use Prim.Native.Nat.{◌-◌, ◌≤◌}
-use mathlib.Core.Path.{◌≡◌, sym}
+use mathlib.Core.Path.{◌≡◌}
 use Rattle.lists.specs.Vocabulary.{lowest}
-use Rattle.lists.proofs.ListLaws as list
 use Rattle.block.specs.Block.{block_count}
 use Rattle.calls.specs.Motifs.{long_motif_at}
-use Rattle.calls.proofs.MotifLaws as calls
 use Rattle.motifs.proofs.lowest_long.Given as goal
 
 abbrev pub invariant-loop-t : goal.invariant-loop-t

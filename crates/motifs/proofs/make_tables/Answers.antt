@@ -1,5 +1,4 @@
 -- `motifs::make_tables` meets its contract: the tables are made from the bases and the mates of motif t, and no other motif's tables are touched.
-use borrow.Author.Rules.{rules}
 use native.Mathlib.Omega.{arith}
 use Rattle.motifs.proofs.UnpackLaws as laws
 use Rattle.motifs.proofs.make_tables.Goals as goal

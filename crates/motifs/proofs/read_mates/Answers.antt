@@ -1,5 +1,4 @@
 -- `motifs::read_mates` meets its contract: the words read are the mates of motif t, and no other motif's mates are touched.
-use borrow.Author.Rules.{rules}
 use native.Mathlib.Omega.{arith}
 use lib.ListN.{length-drop, length-take}
 use Rattle.motifs.proofs.UnpackLaws as laws

@@ -1,11 +1,8 @@
 -- `motifs::unpack` meets its contract.
 -- Invariant: the mates and the tables of the first t motifs stand in their pieces.
-use borrow.Author.Rules.{rules}
-use native.Mathlib.Omega.{arith}
 use Prim.Native.Nat.{◌-◌, ◌≤◌}
 use Rattle.block.specs.Block.{block_count}
 use Rattle.motifs.specs.Unpacked.{MatesTo, TablesTo}
-use Rattle.motifs.proofs.UnpackLaws as laws
 use Rattle.motifs.proofs.unpack.Given as goal
 
 abbrev pub invariant-loop-t : goal.invariant-loop-t

@@ -1,10 +1,7 @@
 -- `search::answer_lent` meets its contract.
 -- The search leaves the maps of the held numbers and of the hits. So count, list and the entry written are those of
 -- `query_accepted`.
-use borrow.Author.Rules.{rules}
-use mathlib.Core.Path.{ap, ◌∙◌}
-use native.Mathlib.Omega.{arith}
-use Rattle.block.specs.Block.{sound_entry}
+use mathlib.Core.Path.{◌∙◌}
 use Rattle.buffer.proofs.OutcomeLaws.{entry_put_there}
 use Rattle.search.proofs.AnswerLaws as laws
 use Rattle.search.proofs.answer_lent.Goals as goal

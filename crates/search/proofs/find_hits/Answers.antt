@@ -1,6 +1,5 @@
 -- `search::find_hits` meets its contract.
 -- The maps hold the held numbers, those to be searched and the known hits; the search of the former adds the other hits.
-use borrow.Author.Rules.{rules}
 use mathlib.Core.Path.{◌∙◌}
 use Rattle.strand.specs.Strands.{strand_of}
 use Rattle.search.proofs.AnswerLaws as laws

@@ -1,10 +1,8 @@
 -- `search::list_hits` meets its contract.
 -- Invariant: the numbers below d of the map are counted and stand at the start of the slice, and its later entries are as they were.
-use borrow.Author.Rules.{rules}
-use Prim.Native.Nat.{◌-◌, ◌≤◌}
 use native.Mathlib.Omega.{arith}
-use mathlib.Core.Path.{◌≡◌, refl, sym, ◌∙◌}
-use lib.ListN.{length, length-set}
+use mathlib.Core.Path.{refl, sym}
+use lib.ListN.{length-set}
 use Rattle.octets.specs.Octets.{map_bit}
 use Rattle.search.proofs.ListingLaws as laws
 use Rattle.search.proofs.list_hits.Goals as goal

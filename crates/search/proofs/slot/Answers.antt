@@ -1,7 +1,6 @@
 -- `search::slot` meets its contract.
 -- The slot is the key's remainder by the number of blocks.
 use Prim.Native.Nat.{ℕ, ◌%◌}
-use native.Mathlib.Omega.{arith}
 use mathlib.Core.Path.{ap}
 use native.Mathlib.Nat.{mod-lt}
 use Rattle.calls.specs.Buffers.{slot_of}

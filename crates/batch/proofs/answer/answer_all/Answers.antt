@@ -1,17 +1,13 @@
 -- `batch::answer::answer_all` meets its contract: before motif t cache and hits are as the queries before it leave them, and their counts are written.
-use borrow.Author.Rules.{rules}
-use Prim.Native.Nat.{◌*◌, ◌-◌, ◌≤◌}
+use Prim.Native.Nat.{◌*◌}
 use native.Mathlib.Omega.{arith}
-use mathlib.Core.Path.{◌≡◌, refl, ◌∙◌}
-use mathlib.Core.List.{◌++◌}
-use lib.ListN.{length, length-set, drop}
-use Rattle.lists.specs.Vocabulary.{tab}
+use mathlib.Core.Path.{refl, ◌∙◌}
+use lib.ListN.{length-set}
 use Rattle.lists.proofs.ListLaws.{tab_none}
 use Rattle.lists.proofs.Stretches.{length_stretch}
 use Rattle.block.specs.Block.{block_count}
 use Rattle.embedding.specs.Longest.{embeds}
-use Rattle.calls.specs.Batch.{batch_state, batch_to, query_at, count_of}
-use Rattle.calls.proofs.BatchLaws.{clean_to}
+use Rattle.calls.specs.Batch.{batch_state, query_at, count_of}
 use Rattle.batch.proofs.PlanLaws.{tab_next, tab_end}
 use Rattle.batch.proofs.AnswerLaws as laws
 use Rattle.batch.proofs.answer.answer_all.Goals as goal

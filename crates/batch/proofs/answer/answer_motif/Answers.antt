@@ -1,5 +1,4 @@
 -- `batch::answer::answer_motif` meets its contract: the hits known and found are those of the query, so count, list and entry are its own.
-use borrow.Author.Rules.{rules}
 use native.Mathlib.Omega.{arith}
 use mathlib.Core.Path.{ap, ◌∙◌}
 use Rattle.block.specs.Block.{sound_entry}

@@ -1,6 +1,4 @@
 -- `batch::answer::fill_hits` meets its contract: the entry is sound, so `keeps` tells whether it keeps the motif.
-use borrow.Author.Rules.{rules}
-use native.Mathlib.Omega.{arith}
 use mathlib.Core.Path.{◌∙◌}
 use Rattle.strand.specs.Strands.{strand_of}
 use Rattle.block.proofs.ContentLaws.{entry_size}

@@ -1,11 +1,9 @@
 -- `batch::plan::count_all` meets its contract: the first t counts are written.
-use borrow.Author.Rules.{rules}
-use Prim.Native.Nat.{◌*◌, ◌-◌, ◌≤◌}
+use Prim.Native.Nat.{◌*◌}
 use native.Mathlib.Omega.{arith}
-use mathlib.Core.Path.{◌≡◌, refl}
-use mathlib.Core.List.{◌++◌}
-use lib.ListN.{length, length-set, drop}
-use Rattle.lists.specs.Vocabulary.{select, tab}
+use mathlib.Core.Path.{refl}
+use lib.ListN.{length, length-set}
+use Rattle.lists.specs.Vocabulary.{select}
 use Rattle.lists.proofs.ListLaws.{tab_none}
 use Rattle.octets.specs.Octets.{map_size, map_bit}
 use Rattle.batch.proofs.PlanLaws as laws

@@ -1,14 +1,10 @@
 -- `batch::plan::count_all` meets its contract: the first t counts are written.
-use borrow.Author.Rules.{rules}
 use Prim.Native.Nat.{◌*◌, ◌-◌, ◌≤◌}
-use native.Mathlib.Omega.{arith}
-use mathlib.Core.Path.{◌≡◌, refl}
+use mathlib.Core.Path.{◌≡◌}
 use mathlib.Core.List.{◌++◌}
-use lib.ListN.{length, length-set, drop}
+use lib.ListN.{length, drop}
 use Rattle.lists.specs.Vocabulary.{select, tab}
-use Rattle.lists.proofs.ListLaws.{tab_none}
 use Rattle.octets.specs.Octets.{map_size, map_bit}
-use Rattle.batch.proofs.PlanLaws as laws
 use Rattle.batch.proofs.plan.count_all.Given as goal
 
 abbrev pub invariant-loop-t : goal.invariant-loop-t

@@ -1,12 +1,6 @@
 -- `batch::plan::plan_lent` meets its contract: before motif t the cache is planned for the motifs before it, and their maps are filled.
-use borrow.Author.Rules.{rules}
-use Prim.Native.Nat.{◌*◌, ◌-◌, ◌≤◌}
 use native.Mathlib.Omega.{arith}
-use mathlib.Core.Path.{◌≡◌, refl, sym, ◌∙◌}
-use lib.ListN.{length}
-use Rattle.lists.proofs.Stretches.{length_stretch}
-use Rattle.block.specs.Block.{block_count}
-use Rattle.batch.specs.Steps.{Planning, planned_after, PlannedTo}
+use mathlib.Core.Path.{refl, ◌∙◌}
 use Rattle.batch.proofs.PlanLaws as laws
 use Rattle.batch.proofs.plan.plan_lent.Goals as goal
 

@@ -1,6 +1,4 @@
 -- `batch::plan::plan_motif` meets its contract: the slot's entry is sound, so `keeps` tells whether it keeps the motif.
-use borrow.Author.Rules.{rules}
-use native.Mathlib.Omega.{arith}
 use mathlib.Core.Path.{sym, ap, ◌∙◌}
 use Rattle.block.specs.Block.{sound_entry}
 use Rattle.block.proofs.ContentLaws.{entry_size}

@@ -1,6 +1,5 @@
 -- `batch::rules::judge_batch` meets its contract.
 -- One return for each rule of `batch_verdict`: those of the buffers, of the motifs, 9, 8, or accepted.
-use borrow.Author.Rules.{rules}
 use native.Mathlib.Omega.{arith}
 use native.Mathlib.Nat.{mul-le-mul}
 use mathlib.Core.Path.{sym, ◌∙◌}

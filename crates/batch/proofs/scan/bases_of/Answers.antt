@@ -1,5 +1,4 @@
 -- `batch::scan::bases_of` meets its contract: the bases of a molecule that is held are a part of its block.
-use borrow.Author.Rules.{rules}
 use native.Mathlib.Omega.{arith}
 use Rattle.batch.proofs.MoleculeUse as molecules
 use Rattle.batch.proofs.scan.bases_of.Goals as goal

@@ -1,5 +1,4 @@
 -- `batch::scan::embeds_at` meets its contract: the bases and the mates of molecule d are what the walk asks for.
-use borrow.Author.Rules.{rules}
 use native.Mathlib.Omega.{arith}
 use Rattle.batch.proofs.MoleculeUse as molecules
 use Rattle.batch.proofs.scan.embeds_at.Goals as goal

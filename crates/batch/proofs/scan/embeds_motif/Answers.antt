@@ -1,6 +1,4 @@
 -- `batch::scan::embeds_motif` meets its contract: motif t with its own mates and tables is what the walk asks for.
-use borrow.Author.Rules.{rules}
-use native.Mathlib.Omega.{arith}
 use Rattle.batch.proofs.MotifUse as laws
 use Rattle.batch.proofs.scan.embeds_motif.Goals as goal
 

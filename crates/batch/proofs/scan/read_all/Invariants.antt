@@ -1,16 +1,11 @@
 -- `batch::scan::read_all` meets its contract: before number d the wanted molecules below d were read, and they are counted.
-use borrow.Author.Rules.{rules}
 use Prim.Native.Nat.{◌-◌, ◌≤◌}
-use native.Mathlib.Omega.{arith}
-use mathlib.Core.Path.{◌≡◌, refl, sym, ◌∙◌}
+use mathlib.Core.Path.{◌≡◌}
 use lib.ListN.{length}
 use Rattle.lists.specs.Vocabulary.{select}
 use Rattle.octets.specs.Octets.{map_bit}
 use Rattle.block.specs.Block.{block_count}
 use Rattle.batch.specs.Steps.{BondsTo}
-use Rattle.batch.proofs.JoinLaws.{at_most_one}
-use Rattle.batch.proofs.PlanLaws as counting
-use Rattle.batch.proofs.MoleculeUse as molecules
 use Rattle.batch.proofs.scan.read_all.Given as goal
 
 abbrev pub invariant-loop-d : goal.invariant-loop-d

@@ -1,10 +1,8 @@
 -- `batch::scan::read_at` meets its contract: the words read are the mates of molecule d, which is held, and those of the molecules before it stay.
-use borrow.Author.Rules.{rules}
 use native.Mathlib.Omega.{arith}
 use mathlib.Core.Path.{sym, ap, ◌∙◌}
 use mathlib.Core.Bool.{not}
 use lib.ListN.{length-drop, length-take}
-use borrow.Author.Tests.{not-true, not-false}
 use Rattle.lists.proofs.ListLaws.{choose_yes, choose_no}
 use Rattle.octets.specs.Octets.{map_bit}
 use Rattle.batch.proofs.MoleculeUse as molecules

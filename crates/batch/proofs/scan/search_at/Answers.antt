@@ -2,7 +2,6 @@
 use borrow.Author.Rules.{rules}
 use native.Mathlib.Omega.{arith}
 use mathlib.Core.Path.{sym, ◌∙◌}
-use borrow.Author.Tests.{not-true, not-false}
 use Rattle.batch.proofs.JoinLaws as laws
 use Rattle.batch.proofs.MoleculeUse.{was_read}
 use Rattle.batch.proofs.scan.search_at.Goals as goal

@@ -1,6 +1,5 @@
 -- `batch::scan::search_lent` meets its contract: the map of all numbers that are asked for says which molecules to read, and then each was read that a motif
 -- asks for.
-use borrow.Author.Rules.{rules}
 use Rattle.batch.proofs.MoleculeUse as molecules
 use Rattle.batch.proofs.scan.search_lent.Goals as goal
 

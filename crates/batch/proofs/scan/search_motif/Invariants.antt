@@ -1,8 +1,6 @@
 -- `batch::scan::search_motif` meets its contract: before number d the map of motif t has the hits below d.
-use borrow.Author.Rules.{rules}
 use Prim.Native.Nat.{◌-◌, ◌≤◌}
-use native.Mathlib.Omega.{arith}
-use mathlib.Core.Path.{◌≡◌, refl, sym, ◌∙◌}
+use mathlib.Core.Path.{◌≡◌}
 use mathlib.Core.Bool.{◌&&◌}
 use lib.Dec.{eqb, ltb}
 use lib.ListN.{length}
@@ -10,8 +8,6 @@ use Rattle.block.specs.Block.{block_count}
 use Rattle.calls.specs.Buffers.{molecule_at}
 use Rattle.motifs.specs.Unpacked.{TablesOf}
 use Rattle.batch.specs.Steps.{Joined, hits_in}
-use Rattle.batch.proofs.MotifUse.{ready_at}
-use Rattle.batch.proofs.JoinLaws as laws
 use Rattle.batch.proofs.scan.search_motif.Given as goal
 
 abbrev pub invariant-loop-d : goal.invariant-loop-d

@@ -1,13 +1,10 @@
 -- `batch::scan::unite` meets its contract: before motif t the map has the numbers of the maps before it.
-use borrow.Author.Rules.{rules}
 use Prim.Native.Nat.{◌*◌, ◌-◌, ◌≤◌}
-use native.Mathlib.Omega.{arith}
-use mathlib.Core.Path.{◌≡◌, sym, ap, ◌∙◌}
-use lib.ListN.{length, replicate}
+use mathlib.Core.Path.{◌≡◌}
+use lib.ListN.{length}
 use Rattle.lists.specs.Vocabulary.{some}
 use Rattle.octets.specs.Octets.{map_size, map_bit, map_bytes}
 use Rattle.block.specs.Block.{block_count}
-use Rattle.batch.proofs.JoinLaws as laws
 use Rattle.batch.proofs.scan.unite.Given as goal
 
 abbrev pub invariant-loop-t : goal.invariant-loop-t

@@ -1,6 +1,5 @@
 -- `search::maps::fill` meets its contract.
 -- The entry is sound, so `keeps` tells whether it keeps this motif; the numbers to be searched and the known hits are then those of the calls' definitions.
-use borrow.Author.Rules.{rules}
 use mathlib.Core.Path.{◌∙◌}
 use Rattle.strand.specs.Strands.{strand_of}
 use Rattle.block.proofs.ContentLaws.{entry_size}

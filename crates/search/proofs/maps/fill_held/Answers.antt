@@ -1,12 +1,11 @@
 -- `search::maps::fill_held` meets its contract.
 -- Invariant: the map has the bits of the held numbers below d. Past the last block none is held, so at the end it has all of them.
 use borrow.Author.Rules.{rules}
-use Prim.Native.Nat.{ℕ, ◌-◌, ◌≤◌}
+use Prim.Native.Nat.{ℕ}
 use native.Mathlib.Omega.{arith}
-use mathlib.Core.Path.{◌≡◌, sym, ap, ◌∙◌}
+use mathlib.Core.Path.{sym, ap, ◌∙◌}
 use mathlib.Core.Bool.{false}
-use lib.ListN.{length, replicate}
-use Rattle.octets.specs.Octets.{map_bytes}
+use lib.ListN.{replicate}
 use Rattle.block.specs.Block.{block_count}
 use Rattle.calls.specs.Buffers.{held as held_in}
 use Rattle.calls.proofs.JudgeLaws.{above_not_held}

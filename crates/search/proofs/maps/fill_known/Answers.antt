@@ -1,9 +1,7 @@
 -- `search::maps::fill_known` meets its contract: of the held numbers those that an entry of this motif has searched and found; none of another motif's.
-use borrow.Author.Rules.{rules}
 use Prim.Native.Nat.{ℕ}
 use mathlib.Core.Path.{ap, ◌∙◌}
 use lib.ListN.{replicate}
-use borrow.Author.Tests.{not-true, not-false}
 use Rattle.search.proofs.KnownLaws as laws
 use Rattle.search.proofs.maps.fill_known.Goals as goal
 

@@ -1,5 +1,4 @@
 -- `search::maps::fill_todo` meets its contract: all held numbers, but for those that an entry of this motif has searched.
-use borrow.Author.Rules.{rules}
 use native.Mathlib.Omega.{arith}
 use Rattle.search.proofs.KnownLaws as laws
 use Rattle.search.proofs.maps.fill_todo.Goals as goal

@@ -1,6 +1,5 @@
 -- `search::maps::mark` meets its contract.
 -- The bit is set, or the map left.
-use borrow.Author.Rules.{rules}
 use mathlib.Core.Path.{sym, ◌∙◌}
 use Rattle.lists.proofs.ListLaws.{choose_yes, choose_no}
 use Rattle.search.proofs.maps.mark.Goals as goal

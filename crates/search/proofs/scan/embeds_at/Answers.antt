@@ -1,6 +1,5 @@
 -- `search::scan::embeds_at` meets its contract.
 -- The decoder leaves the molecule at the start of the two slices, and the walk, whose rules it meets, reads just that.
-use borrow.Author.Rules.{rules}
 use native.Mathlib.Omega.{arith}
 use mathlib.Core.Path.{sym}
 use lib.ListN.{length}

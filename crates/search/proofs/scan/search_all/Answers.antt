@@ -1,19 +1,14 @@
 -- `search::scan::search_all` meets its contract.
 -- Invariant `Searched`: the map has the hits known before and those below d, and the numbers below d that were to be searched are counted. No number
 -- from the last block on is to be searched.
-use borrow.Author.Rules.{rules}
-use Prim.Native.Nat.{◌-◌}
 use native.Mathlib.Omega.{arith}
-use mathlib.Core.Path.{◌≡◌, refl, sym, ap, ◌∙◌}
+use mathlib.Core.Path.{refl, sym, ap, ◌∙◌}
 use lib.ListN.{length}
 use Rattle.strand.specs.Strands.{strand_of}
 use Rattle.octets.specs.Octets.{map_bit}
 use Rattle.block.specs.Block.{block_count}
-use Rattle.block.specs.Content.{block_bases}
 use Rattle.embedding.specs.Longest.{embeds}
-use Rattle.walk.specs.Walk.{TablesFor}
 use Rattle.calls.specs.Buffers.{molecule_at}
-use Rattle.search.proofs.ReadyLaws as ready
 use Rattle.search.proofs.ListingLaws.{count_short}
 use Rattle.search.proofs.ScanLaws as laws
 use Rattle.search.proofs.scan.search_all.Goals as goal
