@@ -16,7 +16,8 @@ use Rattle.embedding.specs.Longest.{embeds}
 use Rattle.calls.specs.Buffers.{clean_cache, Usable}
 use Rattle.calls.specs.Calls.{QueryEffect, slot_in, to_search, query_accepted}
 use Rattle.calls.specs.Motifs.{motif_of}
-use Rattle.calls.specs.Batch.{batch_verdict, BatchState, batch_state, batch_to, query_at, searches_at, read_list, batch_answer, batched, batch_outcome, count_of}
+use Rattle.calls.specs.Batch.{batch_verdict, BatchState, batch_state, batch_to, query_at, searches_at, read_list}
+use Rattle.calls.specs.Batch.{batch_answer, batched, batch_outcome, count_of}
 use Rattle.calls.specs.Batch.{searched_of}
 use Rattle.calls.specs.declared.BatchRead.TheVariants.{Molecules}
 use Rattle.calls.proofs.ReadingLaws.{clean_same}

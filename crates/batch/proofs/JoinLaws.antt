@@ -219,7 +219,8 @@ module _ (todo : List ℕ) where
   unite_next t w w' e k =
       k
       ∙ map_ext _ _ (λ d l.
-      ap (λ (x : Bool). x || map_bit todo (map_size * t) d) (ap (λ (m : List ℕ). map_bit m 0 d) e ∙ map_bit_lem (λ d. some t (λ u. map_bit todo (map_size * u) d)) d l)
+      ap (λ (x : Bool). x || map_bit todo (map_size * t) d) (ap (λ (m : List ℕ). map_bit m 0 d) e
+        ∙ map_bit_lem (λ d. some t (λ u. map_bit todo (map_size * u) d)) d l)
       ∙ or_comm (some t (λ u. map_bit todo (map_size * u) d)) (map_bit todo (map_size * t) d)
       ∙ more (λ u. map_bit todo (map_size * u) d))
     where

@@ -63,7 +63,8 @@ module _ (motifs mates : List ℕ) (t : ℕ) (U : UsableMotifs motifs) (M : Mate
         → TablesFor p (between (most_motif_bases * t) (most_motif_bases * t + length p) mates) (length q) r
         → TablesOf motifs (put_mid (tables_size * t) (tables_size * t + tables_size - tables_size * t) tables r)
     tables_back r size N =
-        let back : TablesOf motifs (put_piece tables_size t r tables) = record { size = length_pieces tables_size t r tables wide fits ∙ T.size; each = each } in
+        let back : TablesOf motifs (put_piece tables_size t r tables) = record { size = length_pieces tables_size t r tables wide fits ∙ T.size; each =
+          each } in
         rw (piece_back tables_size t tables r) back
       where
         fits : tables_size * t + tables_size ≤ length tables

@@ -106,7 +106,8 @@ module _ (motifs h cache : List ℕ) where
 
   -- map t came back as r
   pub plan_next : (t : ℕ) (c todo r : List ℕ) → t < 16 → PlannedTo motifs h cache todo t → c ≡ planned_after motifs h cache t
-      → r ≡ map_bytes (planned_by h c (motif_of motifs t)) → PlannedTo motifs h cache (put_mid (map_size * t) (map_size * t + map_size - map_size * t) todo r) (t + 1)
+      → r ≡ map_bytes (planned_by h c (motif_of motifs t)) → PlannedTo motifs h cache (put_mid (map_size * t) (map_size * t + map_size - map_size * t) todo
+        r) (t + 1)
   plan_next t c todo r few P ec er =
       let next : PlannedTo motifs h cache (put_piece map_size t r todo) (t + 1)
       = record { size = length_pieces map_size t r todo wide fits ∙ P.size; each = each } in
@@ -118,7 +119,8 @@ module _ (motifs h cache : List ℕ) where
       wide : length r ≡ map_size
       wide = ap length er ∙ length_map (planned_by h c (motif_of motifs t))
 
-      each : (u : ℕ) → u < t + 1 → piece map_size u (put_piece map_size t r todo) ≡ map_bytes (planned_by h (planned_after motifs h cache u) (motif_of motifs u))
+      each : (u : ℕ) → u < t + 1 → piece map_size u (put_piece map_size t r todo)
+        ≡ map_bytes (planned_by h (planned_after motifs h cache u) (motif_of motifs u))
       each u l =
           elim (ℕ_discrete u t) [
             | yes x ↦ rw x (piece_there map_size t r todo wide fits ∙ er ∙ ap (λ (w : List ℕ). map_bytes (planned_by h w (motif_of motifs t))) ec)

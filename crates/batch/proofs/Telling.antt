@@ -27,7 +27,8 @@ use Rattle.calls.specs.Buffers.{held, molecule_at, slot_of}
 use Rattle.calls.specs.Calls.{slot_in, is_known, to_search, is_hit, QueryEffect, query_accepted}
 use Rattle.calls.specs.Statements.{AllSound}
 use Rattle.calls.specs.Motifs.{motif_of}
-use Rattle.calls.specs.Batch.{batch_verdict, batch_state, batch_to, query_at, searches_at, read_list, batch_answer, count_of, searched_of, batched, batch_outcome}
+use Rattle.calls.specs.Batch.{batch_verdict, batch_state, batch_to, query_at, searches_at, read_list, batch_answer}
+use Rattle.calls.specs.Batch.{count_of, searched_of, batched, batch_outcome}
 use Rattle.calls.proofs.CallLaws.{entry_known}
 use Rattle.calls.proofs.MotifLaws.{motif_proper, motif_verdict_lem}
 use Rattle.calls.proofs.ReadingLaws.{clean_same}
@@ -163,7 +164,8 @@ module _ (catalog cache motifs : List ℕ) (work : ℕ) (hits : List ℕ) (e : b
   alike (suc t) l = alike_next t (omega arith) (alike t (omega arith))
 
   -- So the plan tells what query t has to search.
-  planned_is : (t d : ℕ) → t < block_count motifs → d < 512 → planned_by h (copy t) (p t) d ≡ searches_at embeds catalog motifs work (batch_state cache hits) t d
+  planned_is : (t d : ℕ) → t < block_count motifs → d < 512 → planned_by h (copy t) (p t) d
+    ≡ searches_at embeds catalog motifs work (batch_state cache hits) t d
   unfolding planned_by to_search
   planned_is t d l k =
       let A = alike t (omega arith) in
@@ -216,7 +218,8 @@ module _ (catalog cache motifs : List ℕ) (work : ℕ) (hits : List ℕ) (e : b
     query_searched t l = ap (λ (x : QueryEffect). searched_of x.answer) (batch.query_at_is embeds catalog motifs work cache hits e t l)
 
     searched_is : (t : ℕ) → t < block_count motifs
-        → length (select (block_count catalog) (map_bit todo (map_size * t))) ≡ searched_of (query_at embeds catalog motifs work (batch_state cache hits) t).answer
+        → length (select (block_count catalog) (map_bit todo (map_size * t)))
+          ≡ searched_of (query_at embeds catalog motifs work (batch_state cache hits) t).answer
     searched_is t l =
         ap length (select_ext (block_count catalog) _ _ (λ d k.
         asked_is t d l (omega (arith, few)) ∙ batch.searches_is embeds catalog motifs work cache hits e t d (omega arith)))

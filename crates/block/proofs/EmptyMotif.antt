@@ -31,13 +31,15 @@ entry searched hits = refl
 
 kept : (searched hits : ℕ → Bool) → keeps_motif (encode_entry empty_motif searched hits) empty_motif ≡ true
 unfolding keeps_motif same_strand same_list
-kept searched hits = rw (law.entry_full empty_motif (empty_proper entry_bases) searched hits, law.entry_motif empty_motif (empty_proper entry_bases) searched hits)
+kept searched hits = rw (law.entry_full empty_motif (empty_proper entry_bases) searched hits,
+  law.entry_motif empty_motif (empty_proper entry_bases) searched hits)
 
 -- The mates of an entry are as many as its length says.
 other_length : (s : List ℕ) → (length_in s ≡ 0 → ⊥) → keeps_motif s empty_motif ≡ false
 unfolding keeps_motif motif_in strand_in
 other_length s some =
-    ⊎_elim (λ e. absurd (some (none (same_strand_eq (motif_in s) empty_motif (and_right (not (is_empty s)) _ e))))) (λ e. e) (by_bool (keeps_motif s empty_motif))
+    ⊎_elim (λ e. absurd (some (none (same_strand_eq (motif_in s) empty_motif (and_right (not (is_empty s)) _ e))))) (λ e. e) (by_bool (keeps_motif s
+      empty_motif))
   where
     none : motif_in s ≡ empty_motif → length_in s ≡ 0
     none e = sym (length_tab _ (length_in s)) ∙ ap (λ (q : Strand). length q.mates) e

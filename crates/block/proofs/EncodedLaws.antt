@@ -248,7 +248,8 @@ module _ (s : List ℕ) (small : Bytes s) (hs : length s ≡ 512) (ok : checksum
       ap with_checksum (content_again k s h2 ha (omega arith) c small ∙ ap (λ (n : ℕ). take n s) he) ∙ checksum_again s small hs ok
 
   pub entry_same : Content entry_kind s
-      → entry_with (own_in entry_kind s) (strand_in entry_kind s).bases (strand_in entry_kind s).mates (map_bytes (map_bit s 380)) (map_bytes (map_bit s 444)) ≡ s
+      → entry_with (own_in entry_kind s) (strand_in entry_kind s).bases (strand_in entry_kind s).mates (map_bytes (map_bit s 380)) (map_bytes (map_bit s
+        444)) ≡ s
   unfolding entry_with
   entry_same c =
       ap₂ (λ (x y : List ℕ). with_checksum (x ++ y))

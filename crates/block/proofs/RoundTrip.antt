@@ -233,7 +233,8 @@ unfolding checksum_ok with_checksum checksum_of word32
 check_sound p hp small =
     eq-eqb _ _ (sum_append p _ 508 (omega arith)
     ∙ sym (word_check (sum_to p 508) (omega (arith, sum_small p 508 small (omega arith))))
-    ∙ sym (rw (get_d_after p q 508 0 (omega arith), get_d_after p q 509 1 (omega arith), get_d_after p q 510 2 (omega arith), get_d_after p q 511 3 (omega arith))))
+    ∙ sym (rw (get_d_after p q 508 0 (omega arith), get_d_after p q 509 1 (omega arith), get_d_after p q 510 2 (omega arith),
+      get_d_after p q 511 3 (omega arith))))
   where
     q : List ℕ
     q = bytes32 (sum_to p 508)

@@ -73,7 +73,8 @@ EntryAltered s = (i v : ℕ) → i < block_size → (nth s i ≡ v → ⊥) → 
 pub record EmptyMotifBlocks : Type 0 where
   -- "It is kept with length 0": byte 0 is 2; byte 1, the length, and all else before the maps is 0. The entry is sound and keeps it. No entry of another length
   -- keeps it, and an empty block keeps no motif, and so not this one.
-  pub entry : (searched hits : ℕ → Bool) → encode_entry empty_motif searched hits ≡ with_checksum ((2 ∷ replicate 379 0) ++ map_bytes searched ++ map_bytes hits)
+  pub entry : (searched hits : ℕ → Bool) → encode_entry empty_motif searched hits
+    ≡ with_checksum ((2 ∷ replicate 379 0) ++ map_bytes searched ++ map_bytes hits)
   pub kept : (searched hits : ℕ → Bool) → keeps_motif (encode_entry empty_motif searched hits) empty_motif ≡ true
   pub sound : (searched hits : ℕ → Bool) → ((d : ℕ) → d < map_bits → hits d ≡ true → searched d ≡ true)
       → sound_entry (encode_entry empty_motif searched hits) ≡ true

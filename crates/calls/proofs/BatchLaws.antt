@@ -269,7 +269,8 @@ module _ (embeds : Strand → Strand → Bool) (catalog motifs : List ℕ) (work
 
     pub query_at_is : (t : ℕ) → t < K
         → query t
-        ≡ query_accepted embeds catalog (clean_to t) (block_of (slot_in (clean_to t) (motif_of motifs t)) (clean_to t)) (slot_in (clean_to t) (motif_of motifs t))
+        ≡ query_accepted embeds catalog (clean_to t) (block_of (slot_in (clean_to t) (motif_of motifs t)) (clean_to t)) (slot_in (clean_to t) (motif_of
+          motifs t))
         (motif_of motifs t) (piece B t (to t).hits)
     unfolding query_at batch_query
     query_at_is t l =

@@ -16,7 +16,8 @@ use Rattle.strand.specs.Strands.{Strand, empty_motif, key, same_strand, Proper, 
 use Rattle.strand.proofs.Claims as strand
 use Rattle.refusals.specs.Rules.{motif_side, no_side, wrong_slice, first, refuse_if, work_rule}
 use Rattle.lists.proofs.ListLaws.{and_true, by_bool, same_refl, choose_yes, choose_no}
-use Rattle.block.specs.Content.{block_size, searched_at, hit_at, empty_block, is_empty, molecule_in, motif_in, searched_in, hit_in, keeps_motif, encode_molecule}
+use Rattle.block.specs.Content.{block_size, searched_at, hit_at, empty_block, is_empty, molecule_in, motif_in}
+use Rattle.block.specs.Content.{searched_in, hit_in, keeps_motif, encode_molecule}
 use Rattle.block.specs.Content.{encode_entry}
 use Rattle.octets.specs.Octets.{without, map_bit, Bytes}
 use Rattle.octets.proofs.ByteLaws.{small_zeros, small_between}
@@ -139,7 +140,8 @@ module _ (b : List ℕ) (d : ℕ) (ok : sound_entry b ≡ true) (small : Bytes b
       ⊎_elim
       (λ (e : is_empty b ≡ true). rw (law.empty_is b (law.entry_size b ok) e, leaf.empty_forgot d) leaf.empty_entry)
       (λ (e : is_empty b ≡ false). rw (forgot_is e)
-      (law.entry_sound_below (motif_in b) (law.entry_proper b ok e) _ _ (λ x m. without_yes d x (hit_in b) (searched_in b) (law.entry_hit_searched b ok e x m))))
+      (law.entry_sound_below (motif_in b) (law.entry_proper b ok e) _ _ (λ x m. without_yes d x (hit_in b) (searched_in b) (law.entry_hit_searched b ok e x
+        m))))
       (by_bool (is_empty b))
 
 -- a cleaned block of bytes is bytes
@@ -197,14 +199,16 @@ module _ (p : Strand) (good : Proper motif_side least_motif most_motif_bases p.b
   entry_keeps_lem = rw (law.entry_full p good searched hits, law.entry_motif p good searched hits, same_refl p.bases, same_refl p.mates)
 
 module _ (embeds : Strand → Strand → Bool) where
-  pub hit_known : (catalog entry : List ℕ) (p : Strand) (d : ℕ) → is_known entry p d ≡ true → is_hit embeds catalog entry p d ≡ (held catalog d && hit_in entry d)
+  pub hit_known : (catalog entry : List ℕ) (p : Strand) (d : ℕ) → is_known entry p d ≡ true → is_hit embeds catalog entry p d
+    ≡ (held catalog d && hit_in entry d)
   unfolding is_hit
   hit_known catalog entry p d e = ap (λ (t : Bool). held catalog d && t) (choose_yes (is_known entry p d) (hit_in entry d) (embeds p (molecule_at catalog d)) e)
 
   pub hit_unknown : (catalog entry : List ℕ) (p : Strand) (d : ℕ) → is_known entry p d ≡ false
       → is_hit embeds catalog entry p d ≡ (held catalog d && embeds p (molecule_at catalog d))
   unfolding is_hit
-  hit_unknown catalog entry p d e = ap (λ (t : Bool). held catalog d && t) (choose_no (is_known entry p d) (hit_in entry d) (embeds p (molecule_at catalog d)) e)
+  hit_unknown catalog entry p d e = ap (λ (t : Bool). held catalog d && t) (choose_no (is_known entry p d) (hit_in entry d) (embeds p (molecule_at catalog
+    d)) e)
 
   hit_held : (catalog entry : List ℕ) (p : Strand) (d : ℕ) → is_hit embeds catalog entry p d ≡ true → held catalog d ≡ true
   unfolding is_hit

@@ -8,7 +8,8 @@ use lib.ListN.{length}
 use lib.Dec.{eqb, ltb, leb}
 use borrow.Author.Tests.{eqb-true, leb-true, leb-false, ltb-false, ltb-true}
 use Rattle.strand.specs.Strands.{Strand, Proper, least_motif, least_molecule, strand_verdict}
-use Rattle.refusals.specs.Rules.{motif_side, molecule_side, no_side, wrong_slice, not_whole_blocks, unsound_block, number_too_large, already_held, not_held, work_too_short}
+use Rattle.refusals.specs.Rules.{motif_side, molecule_side, no_side, wrong_slice, not_whole_blocks, unsound_block}
+use Rattle.refusals.specs.Rules.{number_too_large, already_held, not_held, work_too_short}
 use Rattle.refusals.specs.Rules.{refuse_if, refuse_at_lowest, work_size}
 use Rattle.lists.proofs.ListLaws.{and_true, not_not, true_not}
 use Rattle.refusals.proofs.RuleLaws.{first_pass, rule_pass, rule_at_pass}

@@ -153,7 +153,8 @@ module _ (catalog cache : List ℕ) (p : Strand) (work room : ℕ) where
           sym (first_skip _ _ buffers ∙ first_skip _ _ motif ∙ first_stop _ _ _ (rule_yes wrong_slice no_side _ (lt-ltb room (block_count catalog) h)))
 
       module _ (fits : block_count catalog ≤ room) where
-        pub query_short_work : work < work_size (length p.bases) most_molecule_bases → refusal work_too_short no_side 0 ≡ query_verdict catalog cache p work room
+        pub query_short_work : work < work_size (length p.bases) most_molecule_bases → refusal work_too_short no_side 0
+          ≡ query_verdict catalog cache p work room
         unfolding query_verdict motif_verdict work_verdict
         query_short_work h =
             sym (first_skip _ _ buffers ∙ first_skip _ _ motif ∙ first_skip _ _ (rule_no wrong_slice no_side _ (le-ltb room (block_count catalog) fits))

@@ -85,7 +85,8 @@ module _ (cache : List ℕ) (n : ℕ) (len : length cache ≡ block_size * n) wh
 
   pub forgot_block : (d s : ℕ) → s < n → block_of s (each_block (forgot d) (clean_cache cache)) ≡ forgot d (cleaned (block_of s cache))
   forgot_block d s l =
-      block_each (forgot d) (length_forgot d) s (clean_cache cache) (omega (arith, count_is (clean_cache cache) n clean_length)) ∙ ap (forgot d) (clean_block s l)
+      block_each (forgot d) (length_forgot d) s (clean_cache cache) (omega (arith, count_is (clean_cache cache) n clean_length))
+        ∙ ap (forgot d) (clean_block s l)
 
 -- buffers with the same blocks are the same
 same_blocks : (a b : List ℕ) (n : ℕ) → length a ≡ block_size * n → length b ≡ block_size * n → ((s : ℕ) → s < n → block_of s a ≡ block_of s b) → a ≡ b

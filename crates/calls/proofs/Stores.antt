@@ -10,7 +10,8 @@ use lib.Dec.{leb, ltb}
 use lib.ListN.{length, replicate, length-replicate}
 use borrow.Author.Tests.{le-ltb}
 use Rattle.strand.specs.Strands.{Strand}
-use Rattle.refusals.specs.Rules.{no_side, wrong_slice, not_whole_blocks, unsound_block, number_too_large, already_held, not_held, first, refuse_if, refuse_at_lowest}
+use Rattle.refusals.specs.Rules.{no_side, wrong_slice, not_whole_blocks, unsound_block, number_too_large, already_held}
+use Rattle.refusals.specs.Rules.{not_held, first, refuse_if, refuse_at_lowest}
 use Rattle.refusals.proofs.RuleLaws.{first_skip, first_one, first_stop}
 use Rattle.block.specs.Content.{block_size}
 use Rattle.block.specs.Block.{block_count}

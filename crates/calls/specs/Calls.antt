@@ -5,7 +5,8 @@ use Rattle.lists.specs.Vocabulary.{choose, select}
 use Rattle.strand.specs.declared.Fold.{Fold}
 use Rattle.strand.specs.Folds.{fold_of, IsFold}
 use Rattle.strand.specs.Strands.{Strand, Proper, least_motif, least_molecule}
-use Rattle.refusals.specs.Rules.{motif_side, molecule_side, no_side, wrong_slice, number_too_large, already_held, not_held, first, refuse_if, by_verdict, work_size}
+use Rattle.refusals.specs.Rules.{motif_side, molecule_side, no_side, wrong_slice, number_too_large, already_held, not_held}
+use Rattle.refusals.specs.Rules.{first, refuse_if, by_verdict, work_size}
 use Rattle.block.specs.Block.{block_of, forgot, block_count, each_block, put_block}
 use Rattle.block.specs.Content.{empty_block, encode_molecule, encode_entry, keeps_motif, searched_in, hit_in}
 use Rattle.refusals.specs.declared.Verdict.{Verdict}

@@ -9,7 +9,8 @@ ghost use Rattle.matcher.specs.Answers.{length_verdict, length_answer, show_verd
 ghost use Rattle.window.specs.Answers.{window_answer};
 ghost use Rattle.calls.specs.Calls.{effect, add_outcome, remove_outcome, query_verdict, query_outcome};
 ghost use Rattle.calls.specs.Batch.{batch_verdict, batch_outcome};
-ghost use Rattle.interface.specs.Interface.{check_in_c, match_in_c, window_in_c, verify_in_c, add_in_c, remove_in_c, effect_in_c, queried_in_c, query_effect_in_c};
+ghost use Rattle.interface.specs.Interface.{check_in_c, match_in_c, window_in_c, verify_in_c, add_in_c, remove_in_c};
+ghost use Rattle.interface.specs.Interface.{effect_in_c, queried_in_c, query_effect_in_c};
 ghost use Rattle.interface.specs.Interface.{batched_in_c, batch_effect_in_c};
 
 use interface::{Answer, BatchAnswer, WindowAnswer, answers};

@@ -160,7 +160,8 @@ module _ (s bases mates : List ℕ) where
         ap (λ (w : Decoded). w.mates) p ∙ ap (λ (n : ℕ). (molecule_in s).mates ++ drop n mates) (sym k),
       )
 
-  pub decoded_there : (r : ℕ) (x y : List ℕ) → sound_molecule s ≡ true → 160 ≤ length bases → 160 ≤ length mates → decoded r x y ≡ molecule_decoded s bases mates
+  pub decoded_there : (r : ℕ) (x y : List ℕ) → sound_molecule s ≡ true → 160 ≤ length bases → 160 ≤ length mates → decoded r x y
+    ≡ molecule_decoded s bases mates
       → (r ≡ length (molecule_in s).bases) × (x ≡ (molecule_in s).bases ++ drop r bases) × (y ≡ (molecule_in s).mates ++ drop r mates)
   decoded_there r x y ok hb hm q = laid_there r x y (molecule_size s ok) (molecule_fits s ok) hb hm q
 

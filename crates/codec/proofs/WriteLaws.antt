@@ -49,7 +49,8 @@ unfolding entry_with
 entry_parts bases mates m₁ m₂ t x y r hb hm h₁ h₂ ht ex ey er =
     let lc : length (content_of entry_kind [] bases mates) ≡ 380 = length_content entry_kind [] bases mates (omega arith) hb hm in
     let x' : x ≡ content_of entry_kind [] bases mates ++ m₁ ++ drop 64 t = ex ∙ put_next 380 444 (content_of entry_kind [] bases mates) t lc m₁ in
-    let l₁ : length (content_of entry_kind [] bases mates ++ m₁) ≡ 444 = length-append (content_of entry_kind [] bases mates) m₁ ∙ ap₂ (λ (a b : ℕ). a + b) lc h₁ in
+    let l₁ : length (content_of entry_kind [] bases mates ++ m₁) ≡ 444 = length-append (content_of entry_kind [] bases mates) m₁
+      ∙ ap₂ (λ (a b : ℕ). a + b) lc h₁ in
     let y' : y ≡ content_of entry_kind [] bases mates ++ m₁ ++ m₂ ++ drop 64 (drop 64 t)
     = ey ∙ ap (λ (l : List ℕ). put_mid 444 64 l m₂) x' ∙ put_next 444 508 (content_of entry_kind [] bases mates ++ m₁) (drop 64 t) l₁ m₂ in
     let l₂ : length (content_of entry_kind [] bases mates ++ m₁ ++ m₂) ≡ 508 = length-append (content_of entry_kind [] bases mates ++ m₁) m₂
@@ -58,7 +59,8 @@ entry_parts bases mates m₁ m₂ t x y r hb hm h₁ h₂ ht ex ey er =
     (ap length y' ∙ length-append (content_of entry_kind [] bases mates ++ m₁ ++ m₂) (drop 64 (drop 64 t))
     ∙ ap₂ (λ (a b : ℕ). a + b) l₂ (length-drop 64 (drop 64 t) ∙ ap (λ (k : ℕ). k - 64) (length-drop 64 t ∙ ap (λ (k : ℕ). k - 64) ht))) y' er
 
-pub entry_put_lem : (bases mates m₁ m₂ s c n₁ n₂ r : List ℕ) → length s ≡ 512 → length bases ≤ 120 → length mates ≡ length bases → length m₁ ≡ 64 → length m₂ ≡ 64
+pub entry_put_lem : (bases mates m₁ m₂ s c n₁ n₂ r : List ℕ) → length s ≡ 512 → length bases ≤ 120 → length mates ≡ length bases → length m₁ ≡ 64 → length m₂
+  ≡ 64
     → c ≡ content_of entry_kind [] bases mates ++ drop 380 s → n₁ ≡ m₁ → n₂ ≡ m₂
     → r ≡ rechecked (put_mid 444 64 (put_mid 380 64 c n₁) n₂) → r ≡ entry_with [] bases mates m₁ m₂
 entry_put_lem bases mates m₁ m₂ s c n₁ n₂ r hs hb hm h₁ h₂ ec e₁ e₂ er =

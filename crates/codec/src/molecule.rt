@@ -29,7 +29,8 @@ pub fn encode_molecule(s: &mut [u8], bases: &[u8], mates: &[u16]) -> bool
 
 // The bases and mates of a block into the start of the borrowed slices; how many there are. `decode_molecule` meets the requires.
 fn decode(s: &[u8], start: usize, most: usize, bases: &mut [u8], mates: &mut [u16]) -> usize
-    requires { (length s.now ≡ block_size) × (start + 3 * most ≤ checksum_at) × (length_in s.now ≤ most) × (length_in s.now ≤ length bases.old) × (length_in s.now ≤ length mates.old) }
+    requires { (length s.now ≡ block_size) × (start + 3 * most ≤ checksum_at) × (length_in s.now ≤ most) × (length_in s.now ≤ length bases.old)
+        × (length_in s.now ≤ length mates.old) }
     ensures { (result ≡ length_in s.now) × (bases.new ≡ between start (start + length_in s.now) s.now ++ drop result bases.old)
         × (mates.new ≡ words (length_in s.now) (drop (start + most) s.now) ++ drop result mates.old) }
 {

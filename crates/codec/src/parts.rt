@@ -57,7 +57,8 @@ pub(crate) fn put_content(
     bases: &[u8],
     mates: &[u16],
 )
-    requires { (2 + length own.now ≤ start) × (most ≤ block_bases) × (start + 3 * most ≤ length s.old) × (start + 3 * most ≤ checksum_at) × (length bases.now ≤ most) × (length mates.now ≡ length bases.now) }
+    requires { (2 + length own.now ≤ start) × (most ≤ block_bases) × (start + 3 * most ≤ length s.old) × (start + 3 * most ≤ checksum_at)
+        × (length bases.now ≤ most) × (length mates.now ≡ length bases.now) }
     ensures { s.new ≡ head_of start mark (length bases.now) own.now ++ padded most bases.now ++ padded (2 * most) (bytes_of mates.now)
         ++ drop (start + 3 * most) s.old }
 {

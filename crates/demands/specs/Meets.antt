@@ -26,7 +26,8 @@ use Rattle.calls.specs.declared.Queried.{Queried}
 use Rattle.calls.specs.declared.Queried.TheVariants as queries
 use Rattle.calls.specs.declared.Batched.{Batched}
 use Rattle.calls.specs.declared.BatchRead.TheVariants as batches
-use Rattle.calls.specs.Calls.{effect, add_verdict, add_outcome, remove_verdict, remove_outcome, queried, query_verdict, query_outcome, add_result, remove_result}
+use Rattle.calls.specs.Calls.{effect, add_verdict, add_outcome, remove_verdict, remove_outcome, queried}
+use Rattle.calls.specs.Calls.{query_verdict, query_outcome, add_result, remove_result}
 use Rattle.calls.specs.Calls.{query_result, AddSays}
 use Rattle.calls.specs.Batch.{batched, batch_verdict, batch_outcome, batch_result}
 use Rattle.calls.specs.BatchStatements.{BatchLeaves, IsQuery}

@@ -189,7 +189,8 @@ module _ (motifs : List ℕ) (work room number side place : ℕ) where
 -- ---- the motifs of the rows
 
 motifs_ok : (motif_verdict a ≡ Accepted) × (motif_verdict bonded ≡ Accepted) × (motif_verdict unbonded ≡ Accepted)
-unfolding motif_verdict strand_verdict first refuse_if refuse_at_lowest choose some lowest_from lowest is_letter not_letter mate_outside not_mutual crosses crossed_at
+unfolding motif_verdict strand_verdict first refuse_if refuse_at_lowest choose some lowest_from lowest is_letter not_letter mate_outside not_mutual crosses
+    crossed_at
 motifs_ok = (refl, refl, refl)
 
 two_counted : (p q : Strand) → motif_verdict p ≡ Accepted → motif_verdict q ≡ Accepted → Counted (handed_in p q) 2
@@ -251,7 +252,8 @@ unsound_third = by_motifs _ 0 0 15 motif_side 2 (none_behind (handed_in a a) not
     none = ap holds_motif (take_at altered empty_block block_size altered_length) ∙ altered_unsound
 
 pub long_second : ByModel (refused_batch (handed_in bonded long) 0 0 3 motif_side 1)
-unfolding strand_verdict first refuse_if refuse_at_lowest choose some lowest_from lowest tab is_letter not_letter mate_outside not_mutual crosses crossed_at long
+unfolding strand_verdict first refuse_if refuse_at_lowest choose some lowest_from lowest tab is_letter not_letter mate_outside not_mutual crosses crossed_at
+    long
 long_second = by_motifs _ 0 0 3 motif_side 1 (long_behind bonded motifs_ok.1 long refl (omega arith))
 
 pub few_hits_lem : ByModel (refused_batch sixteen 0 31 9 no_side 0)
@@ -293,8 +295,9 @@ four_3 : motif_of four_motifs 3 ≡ bonded
 four_3 = motif_behind _ _ 2 2 front back 1 (omega arith) ∙ handed_1 unbonded bonded motifs_ok.2 motifs_ok.1
 
 pub together : ByModel together_story
-unfolding together_story admitted admitted_from at_most_once model_log results_of embeds longest largest prefix_ok closed_to places_ok letters_match choose every some
-    lowest_from lowest select some_list tab total same_list same_strand key first refuse_if refuse_at_lowest strand_verdict is_letter not_letter mate_outside
-    not_mutual crosses crossed_at molecule_verdict motif_verdict work_verdict longest_to slot_of refused_by by_verdict ends_period start put_at is_held held_in known_in
-    dropped in_range model_verdict embeds_at hit_list searches search_list asked asked_to found_by read_by model_answer model_next model_result model_after without
+unfolding together_story admitted admitted_from at_most_once model_log results_of embeds longest largest prefix_ok closed_to places_ok letters_match choose
+    every some lowest_from lowest select some_list tab total same_list same_strand key first refuse_if refuse_at_lowest strand_verdict is_letter not_letter
+    mate_outside not_mutual crosses crossed_at molecule_verdict motif_verdict work_verdict longest_to slot_of refused_by by_verdict ends_period start put_at
+    is_held held_in known_in dropped in_range model_verdict embeds_at hit_list searches search_list asked asked_to found_by read_by model_answer model_next
+    model_result model_after without
 together = rw (usable_motifs four_motifs four.usable, four.count, four_0, four_1, four_2, four_3) (refl, refl)

@@ -10,7 +10,8 @@ use Rattle.history.specs.Examples.{bonded}
 use Rattle.strand.specs.Strands.{strand_of, empty_motif}
 use Rattle.block.specs.Motif.{encode_motif}
 use Rattle.block.proofs.Claims as block
-use Rattle.examples.specs.Table.{a, bytes_of_a, bytes_of_t, bytes_of_gc, was_searched, was_hit, bytes_of_entry, bytes_of_empty_motif, bytes_of_empty_motif_entry}
+use Rattle.examples.specs.Table.{a, bytes_of_a, bytes_of_t, bytes_of_gc, was_searched, was_hit}
+use Rattle.examples.specs.Table.{bytes_of_entry, bytes_of_empty_motif, bytes_of_empty_motif_entry}
 
 pub a_bytes : encode_molecule a ≡ bytes_of_a
 unfolding bytes_of_a encode_molecule strand_block content_of bytes_of weighed

@@ -45,7 +45,8 @@ uneven_refused c = by_run uneven c _ (not_whole (call c ∷ []) uneven _ (inr od
     odd e = omega (arith, length-replicate {A = ℕ} 513 0)
 
 pub a_accepted : molecule_verdict a ≡ Accepted
-unfolding molecule_verdict strand_verdict first refuse_if refuse_at_lowest choose some lowest_from lowest is_letter not_letter mate_outside not_mutual crosses crossed_at
+unfolding molecule_verdict strand_verdict first refuse_if refuse_at_lowest choose some lowest_from lowest is_letter not_letter mate_outside not_mutual crosses
+    crossed_at
 a_accepted = refl
 
 rechecked_length : (s : List ℕ) → length (rechecked s) ≡ length s

@@ -41,16 +41,17 @@ unfolding Holds
 by_model t m = (m, by_runs t m)
 
 stories_ok : ByModel long_motif × ByModel few_hits × ByModel number_two × ByModel added_twice × ByModel removed_empty × ByModel empty_added
-unfolding long_motif long few_hits number_two added_twice removed_empty empty_added admitted admitted_from at_most_once model_log results_of choose every
-    some lowest_from lowest tab first refuse_if refuse_at_lowest strand_verdict is_letter not_letter mate_outside not_mutual crosses crossed_at molecule_verdict
+unfolding long_motif long few_hits number_two added_twice removed_empty empty_added admitted admitted_from at_most_once model_log results_of choose every some
+    lowest_from lowest tab first refuse_if refuse_at_lowest strand_verdict is_letter not_letter mate_outside not_mutual crosses crossed_at molecule_verdict
     motif_verdict work_verdict refused_by by_verdict ends_period model_result model_after start put_at is_held held_in in_range model_verdict model_answer
     model_next
 stories_ok = ((refl, refl), (refl, refl), (refl, refl), (refl, refl), (refl, refl), (refl, refl))
 
 refusals_hold : AllHold refusals
-unfolding refusals AllHold Holds check_verdict check_answer motif_verdict matcher.length_verdict matcher.length_answer matcher.show_verdict matcher.show_answer
-    verify.verify_verdict by_verdict pair_verdict strand_verdict first refuse_if refuse_at_lowest choose every some some_list lowest_from lowest is_letter not_letter
-    mate_outside not_mutual crosses crossed_at letters_match longest largest prefix_ok closed_to places_ok select begins arc_count lies_inside is_chain depth_of
+unfolding refusals AllHold Holds check_verdict check_answer motif_verdict matcher.length_verdict matcher.length_answer matcher.show_verdict
+    matcher.show_answer verify.verify_verdict by_verdict pair_verdict strand_verdict first refuse_if refuse_at_lowest choose every some some_list lowest_from
+    lowest is_letter not_letter mate_outside not_mutual crosses crossed_at letters_match longest largest prefix_ok closed_to places_ok select begins arc_count
+    lies_inside is_chain depth_of
 refusals_hold =
     (refl, refl)
     & (refl, refl)
@@ -78,9 +79,9 @@ refusals_hold =
     & tt
 
 settled_hold : AllHold (settled_rows examples)
-unfolding settled_rows examples example_ok verified AllHold Holds VerifiedAt matcher.length_verdict matcher.length_answer matcher.show_verdict matcher.show_answer
-    verify.verify_verdict by_verdict pair_verdict strand_verdict first refuse_if refuse_at_lowest choose every some some_list lowest_from lowest is_letter not_letter
-    mate_outside not_mutual crosses crossed_at letters_match longest largest prefix_ok closed_to places_ok
+unfolding settled_rows examples example_ok verified AllHold Holds VerifiedAt matcher.length_verdict matcher.length_answer matcher.show_verdict
+    matcher.show_answer verify.verify_verdict by_verdict pair_verdict strand_verdict first refuse_if refuse_at_lowest choose every some some_list lowest_from
+    lowest is_letter not_letter mate_outside not_mutual crosses crossed_at letters_match longest largest prefix_ok closed_to places_ok
 settled_hold =
     (refl, refl, refl, tt)
     & (refl, refl, refl, refl)
@@ -94,7 +95,8 @@ settled_hold =
     & tt
 
 -- The table's stories among those of crate history.
-own_stories : ByModel settled_story × ByModel reused_story × ByModel shared_slot_story × ByModel empty_motif_story × ByModel batch_story × ByModel spellings_story
+own_stories : ByModel settled_story × ByModel reused_story × ByModel shared_slot_story × ByModel empty_motif_story × ByModel batch_story
+  × ByModel spellings_story
     × ByModel one_slot_spellings
 unfolding AllByModel stories
 own_stories =
@@ -125,21 +127,22 @@ also_hold =
 
 folds_hold : AllHold folds
 unfolding folds AllHold Holds check_verdict check_answer matcher.length_verdict matcher.length_answer matcher.show_verdict matcher.show_answer
-    verify.verify_verdict verified by_verdict pair_verdict strand_verdict first refuse_if refuse_at_lowest choose every some some_list lowest_from lowest is_letter
-    not_letter mate_outside not_mutual crosses crossed_at letters_match longest largest prefix_ok closed_to places_ok select begins arc_count lies_inside is_chain depth_of
+    verify.verify_verdict verified by_verdict pair_verdict strand_verdict first refuse_if refuse_at_lowest choose every some some_list lowest_from lowest
+    is_letter not_letter mate_outside not_mutual crosses crossed_at letters_match longest largest prefix_ok closed_to places_ok select begins arc_count
+    lies_inside is_chain depth_of
 folds_hold = refl & refl & refl & refl & refl & refl & refl & refl & tt
 
 windows_hold : AllHold windows
-unfolding windows AllHold Holds window_answer window_of tightest_length first_start some_carries carries window_mate matcher.length_verdict by_verdict pair_verdict
-    strand_verdict first refuse_if refuse_at_lowest choose every some some_list lowest_from lowest tab is_letter not_letter mate_outside not_mutual crosses crossed_at
-    letters_match longest largest prefix_ok closed_to places_ok select begins arc_count lies_inside is_chain depth_of
+unfolding windows AllHold Holds window_answer window_of tightest_length first_start some_carries carries window_mate matcher.length_verdict by_verdict
+    pair_verdict strand_verdict first refuse_if refuse_at_lowest choose every some some_list lowest_from lowest tab is_letter not_letter mate_outside
+    not_mutual crosses crossed_at letters_match longest largest prefix_ok closed_to places_ok select begins arc_count lies_inside is_chain depth_of
 windows_hold = refl & refl & refl & refl & refl & refl & refl & refl & refl & refl & tt
 
 empty_motifs_hold : AllHold empty_motifs
-unfolding empty_motifs AllHold Holds window_answer window_of tightest_length first_start some_carries carries window_mate matcher.length_verdict matcher.length_answer
-    matcher.show_verdict matcher.show_answer verify.verify_verdict verified by_verdict pair_verdict strand_verdict first refuse_if refuse_at_lowest choose every some
-    some_list lowest_from lowest tab is_letter not_letter mate_outside not_mutual crosses crossed_at letters_match longest largest prefix_ok closed_to places_ok select
-    begins arc_count lies_inside is_chain depth_of key total
+unfolding empty_motifs AllHold Holds window_answer window_of tightest_length first_start some_carries carries window_mate matcher.length_verdict
+    matcher.length_answer matcher.show_verdict matcher.show_answer verify.verify_verdict verified by_verdict pair_verdict strand_verdict first refuse_if
+    refuse_at_lowest choose every some some_list lowest_from lowest tab is_letter not_letter mate_outside not_mutual crosses crossed_at letters_match longest
+    largest prefix_ok closed_to places_ok select begins arc_count lies_inside is_chain depth_of key total
 empty_motifs_hold =
     refl
     & refl
@@ -179,9 +182,10 @@ batches_hold =
 
 spellings_hold : AllHold spellings
 unfolding spellings AllHold Holds example_ok verified VerifiedAt window_answer window_of tightest_length first_start some_carries carries window_mate
-    check_verdict check_answer motif_verdict matcher.length_verdict matcher.length_answer matcher.show_verdict matcher.show_answer verify.verify_verdict by_verdict
-    pair_verdict strand_verdict first refuse_if refuse_at_lowest choose every some some_list lowest_from lowest tab is_letter not_letter mate_outside not_mutual crosses
-    crossed_at letters_match longest largest prefix_ok closed_to places_ok select begins arc_count lies_inside is_chain depth_of key total
+    check_verdict check_answer motif_verdict matcher.length_verdict matcher.length_answer matcher.show_verdict matcher.show_answer verify.verify_verdict
+    by_verdict pair_verdict strand_verdict first refuse_if refuse_at_lowest choose every some some_list lowest_from lowest tab is_letter not_letter
+    mate_outside not_mutual crosses crossed_at letters_match longest largest prefix_ok closed_to places_ok select begins arc_count lies_inside is_chain
+    depth_of key total
 spellings_hold =
     (refl, refl, refl, refl)
     & (refl, refl, refl, refl)

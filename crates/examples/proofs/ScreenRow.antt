@@ -80,7 +80,8 @@ module _ (head : List ℕ) (size : length head ≡ 512) where
 
 clean_zeros : clean_cache (replicate block_size 0) ≡ empty_block
 clean_zeros =
-    sym (take_all block_size (clean_cache (replicate block_size 0)) (omega (arith, clean_length (replicate block_size 0) 1 (length-replicate {A = ℕ} block_size 0))))
+    sym (take_all block_size (clean_cache (replicate block_size 0)) (omega (arith,
+      clean_length (replicate block_size 0) 1 (length-replicate {A = ℕ} block_size 0))))
     ∙ clean_block (replicate block_size 0) 1 (length-replicate {A = ℕ} block_size 0) 0 (omega arith)
     ∙ ap cleaned (block_zero 1 0 (omega arith))
     ∙ sound_clean empty_block empty_entry
@@ -92,8 +93,8 @@ passed : first
     (refuse_if not_whole_blocks no_side (not (in_range 2 1)) ∷ refuse_if number_too_large no_side (leb 2 0) ∷ refuse_if already_held no_side (is_held vacant)
     ∷ molecule_verdict a ∷ [])
     ≡ Accepted
-unfolding is_held in_range molecule_verdict strand_verdict first refuse_if refuse_at_lowest choose some lowest_from lowest is_letter not_letter mate_outside not_mutual
-    crosses crossed_at
+unfolding is_held in_range molecule_verdict strand_verdict first refuse_if refuse_at_lowest choose some lowest_from lowest is_letter not_letter mate_outside
+    not_mutual crosses crossed_at
 passed = refl
 
 added : add_verdict (zeroed 2 1).catalog (zeroed 2 1).cache 0 a ≡ Accepted
@@ -185,17 +186,19 @@ module _ (p : Strand) (proper : Proper motif_side least_motif block_bases p.base
 -- ---- the three rows
 
 stories_ok : ByModel (screen_story a) × ByModel (screen_story empty_motif)
-unfolding screen_story adding asking hits admitted admitted_from at_most_once model_log results_of embeds longest largest prefix_ok
-    closed_to places_ok letters_match choose every some lowest_from lowest select some_list total same_list same_strand key first refuse_if refuse_at_lowest strand_verdict
+unfolding screen_story adding asking hits admitted admitted_from at_most_once model_log results_of embeds longest largest prefix_ok closed_to places_ok
+    letters_match choose every some lowest_from lowest select some_list total same_list same_strand key first refuse_if refuse_at_lowest strand_verdict
     is_letter not_letter mate_outside not_mutual crosses crossed_at molecule_verdict motif_verdict work_verdict slot_of refused_by by_verdict ends_period
-    model_result model_after afterQuery start put_at is_held held_in known_in in_range model_verdict embeds_at hit_list searches search_list model_answer model_next
+    model_result model_after afterQuery start put_at is_held held_in known_in in_range model_verdict embeds_at hit_list searches search_list model_answer
+    model_next
 stories_ok = ((refl, refl), (refl, refl))
 
 pub a_motif : Proper motif_side least_motif block_bases a.bases a.mates
 a_motif = accepted_proper motif_side least_motif block_bases a.bases a.mates passes
   where
     passes : strand_verdict motif_side least_motif block_bases a.bases a.mates ≡ Accepted
-    passes = unfold strand_verdict first refuse_if refuse_at_lowest choose some lowest_from lowest is_letter not_letter mate_outside not_mutual crosses crossed_at in refl
+    passes = unfold strand_verdict first refuse_if refuse_at_lowest choose some lowest_from lowest is_letter not_letter mate_outside not_mutual crosses
+      crossed_at in refl
 
 pub screen_prints_lem : screen_output embeds screen_input ≡ screen_prints
 unfolding catalog code

@@ -162,16 +162,17 @@ no_blocks : motifs_verdict [] ≡ refusal bad_motifs motif_side 0
 no_blocks = sym (motifs_not_whole [] (unfold is_whole in refl))
 
 too_long_lem : motif_verdict bonded ≡ Accepted → motifs_verdict (handed_in bonded long_motif) ≡ refusal too_long motif_side 1
-unfolding strand_verdict first refuse_if refuse_at_lowest choose some lowest_from lowest tab is_letter not_letter mate_outside not_mutual crosses crossed_at long_motif
+unfolding strand_verdict first refuse_if refuse_at_lowest choose some lowest_from lowest tab is_letter not_letter mate_outside not_mutual crosses crossed_at
+    long_motif
 too_long_lem ok = long_behind bonded ok long_motif refl (omega arith)
 
 -- Every `refl` is computed: of an accepted call that its rules let it pass, what it answers, that it ends a period, and that no block was altered twice.
 story : Comes 2 1 start (λ s. 0) batch_story.events batch_story.results
-unfolding batch_story admitted admitted_from at_most_once model_log results_of embeds longest largest prefix_ok closed_to places_ok letters_match choose every some
-    lowest_from lowest select some_list tab total same_list same_strand key first refuse_if refuse_at_lowest strand_verdict is_letter not_letter mate_outside
-    not_mutual crosses crossed_at molecule_verdict motif_verdict slot_of ends_period start put_at is_held held_in known_in dropped in_range model_verdict embeds_at hit_list
-    searches search_list asked model_answer model_next slot_block model_alter empty_block encode_entry entry_with with_checksum content_of bytes_of map_bytes bit_sum
-    without
+unfolding batch_story admitted admitted_from at_most_once model_log results_of embeds longest largest prefix_ok closed_to places_ok letters_match choose every
+    some lowest_from lowest select some_list tab total same_list same_strand key first refuse_if refuse_at_lowest strand_verdict is_letter not_letter
+    mate_outside not_mutual crosses crossed_at molecule_verdict motif_verdict slot_of ends_period start put_at is_held held_in known_in dropped in_range
+    model_verdict embeds_at hit_list searches search_list asked model_answer model_next slot_block model_alter empty_block encode_entry entry_with
+    with_checksum content_of bytes_of map_bytes bit_sum without
 story =
     accepted_step (add 0 gac) refl refl refl refl refl
     (accepted_step (add 1 ggc) refl refl refl refl refl
@@ -201,16 +202,16 @@ pub refused_between_lem : admitted embeds 1 1 refused_batch_between ≡ false
 unfolding refused_batch_between admitted admitted_from at_most_once embeds longest largest prefix_ok closed_to places_ok letters_match choose every some
     lowest_from lowest select some_list tab total same_list same_strand key first refuse_if refuse_at_lowest strand_verdict is_letter not_letter mate_outside
     not_mutual crosses crossed_at molecule_verdict motif_verdict work_verdict slot_of refused_by by_verdict ends_period start put_at is_held held_in known_in
-    in_range model_verdict embeds_at hit_list searches search_list asked model_answer model_next model_result model_after slot_block model_alter
-    empty_block encode_entry entry_with with_checksum content_of bytes_of map_bytes bit_sum
+    in_range model_verdict embeds_at hit_list searches search_list asked model_answer model_next model_result model_after slot_block model_alter empty_block
+    encode_entry entry_with with_checksum content_of bytes_of map_bytes bit_sum
 refused_between_lem = rw (empty_behind bonded refl)
 
 -- Two alterations, then a batch: its rules accept it, so it ends the period, and the list is not admitted.
 pub altered_twice_lem : admitted embeds 1 1 altered_for_batch ≡ false
 unfolding altered_for_batch admitted admitted_from at_most_once embeds longest largest prefix_ok closed_to places_ok letters_match choose every some
     lowest_from lowest select some_list tab total same_list same_strand key first refuse_if refuse_at_lowest strand_verdict is_letter not_letter mate_outside
-    not_mutual crosses crossed_at molecule_verdict motif_verdict work_verdict longest_to slot_of refused_by by_verdict ends_period start put_at is_held held_in known_in
-    in_range model_verdict embeds_at hit_list searches search_list asked asked_to model_answer model_next model_result model_after slot_block model_alter
-    empty_block encode_entry entry_with with_checksum content_of bytes_of map_bytes bit_sum
+    not_mutual crosses crossed_at molecule_verdict motif_verdict work_verdict longest_to slot_of refused_by by_verdict ends_period start put_at is_held
+    held_in known_in in_range model_verdict embeds_at hit_list searches search_list asked asked_to model_answer model_next model_result model_after slot_block
+    model_alter empty_block encode_entry entry_with with_checksum content_of bytes_of map_bytes bit_sum
 altered_twice_lem =
     rw (handed_pass bonded unbonded refl refl, handed_two bonded unbonded refl refl, handed_0 bonded unbonded refl refl, handed_1 bonded unbonded refl refl)

@@ -9,7 +9,8 @@ use Rattle.refusals.specs.declared.Refusal.{Refusal}
 use Rattle.refusals.specs.declared.Verdict.{Verdict}
 use Rattle.refusals.specs.declared.Verdict.TheVariants.{Refused}
 use Rattle.block.specs.Block.{block_count}
-use Rattle.calls.specs.Calls.{add_verdict, add_outcome, remove_verdict, remove_outcome, query_verdict, query_outcome, Result, refused_by, add_result, remove_result}
+use Rattle.calls.specs.Calls.{add_verdict, add_outcome, remove_verdict, remove_outcome, query_verdict, query_outcome}
+use Rattle.calls.specs.Calls.{Result, refused_by, add_result, remove_result}
 use Rattle.calls.specs.Calls.{query_result}
 use Rattle.calls.specs.Batch.{batch_verdict, batch_outcome, not_batched, batch_result, batch_result_by}
 use Rattle.calls.proofs.Claims.{add_refused, remove_refused, query_refused}

@@ -25,21 +25,20 @@ keys = (refl, refl)
 
 -- The stories hold on the model.
 pub settled : AllByModel stories
-unfolding stories AllByModel settled_story reused_story shared_slot_story altered_story empty_motif_story spellings_story one_slot_spellings admitted admitted_from
-    at_most_once model_log results_of embeds longest largest prefix_ok closed_to places_ok letters_match choose every some lowest_from lowest select some_list tab total
-    same_list same_strand key first refuse_if refuse_at_lowest strand_verdict is_letter not_letter mate_outside not_mutual crosses crossed_at molecule_verdict
-    motif_verdict work_verdict slot_of refused_by by_verdict ends_period start put_at is_held held_in known_in dropped in_range model_verdict
-    embeds_at hit_list searches search_list asked model_answer model_next model_result model_after slot_block model_alter empty_block encode_entry entry_with
-    with_checksum content_of bytes_of map_bytes bit_sum without
+unfolding stories AllByModel settled_story reused_story shared_slot_story altered_story empty_motif_story spellings_story one_slot_spellings admitted
+    admitted_from at_most_once model_log results_of embeds longest largest prefix_ok closed_to places_ok letters_match choose every some lowest_from lowest
+    select some_list tab total same_list same_strand key first refuse_if refuse_at_lowest strand_verdict is_letter not_letter mate_outside not_mutual crosses
+    crossed_at molecule_verdict motif_verdict work_verdict slot_of refused_by by_verdict ends_period start put_at is_held held_in known_in dropped in_range
+    model_verdict embeds_at hit_list searches search_list asked model_answer model_next model_result model_after slot_block model_alter empty_block
+    encode_entry entry_with with_checksum content_of bytes_of map_bytes bit_sum without
 settled = ((refl, refl), ((refl, refl), ((refl, refl), ((refl, refl), ((refl, refl), ((refl, refl), ((refl, refl), (batches, tt))))))))
 
 -- With one alteration, with two, and with a refused call between.
 pub computed : ByModel altered_once × (admitted embeds 1 1 altered_twice ≡ false) × (admitted embeds 1 1 refused_between ≡ false)
     × (results_of (model_log embeds 1 1 start altered_twice) ≡ done ∷ found 1 (0 ∷ []) 1 ∷ found 1 (0 ∷ []) 1 ∷ [])
-unfolding altered_once altered_twice refused_between admitted admitted_from at_most_once model_log results_of embeds longest
-    largest prefix_ok closed_to places_ok letters_match choose every some lowest_from lowest select some_list tab total same_list same_strand key first
-    refuse_if refuse_at_lowest strand_verdict is_letter not_letter mate_outside not_mutual crosses crossed_at molecule_verdict motif_verdict work_verdict
-    slot_of refused_by by_verdict ends_period start put_at is_held held_in known_in dropped in_range model_verdict embeds_at hit_list searches search_list
-    asked model_answer model_next model_result model_after slot_block model_alter empty_block encode_entry entry_with with_checksum content_of bytes_of map_bytes
-    bit_sum without
+unfolding altered_once altered_twice refused_between admitted admitted_from at_most_once model_log results_of embeds longest largest prefix_ok closed_to
+    places_ok letters_match choose every some lowest_from lowest select some_list tab total same_list same_strand key first refuse_if refuse_at_lowest
+    strand_verdict is_letter not_letter mate_outside not_mutual crosses crossed_at molecule_verdict motif_verdict work_verdict slot_of refused_by by_verdict
+    ends_period start put_at is_held held_in known_in dropped in_range model_verdict embeds_at hit_list searches search_list asked model_answer model_next
+    model_result model_after slot_block model_alter empty_block encode_entry entry_with with_checksum content_of bytes_of map_bytes bit_sum without
 computed = ((refl, refl), refl, refl, refl)

@@ -72,4 +72,5 @@ module _ (embeds : Strand → Strand → Bool) (B S : ℕ) where
   pub follows_start : Follows embeds B S (zeroed B S) start (λ s. 0)
   unfolding zeroed start
   follows_start =
-      fresh embeds B S _ _ (unfold start in (start_ok B)) (stores_zeroed B) (length-replicate (block_size * S) 0) (λ s l. unfold slot_block in (block_zero S s l))
+      fresh embeds B S _ _ (unfold start in (start_ok B)) (stores_zeroed B) (length-replicate (block_size * S) 0) (λ s l. unfold slot_block in (block_zero S
+        s l))

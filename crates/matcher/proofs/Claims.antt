@@ -117,7 +117,8 @@ module _ (q qm : List ℕ) (work : ℕ) where
       go (verdict.Refused x) e = e
 
   empty_motif_matched : EmptyMotifMatched q qm work
-  empty_motif_matched = record { length_verdict_lem = empty_rules; show_verdict_lem = empty_shown; length_0 = length_0; show_0 = show_0; places_kept = places_kept }
+  empty_motif_matched = record { length_verdict_lem = empty_rules; show_verdict_lem = empty_shown; length_0 = length_0; show_0 = show_0; places_kept =
+    places_kept }
 
 -- ---- two spellings: the rules and the longest prefix are the same
 

@@ -23,7 +23,8 @@ use Rattle.placing.specs.Placing.{Takes, upon, left_end, inside, Taken, PlacePut
 use Rattle.embedding.proofs.Entries.{UnitTakes, unit_case, over_other, over_free, over_far, over_unlike, over_short, over_arc}
 
 -- What the arc takes, by o, what it takes with its left end, and u, what it takes without.
-module _ (left right : ℕ → Bool) (pm : ℕ → ℕ) (z j here next u o : ℕ) (a : j < z) (e : u ≡ unit_at right pm z here) (f : o ≡ over_at left right pm z next j) where
+module _ (left right : ℕ → Bool) (pm : ℕ → ℕ) (z j here next u o : ℕ) (a : j < z) (e : u ≡ unit_at right pm z here) (f : o
+  ≡ over_at left right pm z next j) where
   pub takes_inside : o ≤ u → Takes left right pm j z here next (record { from = j; to = here; next = u })
   takes_inside h = rw e (inside (omega arith))
 
@@ -78,7 +79,8 @@ module _ {fit : ℕ → ℕ → Bool} {f g : ℕ → ℕ} where
 -- What an arc takes, from its inner row for a narrower segment that the arc does not fill, or for all of the segment.
 module _ {p pm q qm : List ℕ} {j to : ℕ} (z l r : ℕ) (S : Setting p pm q qm j to) (jz : j < z) (zt : z ≤ to)
     (lr : l < r) (rn : r < length q) (arc : nth qm l ≡ r) {row : ℕ → ℕ} (A : IsRow (letters_fit p q) (nth pm) (nth qm) j z z (l + 1) r row)
-    (best : Best (letters_fit p q) (nth pm) (nth qm) to j (arc_at (matches p (nth q l)) (matches p (nth q r)) (nth pm) z (row j) (row (j + 1)) j) l (r + 1)) where
+    (best : Best (letters_fit p q) (nth pm) (nth qm) to j (arc_at (matches p (nth q l)) (matches p (nth q r)) (nth pm) z (row j) (row (j + 1)) j) l (r + 1))
+      where
   here : (j ≤ row j) × (row j ≤ z)
   here = row_from A j (omega arith) (omega (arith, jz))
 

@@ -75,7 +75,8 @@ fn ask_lent(
     requires input_value { is_input input.now ≡ true }
     requires input_value_2 { holds_motif (first_block input.now) ≡ true }
     requires block_bases_in_bounds { (block_bases ≤ length bases.old) × (block_bases ≤ length mates.old) }
-    ensures { (queried result cache.new hits.new ≡ query_outcome embeds (catalog_in input.now) cache.old (motif_handed_in (first_block input.now)) (length work.old) hits.old)
+    ensures { (queried result cache.new hits.new ≡ query_outcome embeds (catalog_in input.now) cache.old (motif_handed_in (first_block input.now)) (length
+        work.old) hits.old)
         × WorkKept (query_verdict (catalog_in input.now) cache.old (motif_handed_in (first_block input.now)) (length work.old) (length hits.old))
         work.old work.new }
 {
@@ -95,7 +96,8 @@ fn ask(input: &[u8], cache: &mut [u8], work: &mut [u16], hits: &mut [u16]) -> Qu
     requires input_value { is_input input.now ≡ true }
     requires input_value_2 { holds_motif (first_block input.now) ≡ true }
     requires cache_len { length cache.old ≡ block_size }
-    ensures { (queried result cache.new hits.new ≡ query_outcome embeds (catalog_in input.now) empty_block (motif_handed_in (first_block input.now)) (length work.old) hits.old)
+    ensures { (queried result cache.new hits.new ≡ query_outcome embeds (catalog_in input.now) empty_block (motif_handed_in (first_block input.now)) (length
+        work.old) hits.old)
         × WorkKept (screen_verdict input.now (length work.old) (length hits.old)) work.old work.new }
 {
     let mut bases = [0u8; layout::BLOCK_BASES];
@@ -134,7 +136,8 @@ fn write_output(
 ) -> usize
     requires { has_room (length out.old) (length cache.old) (length work.old) (length hits.old) ≡ true }
     ensures text_put { TextPut (screen_output embeds input.now) out.old out.new 0 result }
-    ensures cache_after { (cache.new ≡ cache_left embeds input.now cache.old (length work.old) hits.old) × (hits.new ≡ hits_left embeds input.now (length work.old) hits.old)
+    ensures cache_after { (cache.new ≡ cache_left embeds input.now cache.old (length work.old) hits.old)
+        × (hits.new ≡ hits_left embeds input.now (length work.old) hits.old)
         × (is_asked input.now ≡ true → WorkKept (screen_verdict input.now (length work.old) (length hits.old)) work.old work.new)
         × (is_asked input.now ≡ false → work.new ≡ work.old) }
 {

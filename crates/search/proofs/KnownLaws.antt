@@ -40,7 +40,8 @@ module _ (entry h w : List ℕ) (same : Bool) where
         ∙ map_ext _ _ (λ d k. ap₂ (λ (m : List ℕ) (b : Bool). map_bit m 0 d && not b) e
         (searched_bit entry d ∙ sym (ap (λ (b : Bool). b && searched_in entry d) yes)))
 
-    pub known_same : (x y : List ℕ) → x ≡ map_bytes (λ d. map_bit w 0 d && map_bit entry searched_at d) → y ≡ map_bytes (λ d. map_bit x 0 d && map_bit entry hit_at d)
+    pub known_same : (x y : List ℕ) → x ≡ map_bytes (λ d. map_bit w 0 d && map_bit entry searched_at d) → y
+      ≡ map_bytes (λ d. map_bit x 0 d && map_bit entry hit_at d)
         → y ≡ map_bytes (λ d. map_bit h 0 d && (same && (searched_in entry d && hit_in entry d)))
     known_same x y ex ey = ey ∙ map_ext _ _ both
       where

@@ -11,7 +11,8 @@ use Rattle.refusals.specs.declared.Verdict.TheVariants.{Accepted}
 use Rattle.lists.specs.Vocabulary.{nth, some, lowest}
 use Rattle.letters.specs.Letters.{not_letter}
 use Rattle.strand.specs.Strands.{mate_outside, not_mutual, crossed_at, Inside, Paired, strand_verdict}
-use Rattle.refusals.specs.Rules.{unequal_lengths, no_bases, too_long, bad_letter, bad_mate, mates_not_mutual, arcs_cross, refusal, refuse_if, refuse_at_lowest, first}
+use Rattle.refusals.specs.Rules.{unequal_lengths, no_bases, too_long, bad_letter, bad_mate, mates_not_mutual, arcs_cross}
+use Rattle.refusals.specs.Rules.{refusal, refuse_if, refuse_at_lowest, first}
 use Rattle.refusals.proofs.RuleLaws.{rule_yes, rule_no, rule_at_yes, rule_at_no}
 use Rattle.lists.proofs.ListLaws.{some_none, lowest_all, lowest_before, some_lowest}
 use Rattle.strand.proofs.NestingLaws.{inside_of, paired_of}

@@ -11,7 +11,8 @@ use Rattle.lists.specs.Vocabulary.{nth, some, every, same_list}
 use Rattle.letters.specs.Letters.{not_letter}
 use Rattle.strand.specs.Strands.{Strand, same_strand, mate_outside, not_mutual, crossed_at, is_nested, Nested, Proper, strand_verdict}
 use Rattle.strand.specs.Strands.{check_verdict, pair_verdict, Pair, least_motif, least_molecule, greatest_length}
-use Rattle.refusals.specs.Rules.{unequal_lengths, no_bases, too_long, bad_letter, bad_mate, mates_not_mutual, arcs_cross, motif_side, molecule_side, first, Numbered}
+use Rattle.refusals.specs.Rules.{unequal_lengths, no_bases, too_long, bad_letter, bad_mate, mates_not_mutual, arcs_cross}
+use Rattle.refusals.specs.Rules.{motif_side, molecule_side, first, Numbered}
 use Rattle.refusals.proofs.Refusing.{Numbering, strand_number, when_numbered, if-numbered, lowest_numbered, none_numbered, first_numbered}
 use Rattle.refusals.proofs.RuleLaws.{first_one, first_pass, rule_pass, rule_at_pass}
 use Rattle.lists.proofs.ListLaws.{and_true, not_not, true_not, every_true, some_no, some_none, lowest_all, same_eq}

@@ -36,8 +36,8 @@ abbrev pub RespelledVerdict : List ℕ → List ℕ → List ℕ → Type 0
 RespelledVerdict a b mates =
     ReadAlike a b → (side least greatest : ℕ) → strand_verdict side least greatest a mates ≡ strand_verdict side least greatest b mates
 
--- 02, (i), for all mates, nested or not: `arc_count` and `depth_of` are the number of arcs and the depth as the propositions say them, and no other fold is; the
--- depth is "0 without arcs".
+-- 02, (i), for all mates, nested or not: `arc_count` and `depth_of` are the number of arcs and the depth as the propositions say them, and no other fold is;
+-- the depth is "0 without arcs".
 pub record FoldSays (mates : List ℕ) : Type 0 where
   pub arcs : IsArcCount mates (arc_count mates)
   pub depth : IsDepth mates (depth_of mates)
