@@ -106,7 +106,8 @@ module _ {p pm q qm : List ℕ} {j to : ℕ} (z l r : ℕ) (S : Setting p pm q q
             goes = ⊎_elim (λ x. omega (arith, i)) (λ x. omega (arith, i, x.value)) d;
             one_right = ⊎_elim (λ x. omega (arith, i)) (λ x. omega (arith, i, x.value)) d;
             ends = ⊎_elim (λ x. omega (arith, i, here, zt)) (λ x. omega (arith, i, x.value, x.low, zt)) d;
-            best = let m : max (unit_at (matches p (nth q r)) (nth pm) z (row j)) (over_at (matches p (nth q l)) (matches p (nth q r)) (nth pm) z (row (j + 1)) j)
+            best = let m : max (unit_at (matches p (nth q r)) (nth pm) z (row j))
+                (over_at (matches p (nth q l)) (matches p (nth q r)) (nth pm) z (row (j + 1)) j)
                 ≡ u = omega arith in rw m at best;
             inner = cut_to (A.best j (omega arith) (omega (arith, jz))).reach;
             lay = λ h E el er. ⊎_elim (λ x. restrict j u l (r + 1) (omega arith) (omega (arith, i)) (omega arith) (omega arith) E)

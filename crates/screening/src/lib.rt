@@ -75,8 +75,8 @@ fn ask_lent(
     requires input_value { is_input input.now ≡ true }
     requires input_value_2 { holds_motif (first_block input.now) ≡ true }
     requires block_bases_in_bounds { (block_bases ≤ length bases.old) × (block_bases ≤ length mates.old) }
-    ensures { (queried result cache.new hits.new ≡ query_outcome embeds (catalog_in input.now) cache.old (motif_handed_in (first_block input.now)) (length
-        work.old) hits.old)
+    ensures { (queried result cache.new hits.new
+        ≡ query_outcome embeds (catalog_in input.now) cache.old (motif_handed_in (first_block input.now)) (length work.old) hits.old)
         × WorkKept (query_verdict (catalog_in input.now) cache.old (motif_handed_in (first_block input.now)) (length work.old) (length hits.old))
         work.old work.new }
 {
@@ -96,8 +96,8 @@ fn ask(input: &[u8], cache: &mut [u8], work: &mut [u16], hits: &mut [u16]) -> Qu
     requires input_value { is_input input.now ≡ true }
     requires input_value_2 { holds_motif (first_block input.now) ≡ true }
     requires cache_len { length cache.old ≡ block_size }
-    ensures { (queried result cache.new hits.new ≡ query_outcome embeds (catalog_in input.now) empty_block (motif_handed_in (first_block input.now)) (length
-        work.old) hits.old)
+    ensures { (queried result cache.new hits.new
+        ≡ query_outcome embeds (catalog_in input.now) empty_block (motif_handed_in (first_block input.now)) (length work.old) hits.old)
         × WorkKept (screen_verdict input.now (length work.old) (length hits.old)) work.old work.new }
 {
     let mut bases = [0u8; layout::BLOCK_BASES];
