@@ -1,12 +1,8 @@
 -- `buffer::clean_all` meets its contract: the blocks passed are cleaned, the rest is as it was.
-use Prim.Native.Nat.{◌*◌, ◌+◌, ◌-◌, ◌≤◌}
-use borrow.Author.Rules.{rules}
+use Prim.Native.Nat.{◌*◌, ◌-◌, ◌≤◌}
 use lib.ListN.{drop, length}
 use mathlib.Core.List.{◌++◌}
-use mathlib.Core.Path.{◌∙◌, ◌≡◌, ap, refl}
-use native.Mathlib.Omega.{arith}
-use Rattle.buffer.proofs.BufferLaws.{blocks_end, blocks_length, blocks_more, blocks_none, length_blocks}
-use Rattle.block.proofs.ContentLaws.{length_cleaned}
+use mathlib.Core.Path.{◌≡◌}
 use Rattle.block.specs.Block.{block_count, cleaned, blocks_to}
 use Rattle.buffer.proofs.clean_all.Given as goal
 
