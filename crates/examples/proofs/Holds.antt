@@ -96,7 +96,7 @@ settled_hold =
 
 -- The table's stories among those of crate history.
 own_stories : ByModel settled_story × ByModel reused_story × ByModel shared_slot_story × ByModel empty_motif_story × ByModel batch_story
-  × ByModel spellings_story
+    × ByModel spellings_story
     × ByModel one_slot_spellings
 unfolding AllByModel stories
 own_stories =

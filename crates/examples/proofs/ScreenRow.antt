@@ -80,8 +80,10 @@ module _ (head : List ℕ) (size : length head ≡ 512) where
 
 clean_zeros : clean_cache (replicate block_size 0) ≡ empty_block
 clean_zeros =
-    sym (take_all block_size (clean_cache (replicate block_size 0)) (omega (arith,
-      clean_length (replicate block_size 0) 1 (length-replicate {A = ℕ} block_size 0))))
+    sym (take_all block_size (clean_cache (replicate block_size 0)) (omega (
+      arith,
+      clean_length (replicate block_size 0) 1 (length-replicate {A = ℕ} block_size 0),
+    )))
     ∙ clean_block (replicate block_size 0) 1 (length-replicate {A = ℕ} block_size 0) 0 (omega arith)
     ∙ ap cleaned (block_zero 1 0 (omega arith))
     ∙ sound_clean empty_block empty_entry
@@ -198,7 +200,7 @@ a_motif = accepted_proper motif_side least_motif block_bases a.bases a.mates pas
   where
     passes : strand_verdict motif_side least_motif block_bases a.bases a.mates ≡ Accepted
     passes = unfold strand_verdict first refuse_if refuse_at_lowest choose some lowest_from lowest is_letter not_letter mate_outside not_mutual crosses
-      crossed_at in refl
+        crossed_at in refl
 
 pub screen_prints_lem : screen_output embeds screen_input ≡ screen_prints
 unfolding catalog code

@@ -166,5 +166,5 @@ module _ (p q : Strand) (okp : motif_verdict p ≡ Accepted) (okq : motif_verdic
   unfolding handed_in
   handed_pass =
       both_pass (encode_motif p) (encode_motif q) (motif_length p (fits p okp)) (motif_length q (fits q okq)) (held_one p (fits p okp)) (held_one q (fits q
-        okq))
+      okq))
       (short_motif p okp) (short_motif q okq)

@@ -190,7 +190,7 @@ module _ (embeds : Strand → Strand → Bool) (Relation : Strand → Strand →
     right_asked σ ok motifs u t l =
         rw (asked_molecules embeds B S σ motifs t)
         at (right_query (asked_to embeds B S σ motifs t) (asked_to_ok embeds B S σ motifs u ok t (omega arith)) (motif_of motifs t) (motif_verdict_lem motifs
-          u t l))
+        u t l))
 
     -- the queries of a call that is accepted now
     asks_accepted : (σ : State) → StateOk B σ → (c : Call) → model_verdict embeds B S σ c ≡ Accepted

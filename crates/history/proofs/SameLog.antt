@@ -73,4 +73,4 @@ module _ (embeds : Strand → Strand → Bool) (B S : ℕ) where
   unfolding zeroed start
   follows_start =
       fresh embeds B S _ _ (unfold start in (start_ok B)) (stores_zeroed B) (length-replicate (block_size * S) 0) (λ s l. unfold slot_block in (block_zero S
-        s l))
+      s l))

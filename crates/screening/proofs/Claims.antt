@@ -24,7 +24,7 @@ use Rattle.calls.proofs.BlockUse as leaf
 use Rattle.calls.proofs.ReadingLaws as read
 use Rattle.calls.proofs.Claims as calls
 use Rattle.screening.specs.Text.{hits_text, refused_text}
-use Rattle.screening.specs.Screen.{most_screened, is_input, first_block, catalog_in, screen_work, answer_text, effect_text, is_asked, screen_verdict}
+use Rattle.screening.specs.Screen.{most_screened, is_input, first_block, catalog_in, screen_work, answer_text, effect_text, is_asked}
 use Rattle.screening.specs.Screen.{screen_query, screen_output}
 use Rattle.screening.specs.Statements.{Prints, Claims}
 use Rattle.screening.proofs.TextLaws.{digits_value}

@@ -1,5 +1,4 @@
 -- `demands::batch` meets its contract: answer, cache and hits are `batch_outcome`, which is the step `run_batch`; the work slice is as its contract says.
-use borrow.Author.Rules.{rules}
 use Rattle.demands.proofs.Ties.{batch_tied}
 use Rattle.demands.proofs.batch.Goals as goal
 

@@ -1,5 +1,4 @@
 -- `demands::length` meets its contract: the answer is `length_answer`, of which the demands speak; the work slice is as its contract says.
-use borrow.Author.Rules.{rules}
 use Rattle.demands.proofs.Ties.{length_tied}
 use Rattle.demands.proofs.length.Goals as goal
 

@@ -1,5 +1,4 @@
 -- `demands::query` meets its contract: answer, cache and hits are `query_outcome`, which is the step `run_query`; the work slice is as its contract says.
-use borrow.Author.Rules.{rules}
 use Rattle.demands.proofs.Ties.{query_tied}
 use Rattle.demands.proofs.query.Goals as goal
 

@@ -1,5 +1,4 @@
 -- `demands::show` meets its contract: the answer is `show_answer`, of which the demands speak; places and work slice are as its contract says.
-use borrow.Author.Rules.{rules}
 use Rattle.demands.proofs.Ties.{show_tied}
 use Rattle.demands.proofs.show.Goals as goal
 

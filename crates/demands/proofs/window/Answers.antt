@@ -1,5 +1,4 @@
 -- `demands::window` meets its contract: the answer is `window_answer`, of which the demands speak; the work slice is as its contract says.
-use borrow.Author.Rules.{rules}
 use Rattle.demands.proofs.Ties.{window_tied}
 use Rattle.demands.proofs.window.Goals as goal
 

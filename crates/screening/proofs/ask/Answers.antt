@@ -1,6 +1,4 @@
 -- `screening::ask` meets its contract. A zeroed cache of 512 bytes is the empty block, so the outcome of `ask_lent` is that of a fresh cache.
-use borrow.Author.Rules.{rules}
-use native.Mathlib.Omega.{arith}
 use lib.ListN.{length}
 use Rattle.embedding.specs.Longest.{embeds}
 use Rattle.screening.proofs.ScreenLaws as law

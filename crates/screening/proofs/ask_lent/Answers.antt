@@ -1,6 +1,5 @@
 -- `screening::ask_lent` meets its contract. A block that holds a motif is decoded into the two slices (`motif_there`), n is at most 160, and the query
 -- is asked for exactly the motif that the first block hands in.
-use borrow.Author.Rules.{rules}
 use native.Mathlib.Omega.{arith}
 use mathlib.Core.Path.{sym}
 use lib.ListN.{length, take}

@@ -1,6 +1,5 @@
 -- `screening::put_answer` meets its contract. The text of an answer is by cases on it, and each case is what `put_refusal` or `put_hits` writes. There is
 -- room: the answer fits into `most_output` bytes, and `out` has as many.
-use borrow.Author.Rules.{rules}
 use native.Mathlib.Omega.{arith}
 use Rattle.screening.specs.Text.{most_output}
 use Rattle.screening.proofs.ScreenLaws as law

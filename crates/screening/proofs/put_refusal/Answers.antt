@@ -1,6 +1,5 @@
 -- `screening::put_refusal` meets its contract. A refusal has at most `most_output` bytes of text whatever its numbers are, so `put_refused` has the room
 -- that it asks for.
-use borrow.Author.Rules.{rules}
 use native.Mathlib.Omega.{arith}
 use Rattle.screening.proofs.TextLaws.{most_refused}
 use Rattle.screening.proofs.put_refusal.Goals as goal

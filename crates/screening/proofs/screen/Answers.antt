@@ -1,8 +1,6 @@
 -- `screening::screen` meets its contract. Where there is no room nothing is written; else the outcome is what `write_output` leaves.
-use borrow.Author.Rules.{rules}
 use mathlib.Core.Path.{sym, ◌∙◌}
 use lib.ListN.{length}
-use Rattle.lists.proofs.ListLaws.{true_not, not_not}
 use Rattle.embedding.specs.Longest.{embeds}
 use Rattle.screening.proofs.ScreenLaws as law
 use Rattle.screening.proofs.screen.Goals as goal

@@ -1,10 +1,8 @@
 -- `screening::write_output` meets its contract. One return for each case of `screen_output`: bad length, bad motif, and the text of the query. The
 -- first two leave cache, work and hits as they were; the third leaves what `ask` does.
-use borrow.Author.Rules.{rules}
 use native.Mathlib.Omega.{arith}
 use mathlib.Core.Path.{sym, ◌∙◌}
 use lib.ListN.{length}
-use Rattle.lists.proofs.ListLaws.{true_not, not_not}
 use lib.Seq.{length-take-le}
 use Rattle.embedding.specs.Longest.{embeds}
 use Rattle.screening.specs.Text.{most_output}

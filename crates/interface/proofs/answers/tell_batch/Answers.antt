@@ -1,5 +1,4 @@
 -- `interface::answers::tell_batch` meets its contract. By cases on how the batch ended: each arm is `batch_in_c` of its case, with the numbers of the motifs.
-use borrow.Author.Rules.{rules}
 use mathlib.Core.Path.{ap, sym, ◌∙◌}
 use Rattle.calls.specs.declared.BatchRead.{BatchRead}
 use Rattle.interface.specs.Interface.{batch_read_in_c, batch_in_c}

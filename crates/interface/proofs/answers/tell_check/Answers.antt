@@ -1,5 +1,4 @@
 -- `interface::answers::tell_check` meets its contract. By cases on the answer: each arm is `check_in_c` of its case.
-use borrow.Author.Rules.{rules}
 use mathlib.Core.Path.{ap, sym, ◌∙◌}
 use Rattle.interface.specs.Interface.{check_in_c}
 use Rattle.interface.proofs.answers.tell_check.Goals as goal

@@ -1,5 +1,4 @@
 -- `interface::answers::tell_query` meets its contract. By cases on the answer: each arm is `query_in_c` of its case.
-use borrow.Author.Rules.{rules}
 use mathlib.Core.Path.{ap, sym, ◌∙◌}
 use Rattle.interface.specs.Interface.{accepted, query_in_c}
 use Rattle.interface.proofs.answers.tell_query.Goals as goal

@@ -1,5 +1,4 @@
 -- `interface::answers::tell_remove` meets its contract. By cases on the answer: each return is `remove_in_c` of its case.
-use borrow.Author.Rules.{rules}
 use mathlib.Core.Path.{ap, sym, ◌∙◌}
 use Rattle.interface.specs.Interface.{accepted, remove_in_c}
 use Rattle.interface.proofs.answers.tell_remove.Goals as goal

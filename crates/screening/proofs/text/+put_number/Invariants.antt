@@ -1,11 +1,5 @@
 -- `screening::text::put_number` meets its contract. The digits of n are those of n / 10 and then the last one (`digits`): the call of itself writes
 -- the first, `put_byte` the last. The measure is n, and n / 10 is less where n is at least 10.
-use native.Mathlib.Omega.{arith}
-use mathlib.Core.Path.{ap, ◌∙◌}
-use lib.ListN.{length}
-use Rattle.screening.proofs.TextLaws as law
-use Prim.Native.Nat.{ℕ, ◌<◌}
-use Rattle.screening.proofs.text.+put_number.{statement}
 use Rattle.screening.proofs.text.+put_number.Given as goal
 
 abbrev pub decreases-put_number : goal.decreases-put_number

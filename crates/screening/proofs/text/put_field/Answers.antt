@@ -1,8 +1,6 @@
 -- `screening::text::put_field` meets its contract. The number is written where the word ends, and two texts put one after the other are their join
 -- put at once (`put_then`).
-use borrow.Author.Rules.{rules}
 use native.Mathlib.Omega.{arith}
-use mathlib.Core.Path.{◌∙◌}
 use Rattle.screening.proofs.TextLaws as law
 use Rattle.screening.proofs.text.put_field.Goals as goal
 

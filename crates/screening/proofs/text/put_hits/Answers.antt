@@ -1,8 +1,6 @@
 -- `screening::text::put_hits` meets its contract. Four texts, each written where the one before it ends; the rest of the room is what is left for the
 -- later ones.
-use borrow.Author.Rules.{rules}
 use native.Mathlib.Omega.{arith}
-use mathlib.Core.Path.{◌∙◌}
 use lib.ListN.{take}
 use Rattle.screening.proofs.TextLaws as law
 use Rattle.screening.proofs.text.put_hits.Goals as goal

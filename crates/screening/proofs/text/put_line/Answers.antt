@@ -1,6 +1,5 @@
 -- `screening::text::put_line` meets its contract. The digits, and a line feed where they end.
 use native.Mathlib.Omega.{arith}
-use mathlib.Core.Path.{◌∙◌}
 use Rattle.screening.specs.Text.{digits, line}
 use Rattle.screening.proofs.TextLaws as law
 use Rattle.screening.proofs.text.put_line.Goals as goal

@@ -1,10 +1,7 @@
 -- `screening::text::put_lines` meets its contract. The invariant: the lines of the first i numbers are written from `at` to `past`. One turn writes
 -- one line more (`take (i + 1)`), and at the end i is `count`.
-use Prim.Native.Nat.{◌-◌, ◌≤◌}
 use native.Mathlib.Omega.{arith}
-use mathlib.Core.Path.{◌≡◌, refl, ◌∙◌}
-use lib.ListN.{length, take}
-use Rattle.screening.specs.Text.{lines, TextPut}
+use mathlib.Core.Path.{refl, ◌∙◌}
 use Rattle.screening.proofs.TextLaws as law
 use Rattle.screening.proofs.text.put_lines.Goals as goal
 

@@ -1,11 +1,9 @@
 -- `screening::text::put_lines` meets its contract. The invariant: the lines of the first i numbers are written from `at` to `past`. One turn writes
 -- one line more (`take (i + 1)`), and at the end i is `count`.
 use Prim.Native.Nat.{◌-◌, ◌≤◌}
-use native.Mathlib.Omega.{arith}
-use mathlib.Core.Path.{◌≡◌, refl, ◌∙◌}
+use mathlib.Core.Path.{◌≡◌}
 use lib.ListN.{length, take}
 use Rattle.screening.specs.Text.{lines, TextPut}
-use Rattle.screening.proofs.TextLaws as law
 use Rattle.screening.proofs.text.put_lines.Given as goal
 
 abbrev pub invariant-loop-i : goal.invariant-loop-i

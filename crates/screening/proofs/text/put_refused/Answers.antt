@@ -1,7 +1,5 @@
 -- `screening::text::put_refused` meets its contract. Three fields and a line feed, each written where the one before it ends.
-use borrow.Author.Rules.{rules}
 use native.Mathlib.Omega.{arith}
-use mathlib.Core.Path.{◌∙◌}
 use Rattle.screening.proofs.TextLaws as law
 use Rattle.screening.proofs.text.put_refused.Goals as goal
 

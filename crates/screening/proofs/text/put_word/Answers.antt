@@ -1,10 +1,6 @@
 -- `screening::text::put_word` meets its contract. The invariant: the first i bytes of the word are pasted at `at`. At the end i is the length of the
 -- word.
-use Prim.Native.Nat.{◌-◌, ◌≤◌}
 use native.Mathlib.Omega.{arith}
-use mathlib.Core.Path.{◌≡◌, refl}
-use lib.ListN.{length}
-use lib.Seq.{paste, paste-zero}
 use lib.ListN.{length-set}
 use Rattle.screening.proofs.TextLaws as law
 use Rattle.screening.proofs.text.put_word.Goals as goal

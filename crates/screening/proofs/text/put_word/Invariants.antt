@@ -1,12 +1,9 @@
 -- `screening::text::put_word` meets its contract. The invariant: the first i bytes of the word are pasted at `at`. At the end i is the length of the
 -- word.
 use Prim.Native.Nat.{◌-◌, ◌≤◌}
-use native.Mathlib.Omega.{arith}
-use mathlib.Core.Path.{◌≡◌, refl}
+use mathlib.Core.Path.{◌≡◌}
 use lib.ListN.{length}
-use lib.Seq.{paste, paste-zero}
-use lib.ListN.{length-set}
-use Rattle.screening.proofs.TextLaws as law
+use lib.Seq.{paste}
 use Rattle.screening.proofs.text.put_word.Given as goal
 
 abbrev pub invariant-loop-i : goal.invariant-loop-i
