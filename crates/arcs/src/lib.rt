@@ -68,8 +68,8 @@ fn close(
     requires segment { Segment p.now pm.now from to }
     requires tables { Tables p.now pm.now tables.now }
     requires l_lt_r { (l < r) × ((r < length q.now) × ((length q.now ≤ 4096) × (is_letter molecule_side (nth q.now r) ≡ true))) }
-    requires l_in_bounds { (5 * (length p.now + 1) + l < length tables.now) × (from ≤ bound_at (length p.now) tables.now l) }
-    requires p_in_bounds { 2 * (length p.now + 1) ≤ length work.old }
+    requires l_room { (5 * (length p.now + 1) + l < length tables.now) × (from ≤ bound_at (length p.now) tables.now l) }
+    requires room { 2 * (length p.now + 1) ≤ length work.old }
     requires by_index { (j : ℕ) → from ≤ j → j ≤ last_at (length p.now) tables.now to l → (j ≤ nth work.old j) × (nth work.old j ≤ to) }
     ensures { Remade (λ j. arc_at (matches p.now (nth q.now l)) (matches p.now (nth q.now r))
         (nth pm.now) to (nth work.old j) (nth work.old (j + 1)) j) work.old work.new from
@@ -95,7 +95,7 @@ fn flat_row(
     requires setting { Setting p.now pm.now q.now qm.now from to }
     requires lo_le_hi { (lo ≤ hi) × (hi ≤ length q.now) }
     requires by_index { (u : ℕ) → lo ≤ u → u < hi → nth qm.now u ≡ u }
-    requires p_in_bounds { length p.now < length work.old }
+    requires room { length p.now < length work.old }
     requires tables { Tables p.now pm.now tables.now }
     requires bounded { Bounded p.now q.now tables.now from to lo hi }
     ensures { RowOf p.now pm.now q.now qm.now tables.now from to lo hi work.new }

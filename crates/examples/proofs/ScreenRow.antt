@@ -34,7 +34,7 @@ use Rattle.calls.proofs.ReadingLaws.{clean_length, clean_block, block_zero}
 use Rattle.calls.proofs.CallLaws.{add_does}
 use Rattle.calls.proofs.Stores.{stores_zeroed, add_judged}
 use Rattle.history.specs.Model.{Event, add, query, call, ends_period, start, held_in, known_in, model_verdict, embeds_at, hit_list}
-use Rattle.history.specs.Model.{searches, search_list, asked as afterQuery, model_answer, model_next, model_result, model_after, model_log}
+use Rattle.history.specs.Model.{searches, search_list, asked as after_query, model_answer, model_next, model_result, model_after, model_log}
 use Rattle.history.specs.History.{zeroed, at_most_once, admitted_from, admitted}
 use Rattle.history.proofs.Bytes.{bytes_result, bytes_next, bytes_log}
 use Rattle.history.proofs.Runs.{bytes_run}
@@ -191,7 +191,7 @@ stories_ok : ByModel (screen_story a) × ByModel (screen_story empty_motif)
 unfolding screen_story adding asking hits admitted admitted_from at_most_once model_log results_of embeds longest largest prefix_ok closed_to places_ok
     letters_match choose every some lowest_from lowest select some_list total same_list same_strand key first refuse_if refuse_at_lowest strand_verdict
     is_letter not_letter mate_outside not_mutual crosses crossed_at molecule_verdict motif_verdict work_verdict slot_of refused_by by_verdict ends_period
-    model_result model_after afterQuery start put_at is_held held_in known_in in_range model_verdict embeds_at hit_list searches search_list model_answer
+    model_result model_after after_query start put_at is_held held_in known_in in_range model_verdict embeds_at hit_list searches search_list model_answer
     model_next
 stories_ok = ((refl, refl), (refl, refl))
 

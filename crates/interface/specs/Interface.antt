@@ -17,7 +17,7 @@ use Rattle.calls.specs.declared.Removed.TheVariants as removed
 use Rattle.calls.specs.declared.Queried.{Queried}
 use Rattle.calls.specs.declared.Queried.TheVariants as queried
 use Rattle.calls.specs.declared.BatchRead.{BatchRead}
-use Rattle.calls.specs.declared.BatchRead.TheVariants as batchRead
+use Rattle.calls.specs.declared.BatchRead.TheVariants as batch_read
 use Rattle.calls.specs.declared.Batched.{Batched}
 use Rattle.calls.specs.Calls.{Effect, effect, QueryEffect}
 use Rattle.calls.specs.Batch.{BatchEffect}
@@ -95,8 +95,8 @@ refused_batch x counts searched =
 
 -- Batch: by how it ended, with the numbers of the motifs.
 unfoldable pub batch_read_in_c : BatchRead → List ℕ → List ℕ → BatchAnswer
-batch_read_in_c (batchRead.Molecules read) counts searched = accepted_batch read counts searched
-batch_read_in_c (batchRead.Refused x) counts searched = refused_batch x counts searched
+batch_read_in_c (batch_read.Molecules read) counts searched = accepted_batch read counts searched
+batch_read_in_c (batch_read.Refused x) counts searched = refused_batch x counts searched
 
 unfoldable pub batch_in_c : Batched → BatchAnswer
 batch_in_c a = batch_read_in_c a.read a.counts a.searched

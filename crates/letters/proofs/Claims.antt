@@ -6,7 +6,7 @@ use mathlib.Core.Logic.{◌⊎◌, inl, inr, ◌↔◌}
 use native.Mathlib.Decide.{ℕ_discrete}
 use lib.Dec.{eqb}
 use borrow.Author.Tests.{eq-eqb, ne_eqb, eqb-true}
-use Rattle.letters.specs.Letters.{is_tor_u, is_letter, letters_match}
+use Rattle.letters.specs.Letters.{is_t_or_u, is_letter, letters_match}
 use Rattle.letters.specs.Classes.{letter_class}
 use Rattle.letters.specs.Statements.{AmongTU, LetterSays, MatchSays, MatchesAlike, Claims}
 use Rattle.letters.proofs.LetterLaws.{match_class, one_class, letter_class_lem}
@@ -27,7 +27,7 @@ and_says false b f g = ((λ e. absurd (true≢false (sym e))), (λ h. f.1 h.0))
 same_says : (b c : ℕ) → (eqb b c ≡ true) ↔ (b ≡ c)
 same_says b c = (eqb-true b c, eq-eqb b c)
 
-among_says : (b : ℕ) → (is_tor_u b ≡ true) ↔ AmongTU b
+among_says : (b : ℕ) → (is_t_or_u b ≡ true) ↔ AmongTU b
 among_says b = or_says _ _ (same_says b 84) (same_says b 85)
 
 or_right : (a b c d : Bool) → (a || b || c || d) ≡ (a || (b || (c || d)))
@@ -38,7 +38,7 @@ or_right false false c d = refl
 letter_says : (side b : ℕ) → LetterSays side b
 unfolding is_letter
 letter_says side b =
-    rw (or_right (eqb b 65) (eqb b 67) (eqb b 71) (is_tor_u b))
+    rw (or_right (eqb b 65) (eqb b 67) (eqb b 71) (is_t_or_u b))
     (or_says _ _ (same_says b 65) (or_says _ _ (same_says b 67) (or_says _ _ (same_says b 71) (among_says b))))
 
 match_says : (p q : ℕ) → MatchSays p q

@@ -3,16 +3,16 @@ use Rattle.std.specs.Prelude.{ℕ, ◌<◌, ◌≡◌, Bool, true, not, ◌&&◌
 use Rattle.lists.specs.Vocabulary.{nth}
 
 -- T or U.
-abbrev pub is_tor_u : ℕ → Bool
-is_tor_u b = eqb b 84 || eqb b 85
+abbrev pub is_t_or_u : ℕ → Bool
+is_t_or_u b = eqb b 84 || eqb b 85
 
 -- 01: a letter is A, C, G or U (65, 67, 71, 85). 02, (vi): "T (byte 84) becomes a letter." Both sides have the same letters: the side is not read.
 unfoldable pub is_letter : ℕ → ℕ → Bool
-is_letter side b = eqb b 65 || eqb b 67 || eqb b 71 || is_tor_u b
+is_letter side b = eqb b 65 || eqb b 67 || eqb b 71 || is_t_or_u b
 
 -- The letter rule, the motif's base first. 02, (vi): "Two bases now match when they are the same byte or both are among T and U."
 unfoldable pub letters_match : ℕ → ℕ → Bool
-letters_match p q = eqb p q || (is_tor_u p && is_tor_u q)
+letters_match p q = eqb p q || (is_t_or_u p && is_t_or_u q)
 
 -- The base at i is no letter.
 unfoldable pub not_letter : ℕ → List ℕ → ℕ → Bool

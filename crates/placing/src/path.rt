@@ -90,7 +90,7 @@ pub fn keep(
     requires closed { Closed (nth pm.now) from to }
     requires l_lt_r { (l < r) × ((r < length q.now) × (nth qm.now l ≡ r)) }
     requires kept_around { KeptAround p.now pm.now q.now qm.now from to kept work.old }
-    requires p_in_bounds { 24 * (length p.now + 1) ≤ length work.old }
+    requires room { 24 * (length p.now + 1) ≤ length work.old }
     requires all_starts { AllStarts p.now pm.now (length q.now) tables.now }
     ensures { SecondRow p.now pm.now q.now qm.now from to l r work.old work.new }
 {

@@ -114,7 +114,7 @@ pub fn take_at(
     requires setting { Setting p.now pm.now q.now qm.now from to }
     requires from_lt_to { (from < to) × (to ≤ length places.old) }
     requires l_lt_r { (l < r) × ((r < length q.now) × (nth qm.now l ≡ r)) }
-    requires p_in_bounds { 23 * (length p.now + 1) ≤ length work.old }
+    requires room { 23 * (length p.now + 1) ≤ length work.old }
     requires all_starts { AllStarts p.now pm.now (length q.now) tables.now }
     ensures taken { Taken p.now pm.now q.now qm.now from to l r result }
     ensures ended { Ended from l r result places.old places.new }
@@ -156,7 +156,7 @@ pub fn take_kept(
     requires from_lt_to { (from < to) × (to ≤ length places.old) }
     requires l_lt_r { (l < r) × ((r < length q.now) × (nth qm.now l ≡ r)) }
     requires kept_around { KeptAround p.now pm.now q.now qm.now from to kept work.old }
-    requires p_in_bounds { 24 * (length p.now + 1) ≤ length work.old }
+    requires room { 24 * (length p.now + 1) ≤ length work.old }
     requires all_starts { AllStarts p.now pm.now (length q.now) tables.now }
     ensures taken { Taken p.now pm.now q.now qm.now from to l r result }
     ensures ended { Ended from l r result places.old places.new }

@@ -79,7 +79,7 @@ pub fn extend(
     requires segment { Segment p.now pm.now from to }
     requires from_le_last { (from ≤ last) × (last ≤ to) }
     requires tables { Tables p.now pm.now tables.now }
-    requires b_value { is_letter molecule_side b ≡ true }
+    requires b_letter { is_letter molecule_side b ≡ true }
     requires to_in_bounds { to < length row.old }
     ensures { Written (λ j. nth row.old (unit_at (matches p.now b) (nth pm.now) to j))
         row.old row.new from (min (last + 1) to) }
@@ -116,7 +116,7 @@ pub fn single(
     requires segment { Segment p.now pm.now from to }
     requires from_le_last { (from ≤ last) × (last ≤ to) }
     requires tables { Tables p.now pm.now tables.now }
-    requires b_value { is_letter molecule_side b ≡ true }
+    requires b_letter { is_letter molecule_side b ≡ true }
     requires to_in_bounds { to < length row.old }
     ensures { Written (unit_at (matches p.now b) (nth pm.now) to) row.old row.new from (last + 1) }
 {
@@ -157,7 +157,7 @@ pub fn cut(from: usize, to: usize, at: usize, row: &mut [u16])
 pub fn next_of(p: &[u8], pm: &[u16], tables: &[u16], from: usize, y: u8) -> usize
     requires p_len_bound { (length p.now ≤ 4096) × (from ≤ length p.now) }
     requires tables { Tables p.now pm.now tables.now }
-    requires y_value { is_letter molecule_side y ≡ true }
+    requires y_letter { is_letter molecule_side y ≡ true }
     ensures { result ≡ unit_at (matches p.now y) (nth pm.now) (length p.now) from }
 {
     let at = tables::steps_at(p.len(), y);
@@ -219,7 +219,7 @@ pub fn arc_entry(
     requires pm_len { (length pm.now ≡ length p.now) × (length p.now ≤ 4096) }
     requires from_in_bounds { (from < length p.now) × (here ≤ length p.now) }
     requires tables { Tables p.now pm.now tables.now }
-    requires y_value { is_letter molecule_side y ≡ true }
+    requires y_letter { is_letter molecule_side y ≡ true }
     ensures { result ≡ arc_at (matches p.now x) (matches p.now y) (nth pm.now) (length p.now) here next from }
 {
     let both = next_of(p, pm, tables, here as usize, y) as u16;
@@ -379,8 +379,8 @@ pub fn close_arc(
     requires segment { Segment p.now pm.now from to }
     requires from_le_last { (from ≤ last) × (last ≤ to) }
     requires tables { Tables p.now pm.now tables.now }
-    requires y_value { is_letter molecule_side y ≡ true }
-    requires p_in_bounds { 2 * (length p.now + 1) ≤ length row.old }
+    requires y_letter { is_letter molecule_side y ≡ true }
+    requires room { 2 * (length p.now + 1) ≤ length row.old }
     requires by_index { (j : ℕ) → from ≤ j → j ≤ last → (j ≤ nth row.old j) × (nth row.old j ≤ to) }
     ensures { Remade (λ j. arc_at (matches p.now x) (matches p.now y) (nth pm.now) to
         (nth row.old j) (nth row.old (j + 1)) j) row.old row.new from (min (last + 1) to) }

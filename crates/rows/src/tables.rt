@@ -98,7 +98,7 @@ fn add_mates(p: &[u8], pm: &[u16], tables: &mut [u16])
 // Writes the row of the unbonded base b to its place.
 fn put_base(p: &[u8], pm: &[u16], b: u8, tables: &mut [u16])
     requires pm_len { (length pm.now ≡ length p.now) × (length p.now ≤ 4096) }
-    requires p_in_bounds { 5 * (length p.now + 1) ≤ length tables.old }
+    requires room { 5 * (length p.now + 1) ≤ length tables.old }
     ensures { Written (λ k. unit_at (matches p.now b) (nth pm.now) (length p.now)
         (k - steps_at (length p.now) b)) tables.old tables.new
         (steps_at (length p.now) b) (steps_at (length p.now) b + length p.now + 1) }
@@ -111,7 +111,7 @@ fn put_base(p: &[u8], pm: &[u16], b: u8, tables: &mut [u16])
 pub fn fill(p: &[u8], pm: &[u16], tables: &mut [u16])
     requires pm_len { (length pm.now ≡ length p.now) × (length p.now ≤ 4096) }
     requires nested { Nested (nth pm.now) (length p.now) }
-    requires p_in_bounds { 5 * (length p.now + 1) ≤ length tables.old }
+    requires room { 5 * (length p.now + 1) ≤ length tables.old }
     ensures { Tables p.now pm.now tables.new }
 {
     put_classes(p, tables);

@@ -72,8 +72,8 @@ fn ask_lent(
     bases: &mut [u8],
     mates: &mut [u16],
 ) -> Queried
-    requires input_value { is_input input.now ≡ true }
-    requires input_value_2 { holds_motif (first_block input.now) ≡ true }
+    requires input_whole { is_input input.now ≡ true }
+    requires motif_held { holds_motif (first_block input.now) ≡ true }
     requires block_bases_in_bounds { (block_bases ≤ length bases.old) × (block_bases ≤ length mates.old) }
     ensures { (queried result cache.new hits.new
         ≡ query_outcome embeds (catalog_in input.now) cache.old (motif_handed_in (first_block input.now)) (length work.old) hits.old)
@@ -93,8 +93,8 @@ fn ask_lent(
 
 // The same with a zeroed cache, and room for the motif.
 fn ask(input: &[u8], cache: &mut [u8], work: &mut [u16], hits: &mut [u16]) -> Queried
-    requires input_value { is_input input.now ≡ true }
-    requires input_value_2 { holds_motif (first_block input.now) ≡ true }
+    requires input_whole { is_input input.now ≡ true }
+    requires motif_held { holds_motif (first_block input.now) ≡ true }
     requires cache_len { length cache.old ≡ block_size }
     ensures { (queried result cache.new hits.new
         ≡ query_outcome embeds (catalog_in input.now) empty_block (motif_handed_in (first_block input.now)) (length work.old) hits.old)
@@ -136,7 +136,7 @@ fn write_output(
 ) -> usize
     requires { has_room (length out.old) (length cache.old) (length work.old) (length hits.old) ≡ true }
     ensures text_put { TextPut (screen_output embeds input.now) out.old out.new 0 result }
-    ensures cache_after { (cache.new ≡ cache_left embeds input.now cache.old (length work.old) hits.old)
+    ensures buffers_after { (cache.new ≡ cache_left embeds input.now cache.old (length work.old) hits.old)
         × (hits.new ≡ hits_left embeds input.now (length work.old) hits.old)
         × (is_asked input.now ≡ true → WorkKept (screen_verdict input.now (length work.old) (length hits.old)) work.old work.new)
         × (is_asked input.now ≡ false → work.new ≡ work.old) }
@@ -161,7 +161,7 @@ pub fn screen(
     work: &mut [u16],
     hits: &mut [u16],
 ) -> Screened
-    ensures hits_after { screened result out.new cache.new hits.new ≡ screen_outcome embeds input.now out.old cache.old (length work.old) hits.old }
+    ensures outcome { screened result out.new cache.new hits.new ≡ screen_outcome embeds input.now out.old cache.old (length work.old) hits.old }
     ensures work_kept { ((has_room (length out.old) (length cache.old) (length work.old) (length hits.old) && is_asked input.now) ≡ true
         → WorkKept (screen_verdict input.now (length work.old) (length hits.old)) work.old work.new)
         × ((has_room (length out.old) (length cache.old) (length work.old) (length hits.old) && is_asked input.now) ≡ false

@@ -58,7 +58,7 @@ pub(crate) fn put_line(out: &mut [u8], at: usize, n: usize) -> usize
 // The first `count` of the numbers, each on its own line.
 pub(crate) fn put_lines(out: &mut [u8], at: usize, numbers: &[u16], count: usize) -> usize
     requires count_in_bounds { count ≤ length numbers.now }
-    requires numbers_in_bounds { at + length (lines (take count numbers.now)) ≤ length out.old }
+    requires text_fits { at + length (lines (take count numbers.now)) ≤ length out.old }
     ensures { TextPut (lines (take count numbers.now)) out.old out.new at result }
 {
     let mut past = at;
@@ -73,7 +73,7 @@ pub(crate) fn put_lines(out: &mut [u8], at: usize, numbers: &[u16], count: usize
 // The text of an answered query.
 pub(crate) fn put_hits(out: &mut [u8], count: usize, searched: usize, numbers: &[u16]) -> usize
     requires count_in_bounds { count ≤ length numbers.now }
-    requires numbers_in_bounds { length (hits_text count searched (take count numbers.now)) ≤ length out.old }
+    requires text_fits { length (hits_text count searched (take count numbers.now)) ≤ length out.old }
     ensures { TextPut (hits_text count searched (take count numbers.now)) out.old out.new 0 result }
 {
     let a = put_field(out, 0, b"hits ", count);

@@ -280,9 +280,9 @@ fn place_all_lent(
     tables: &mut [u16],
 ) -> usize
     requires setting { Setting p.now pm.now q.now qm.now 0 (length p.now) }
-    requires p_in_bounds { length p.now ≤ length places.old }
-    requires q_in_bounds { work_size (length p.now) (length q.now) ≤ length work.old }
-    requires q_in_bounds_2 { 5 * (length p.now + 1) + length q.now < length tables.old }
+    requires room { length p.now ≤ length places.old }
+    requires work_room { work_size (length p.now) (length q.now) ≤ length work.old }
+    requires table_room { 5 * (length p.now + 1) + length q.now < length tables.old }
     ensures best { Best (letters_fit p.now q.now) (nth pm.now) (nth qm.now) (length p.now) 0 result 0 (length q.now) }
     ensures laid { Laid p.now pm.now q.now qm.now 0 result 0 (length q.now) places.old places.new }
 {
@@ -301,8 +301,8 @@ fn place_all_short(
     work: &mut [u16],
 ) -> usize
     requires setting { Setting p.now pm.now q.now qm.now 0 (length p.now) }
-    requires p_in_bounds { length p.now ≤ length places.old }
-    requires q_in_bounds { work_size (length p.now) (length q.now) ≤ length work.old }
+    requires room { length p.now ≤ length places.old }
+    requires work_room { work_size (length p.now) (length q.now) ≤ length work.old }
     requires p_len_bound { (length p.now ≤ 120) × (length q.now ≤ 160) }
     ensures best { Best (letters_fit p.now q.now) (nth pm.now) (nth qm.now) (length p.now) 0 result 0 (length q.now) }
     ensures laid { Laid p.now pm.now q.now qm.now 0 result 0 (length q.now) places.old places.new }
@@ -321,8 +321,8 @@ pub fn place_all(
     work: &mut [u16],
 ) -> usize
     requires setting { Setting p.now pm.now q.now qm.now 0 (length p.now) }
-    requires p_in_bounds { length p.now ≤ length places.old }
-    requires q_in_bounds { work_size (length p.now) (length q.now) ≤ length work.old }
+    requires room { length p.now ≤ length places.old }
+    requires work_room { work_size (length p.now) (length q.now) ≤ length work.old }
     ensures best { Best (letters_fit p.now q.now) (nth pm.now) (nth qm.now) (length p.now) 0 result 0 (length q.now) }
     ensures laid { Laid p.now pm.now q.now qm.now 0 result 0 (length q.now) places.old places.new }
 {

@@ -9,7 +9,7 @@ ghost use Rattle.strand.specs.Strands.{strand_of, Nested, Proper, least_motif, l
 ghost use Rattle.refusals.specs.Rules.{motif_side, molecule_side, work_size};
 ghost use Rattle.embedding.specs.Row.{Best};
 ghost use Rattle.embedding.specs.Embedding.{letters_fit};
-ghost use Rattle.embedding.specs.Longest.{longest, embeds as embedsIn};
+ghost use Rattle.embedding.specs.Longest.{longest, embeds as embeds_in};
 ghost use Rattle.rows.specs.Rows.{Tables, bound_at};
 ghost use Rattle.arcs.specs.Arcs.{Setting, Bounded};
 ghost use Rattle.placing.specs.Placing.{Walked};
@@ -25,7 +25,7 @@ pub const QUERY_TABLES: usize = tables::SHORT_SIZE;
 pub fn prepare(p: &[u8], pm: &[u16], tables: &mut [u16])
     requires pm_len { (length pm.now ≡ length p.now) × (length p.now ≤ 4096) }
     requires nested { Nested (nth pm.now) (length p.now) }
-    requires p_in_bounds { 5 * (length p.now + 1) ≤ length tables.old }
+    requires room { 5 * (length p.now + 1) ≤ length tables.old }
     ensures { (n : ℕ) → 5 * (length p.now + 1) + n < length tables.old
         → TablesFor p.now pm.now n tables.new }
 {
@@ -172,7 +172,7 @@ fn arc_end(
     requires setting { Setting p.now pm.now q.now qm.now from (length p.now) }
     requires from_in_bounds { from < length p.now }
     requires l_lt_r { (l < r) × ((r < length q.now) × (nth qm.now l ≡ r)) }
-    requires q_in_bounds { work_size (length p.now) (length q.now) ≤ length work.old }
+    requires work_room { work_size (length p.now) (length q.now) ≤ length work.old }
     requires tables { Tables p.now pm.now tables.now }
     requires bounded { Bounded p.now q.now tables.now from (length p.now) l (r + 1) × (most ≡ bound_at (length p.now) tables.now (r + 1)) }
     ensures { Best (letters_fit p.now q.now) (nth pm.now) (nth qm.now) (length p.now) from result
@@ -201,7 +201,7 @@ fn top_arc_end(
     requires setting { Setting p.now pm.now q.now qm.now from (length p.now) }
     requires from_in_bounds { from < length p.now }
     requires l_lt_r { (l < r) × ((r < length q.now) × (nth qm.now l ≡ r)) }
-    requires q_in_bounds { work_size (length p.now) (length q.now) ≤ length work.old }
+    requires work_room { work_size (length p.now) (length q.now) ≤ length work.old }
     requires tables_for { TablesFor p.now pm.now (length q.now) tables.old }
     ensures best { Best (letters_fit p.now q.now) (nth pm.now) (nth qm.now) (length p.now) from result
         l (r + 1) }
@@ -227,7 +227,7 @@ fn whole_end(
 ) -> usize
     requires setting { Setting p.now pm.now q.now qm.now 0 (length p.now) }
     requires walked { Walked p.now pm.now q.now qm.now (length p.now) 0 0 (length q.now) start base }
-    requires q_in_bounds { work_size (length p.now) (length q.now) ≤ length work.old }
+    requires work_room { work_size (length p.now) (length q.now) ≤ length work.old }
     requires tables_for { TablesFor p.now pm.now (length q.now) tables.old }
     ensures { result ≡ longest letters_match p.now pm.now q.now qm.now }
 {
@@ -281,7 +281,7 @@ pub fn carries(
     requires proper { Proper motif_side least_motif greatest_length p.now pm.now }
     requires proper_2 { Proper molecule_side least_molecule greatest_length q.now qm.now }
     requires lo_le_hi { (lo ≤ hi) × (hi ≤ length q.now) }
-    requires q_in_bounds { work_size (length p.now) (length q.now) ≤ length work.old }
+    requires work_room { work_size (length p.now) (length q.now) ≤ length work.old }
     requires tables_for { TablesFor p.now pm.now (length q.now) tables.old }
     ensures tells { Tells result (Carried p.now pm.now q.now qm.now lo hi) }
     ensures tables_for_2 { TablesFor p.now pm.now (length q.now) tables.new }
@@ -327,9 +327,9 @@ pub fn embeds(
 ) -> bool
     requires proper { Proper motif_side least_motif greatest_length p.now pm.now }
     requires proper_2 { Proper molecule_side least_molecule greatest_length q.now qm.now }
-    requires q_in_bounds { work_size (length p.now) (length q.now) ≤ length work.old }
+    requires work_room { work_size (length p.now) (length q.now) ≤ length work.old }
     requires tables_for { TablesFor p.now pm.now (length q.now) tables.old }
-    ensures value { result ≡ embedsIn (strand_of p.now pm.now) (strand_of q.now qm.now) }
+    ensures value { result ≡ embeds_in (strand_of p.now pm.now) (strand_of q.now qm.now) }
     ensures tables_for_2 { TablesFor p.now pm.now (length q.now) tables.new }
 {
     carries(p, pm, tables, q, qm, 0, q.len(), work)
@@ -348,8 +348,8 @@ fn rest_lent(
 ) -> usize
     requires setting { Setting p.now pm.now q.now qm.now 0 (length p.now) }
     requires walked { Walked p.now pm.now q.now qm.now (length p.now) 0 0 (length q.now) start base }
-    requires q_in_bounds { work_size (length p.now) (length q.now) ≤ length work.old }
-    requires q_in_bounds_2 { 5 * (length p.now + 1) + length q.now < length tables.old }
+    requires work_room { work_size (length p.now) (length q.now) ≤ length work.old }
+    requires table_room { 5 * (length p.now + 1) + length q.now < length tables.old }
     ensures { result ≡ longest letters_match p.now pm.now q.now qm.now }
 {
     prepare(p, pm, tables);
@@ -368,7 +368,7 @@ fn rest_short(
 ) -> usize
     requires setting { Setting p.now pm.now q.now qm.now 0 (length p.now) }
     requires walked { Walked p.now pm.now q.now qm.now (length p.now) 0 0 (length q.now) start base }
-    requires q_in_bounds { work_size (length p.now) (length q.now) ≤ length work.old }
+    requires work_room { work_size (length p.now) (length q.now) ≤ length work.old }
     requires p_len_bound { (length p.now ≤ 120) × (length q.now ≤ 160) }
     ensures { result ≡ longest letters_match p.now pm.now q.now qm.now }
 {
@@ -388,7 +388,7 @@ fn rest_long(
 ) -> usize
     requires setting { Setting p.now pm.now q.now qm.now 0 (length p.now) }
     requires walked { Walked p.now pm.now q.now qm.now (length p.now) 0 0 (length q.now) start base }
-    requires q_in_bounds { work_size (length p.now) (length q.now) ≤ length work.old }
+    requires work_room { work_size (length p.now) (length q.now) ≤ length work.old }
     ensures { result ≡ longest letters_match p.now pm.now q.now qm.now }
 {
     let mut tables = [0u16; tables::LONG_SIZE];
@@ -400,7 +400,7 @@ fn rest_long(
 pub fn prefix_length(p: &[u8], pm: &[u16], q: &[u8], qm: &[u16], work: &mut [u16]) -> usize
     requires proper { Proper motif_side least_motif greatest_length p.now pm.now }
     requires proper_2 { Proper molecule_side least_molecule greatest_length q.now qm.now }
-    requires q_in_bounds { work_size (length p.now) (length q.now) ≤ length work.old }
+    requires work_room { work_size (length p.now) (length q.now) ≤ length work.old }
     ensures { result ≡ longest letters_match p.now pm.now q.now qm.now }
 {
     let at = first_arc(p, pm, q, qm);

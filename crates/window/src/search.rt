@@ -33,7 +33,7 @@ fn less(a: usize, b: usize) -> usize
 
 // Whether the motif's first base may stand at i: its letter fits, and i begins an arc if that base does.
 fn may_begin(p: &[u8], pm: &[u16], q: &[u8], qm: &[u16], i: usize) -> bool
-    requires p_nonzero { (0 < length p.now) × (0 < length pm.now) }
+    requires p_nonempty { (0 < length p.now) × (0 < length pm.now) }
     requires i_in_bounds { (i < length q.now) × (i < length qm.now) }
     ensures { Tells result (MayBegin p.now pm.now q.now qm.now i) }
 {
@@ -48,7 +48,7 @@ fn may_begin(p: &[u8], pm: &[u16], q: &[u8], qm: &[u16], i: usize) -> bool
 
 // The lowest base from i on where the motif's first base may stand, or the molecule's length.
 fn next_begin(p: &[u8], pm: &[u16], q: &[u8], qm: &[u16], i: usize) -> usize
-    requires p_nonzero { (0 < length p.now) × (0 < length pm.now) }
+    requires p_nonempty { (0 < length p.now) × (0 < length pm.now) }
     requires i_in_bounds { (i ≤ length q.now) × (length qm.now ≡ length q.now) }
     ensures { NoneBegins p.now pm.now q.now qm.now i result }
 {
@@ -253,8 +253,8 @@ fn search_lent(
 ) -> Progress
     requires proper { Proper motif_side least_motif greatest_length p.now pm.now × (0 < length p.now) }
     requires proper_2 { Proper molecule_side least_molecule greatest_length q.now qm.now }
-    requires q_in_bounds { work_size (length p.now) (length q.now) ≤ length work.old }
-    requires q_in_bounds_2 { 5 * (length p.now + 1) + length q.now < length tables.old }
+    requires work_room { work_size (length p.now) (length q.now) ≤ length work.old }
+    requires table_room { 5 * (length p.now + 1) + length q.now < length tables.old }
     ensures { Found p.now pm.now q.now qm.now result }
 {
     walk::prepare(p, pm, tables);
@@ -278,7 +278,7 @@ fn search_lent(
 fn search_short(p: &[u8], pm: &[u16], q: &[u8], qm: &[u16], work: &mut [u16]) -> Progress
     requires proper { Proper motif_side least_motif greatest_length p.now pm.now × (0 < length p.now) }
     requires proper_2 { Proper molecule_side least_molecule greatest_length q.now qm.now }
-    requires q_in_bounds { work_size (length p.now) (length q.now) ≤ length work.old }
+    requires work_room { work_size (length p.now) (length q.now) ≤ length work.old }
     requires p_len_bound { (length p.now ≤ 120) × (length q.now ≤ 160) }
     ensures { Found p.now pm.now q.now qm.now result }
 {
@@ -290,7 +290,7 @@ fn search_short(p: &[u8], pm: &[u16], q: &[u8], qm: &[u16], work: &mut [u16]) ->
 fn search_long(p: &[u8], pm: &[u16], q: &[u8], qm: &[u16], work: &mut [u16]) -> Progress
     requires proper { Proper motif_side least_motif greatest_length p.now pm.now × (0 < length p.now) }
     requires proper_2 { Proper molecule_side least_molecule greatest_length q.now qm.now }
-    requires q_in_bounds { work_size (length p.now) (length q.now) ≤ length work.old }
+    requires work_room { work_size (length p.now) (length q.now) ≤ length work.old }
     ensures { Found p.now pm.now q.now qm.now result }
 {
     let mut tables = [0u16; tables::LONG_SIZE];
@@ -302,7 +302,7 @@ fn search_long(p: &[u8], pm: &[u16], q: &[u8], qm: &[u16], work: &mut [u16]) -> 
 pub fn tightest(p: &[u8], pm: &[u16], q: &[u8], qm: &[u16], work: &mut [u16]) -> Progress
     requires proper { Proper motif_side least_motif greatest_length p.now pm.now }
     requires proper_2 { Proper molecule_side least_molecule greatest_length q.now qm.now }
-    requires q_in_bounds { work_size (length p.now) (length q.now) ≤ length work.old }
+    requires work_room { work_size (length p.now) (length q.now) ≤ length work.old }
     ensures { Found p.now pm.now q.now qm.now result }
 {
     if p.len() == 0 {

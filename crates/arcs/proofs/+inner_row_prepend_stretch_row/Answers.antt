@@ -49,8 +49,8 @@ inner_row-close-requires t c =
       segment = c.requires.setting.segment;
       tables = c.requires.tables;
       l_lt_r = (A.up, (A.inside, (c.requires.setting.short, letter_at c.requires.setting _ A.inside)));
-      l_in_bounds = (omega (arith, D.room, A.up), D.start);
-      p_in_bounds = omega (arith, room_one c.requires.room, c.inner_row.auto.work);
+      l_room = (omega (arith, D.room, A.up), D.start);
+      room = omega (arith, room_one c.requires.room, c.inner_row.auto.work);
       by_index = inner_from D.bounds A.up c.inner_row.ensures;
     }
 
@@ -205,7 +205,7 @@ prepend-extend-requires t c =
       segment = c.requires.setting.segment;
       from_le_last = omega (arith, c.last_start-last.ensures, low);
       tables = c.requires.tables;
-      b_value = letter_at c.requires.setting _ kn;
+      b_letter = letter_at c.requires.setting _ kn;
       to_in_bounds = omega (arith, c.requires.setting.segment.ends, light_one c.requires.light_room, c.loop-i.invariant.4);
     }
 
@@ -253,8 +253,8 @@ prepend-close-requires t c =
       segment = c.requires.setting.segment;
       tables = c.requires.tables;
       l_lt_r = (ck, (kn, (c.requires.setting.short, letter_at c.requires.setting _ kn)));
-      l_in_bounds = (omega (arith, D.room, ck), D.start);
-      p_in_bounds = omega (
+      l_room = (omega (arith, D.room, ck), D.start);
+      room = omega (
         arith,
         c.inner_row.auto.work,
         part_length (length c.args.p.now + 1) c.loop-i.work
@@ -349,7 +349,7 @@ stretch_row-single-requires t c =
       segment = c.requires.setting.segment;
       from_le_last = omega (arith, c.last_start-last.ensures, low);
       tables = c.requires.tables;
-      b_value = letter_at c.requires.setting _ kn;
+      b_letter = letter_at c.requires.setting _ kn;
       to_in_bounds = omega (arith, c.requires.setting.segment.ends, light_one c.requires.light_room);
     }
 
@@ -386,8 +386,8 @@ stretch_row-close-requires t c =
       segment = c.requires.setting.segment;
       tables = c.requires.tables;
       l_lt_r = (ck, (kn, (c.requires.setting.short, letter_at c.requires.setting _ kn)));
-      l_in_bounds = (omega (arith, D.room, ck), D.start);
-      p_in_bounds = omega (
+      l_room = (omega (arith, D.room, ck), D.start);
+      room = omega (
         arith,
         c.inner_row.auto.work,
         room_one (room_child c.requires.light_room c.mate-l.result B.low (omega (arith, ck)) (omega (arith, ck, B.back))),

@@ -19,8 +19,8 @@ single-requires c =
         starts c.requires.bounded (c.args.hi - 1) c.requires.setting.segment.order (omega (arith, c.if-hi-lo.false)) (omega arith),
       );
       tables = c.requires.tables;
-      b_value = letter_at c.requires.setting _ (omega (arith, c.requires.lo_le_hi, c.if-hi-lo.false));
-      to_in_bounds = omega (arith, c.requires.setting.segment.ends, c.requires.p_in_bounds);
+      b_letter = letter_at c.requires.setting _ (omega (arith, c.requires.lo_le_hi, c.if-hi-lo.false));
+      to_in_bounds = omega (arith, c.requires.setting.segment.ends, c.requires.room);
     }
 
 pub loop-i-init : goal.loop-i-init
@@ -42,8 +42,8 @@ extend-requires c =
             (omega (arith, c.loop-i.invariant.1)),
       );
       tables = c.requires.tables;
-      b_value = letter_at c.requires.setting _ (omega (arith, c.requires.lo_le_hi, c.loop-i.invariant.1));
-      to_in_bounds = omega (arith, c.requires.setting.segment.ends, c.requires.p_in_bounds, c.loop-i.invariant.3, c.single.auto.row);
+      b_letter = letter_at c.requires.setting _ (omega (arith, c.requires.lo_le_hi, c.loop-i.invariant.1));
+      to_in_bounds = omega (arith, c.requires.setting.segment.ends, c.requires.room, c.loop-i.invariant.3, c.single.auto.row);
     }
 
 pub loop-i-preserved : goal.loop-i-preserved

@@ -1,5 +1,4 @@
 -- `capi::lakhido_add` meets its contract. The outcome is that of `catalog::add`, its answer told by `tell_add`.
-use borrow.Author.Rules.{rules}
 use Rattle.interface.specs.Interface.{add_in_c}
 use Rattle.interface.proofs.InterfaceLaws.{effect_in_c_lem}
 use Rattle.capi.proofs.lakhido_add.Goals as goal

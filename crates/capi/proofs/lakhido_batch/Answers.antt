@@ -1,6 +1,5 @@
 -- `capi::lakhido_batch` meets its contract. The outcome is that of `batch::batch`, its answer told by `tell_batch`; what is kept of the work slice is said
 -- by the same verdict.
-use borrow.Author.Rules.{rules}
 use Rattle.interface.proofs.InterfaceLaws.{batch_in_c_lem}
 use Rattle.capi.proofs.lakhido_batch.Goals as goal
 

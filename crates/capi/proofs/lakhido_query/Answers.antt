@@ -1,6 +1,5 @@
 -- `capi::lakhido_query` meets its contract. The outcome is that of `catalog::query`, its answer told by `tell_query`; what is kept of the work slice is
 -- said by the same verdict.
-use borrow.Author.Rules.{rules}
 use Rattle.interface.proofs.InterfaceLaws.{query_in_c_lem}
 use Rattle.capi.proofs.lakhido_query.Goals as goal
 

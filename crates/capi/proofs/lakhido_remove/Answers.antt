@@ -1,5 +1,4 @@
 -- `capi::lakhido_remove` meets its contract. The outcome is that of `catalog::remove`, its answer told by `tell_remove`.
-use borrow.Author.Rules.{rules}
 use Rattle.interface.specs.Interface.{remove_in_c}
 use Rattle.interface.proofs.InterfaceLaws.{effect_in_c_lem}
 use Rattle.capi.proofs.lakhido_remove.Goals as goal

@@ -26,7 +26,7 @@ prefix_length-length-requires c =
     record {
       proper = F.0.motif;
       proper_2 = F.0.molecule;
-      q_in_bounds = F.1;
+      work_room = F.1;
     }
 
 pub returns : goal.returns

@@ -26,8 +26,8 @@ pub place_all-length-requires : goal.place_all-length-requires
 place_all-length-requires c =
     let F = show_facts _ _ _ _ _ _ (sym c.judge_show-verdict.ensures ∙ c.in_default.is) in record {
       setting = F.0;
-      p_in_bounds = F.1;
-      q_in_bounds = F.2;
+      room = F.1;
+      work_room = F.2;
     }
 
 pub returns : goal.returns

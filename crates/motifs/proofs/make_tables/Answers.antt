@@ -16,7 +16,7 @@ prepare-requires c =
       );
       nested = laws.motif_nested c.args.motifs.now c.requires.0 c.args.t c.requires.1 _ c.bases_at-p.ensures _
           c.requires.2;
-      p_in_bounds = laws.tables_room c.args.motifs.now c.requires.0 c.args.t c.requires.1 _ c.bases_at-p.ensures
+      room = laws.tables_room c.args.motifs.now c.requires.0 c.args.t c.requires.1 _ c.bases_at-p.ensures
           c.args.tables.now c.requires.3;
     }
 

@@ -10,23 +10,23 @@ use Rattle.codec.proofs.OutcomeLaws as outcome
 use Rattle.screening.proofs.ask_lent.Goals as goal
 
 pub slice_bounds-decode_motif-end : goal.slice_bounds-decode_motif-end
-slice_bounds-decode_motif-end c = sym (length-take-le 512 c.args.input.now (omega (arith, (law.input_few c.args.input.now c.requires.input_value).0)))
+slice_bounds-decode_motif-end c = sym (length-take-le 512 c.args.input.now (omega (arith, (law.input_few c.args.input.now c.requires.input_whole).0)))
 
 pub slice_bounds-query-count : goal.slice_bounds-query-count
-slice_bounds-query-count c = omega (arith, (law.input_few c.args.input.now c.requires.input_value).0)
+slice_bounds-query-count c = omega (arith, (law.input_few c.args.input.now c.requires.input_whole).0)
 
 pub slice_bounds-query-start : goal.slice_bounds-query-start
-slice_bounds-query-start c = omega (arith, (law.input_few c.args.input.now c.requires.input_value).0)
+slice_bounds-query-start c = omega (arith, (law.input_few c.args.input.now c.requires.input_whole).0)
 
 pub slice_bounds-query-end-2 : goal.slice_bounds-query-end-2
 slice_bounds-query-end-2 c =
     let f = outcome.motif_there (take 512 c.args.input.now) c.args.bases.now c.args.mates.now
     c.decode_motif-n.result c.decode_motif-n.new.bases c.decode_motif-n.new.mates
-    (law.motif_sound (take 512 c.args.input.now) c.requires.input_value_2) c.requires.block_bases_in_bounds.0 c.requires.block_bases_in_bounds.1
+    (law.motif_sound (take 512 c.args.input.now) c.requires.motif_held) c.requires.block_bases_in_bounds.0 c.requires.block_bases_in_bounds.1
     c.decode_motif-n.ensures in
     omega (
       arith,
-      law.motif_fits (take 512 c.args.input.now) c.decode_motif-n.result c.requires.input_value_2 f.0,
+      law.motif_fits (take 512 c.args.input.now) c.decode_motif-n.result c.requires.motif_held f.0,
       c.requires.block_bases_in_bounds.0,
       c.decode_motif-n.auto.bases,
     )
@@ -35,11 +35,11 @@ pub slice_bounds-query-end-3 : goal.slice_bounds-query-end-3
 slice_bounds-query-end-3 c =
     let f = outcome.motif_there (take 512 c.args.input.now) c.args.bases.now c.args.mates.now
     c.decode_motif-n.result c.decode_motif-n.new.bases c.decode_motif-n.new.mates
-    (law.motif_sound (take 512 c.args.input.now) c.requires.input_value_2) c.requires.block_bases_in_bounds.0 c.requires.block_bases_in_bounds.1
+    (law.motif_sound (take 512 c.args.input.now) c.requires.motif_held) c.requires.block_bases_in_bounds.0 c.requires.block_bases_in_bounds.1
     c.decode_motif-n.ensures in
     sym (length-take-le c.decode_motif-n.result c.decode_motif-n.new.bases (omega (
       arith,
-      law.motif_fits (take 512 c.args.input.now) c.decode_motif-n.result c.requires.input_value_2 f.0,
+      law.motif_fits (take 512 c.args.input.now) c.decode_motif-n.result c.requires.motif_held f.0,
       c.requires.block_bases_in_bounds.0,
       c.decode_motif-n.auto.bases,
     )))
@@ -48,11 +48,11 @@ pub slice_bounds-query-end-4 : goal.slice_bounds-query-end-4
 slice_bounds-query-end-4 c =
     let f = outcome.motif_there (take 512 c.args.input.now) c.args.bases.now c.args.mates.now
     c.decode_motif-n.result c.decode_motif-n.new.bases c.decode_motif-n.new.mates
-    (law.motif_sound (take 512 c.args.input.now) c.requires.input_value_2) c.requires.block_bases_in_bounds.0 c.requires.block_bases_in_bounds.1
+    (law.motif_sound (take 512 c.args.input.now) c.requires.motif_held) c.requires.block_bases_in_bounds.0 c.requires.block_bases_in_bounds.1
     c.decode_motif-n.ensures in
     omega (
       arith,
-      law.motif_fits (take 512 c.args.input.now) c.decode_motif-n.result c.requires.input_value_2 f.0,
+      law.motif_fits (take 512 c.args.input.now) c.decode_motif-n.result c.requires.motif_held f.0,
       c.requires.block_bases_in_bounds.1,
       c.decode_motif-n.auto.mates,
     )
@@ -61,11 +61,11 @@ pub slice_bounds-query-end-5 : goal.slice_bounds-query-end-5
 slice_bounds-query-end-5 c =
     let f = outcome.motif_there (take 512 c.args.input.now) c.args.bases.now c.args.mates.now
     c.decode_motif-n.result c.decode_motif-n.new.bases c.decode_motif-n.new.mates
-    (law.motif_sound (take 512 c.args.input.now) c.requires.input_value_2) c.requires.block_bases_in_bounds.0 c.requires.block_bases_in_bounds.1
+    (law.motif_sound (take 512 c.args.input.now) c.requires.motif_held) c.requires.block_bases_in_bounds.0 c.requires.block_bases_in_bounds.1
     c.decode_motif-n.ensures in
     sym (length-take-le c.decode_motif-n.result c.decode_motif-n.new.mates (omega (
       arith,
-      law.motif_fits (take 512 c.args.input.now) c.decode_motif-n.result c.requires.input_value_2 f.0,
+      law.motif_fits (take 512 c.args.input.now) c.decode_motif-n.result c.requires.motif_held f.0,
       c.requires.block_bases_in_bounds.1,
       c.decode_motif-n.auto.mates,
     )))
@@ -74,12 +74,12 @@ pub returns : goal.returns
 returns c =
     let f = outcome.motif_there (take 512 c.args.input.now) c.args.bases.now c.args.mates.now
     c.decode_motif-n.result c.decode_motif-n.new.bases c.decode_motif-n.new.mates
-    (law.motif_sound (take 512 c.args.input.now) c.requires.input_value_2) c.requires.block_bases_in_bounds.0 c.requires.block_bases_in_bounds.1
+    (law.motif_sound (take 512 c.args.input.now) c.requires.motif_held) c.requires.block_bases_in_bounds.0 c.requires.block_bases_in_bounds.1
     c.decode_motif-n.ensures in (
       law.asked embeds c.args.input.now c.args.cache.now (length c.args.work.now) c.args.hits.now
           c.decode_motif-n.result c.decode_motif-n.new.bases c.decode_motif-n.new.mates
-          c.args.bases.now c.args.mates.now c.requires.input_value_2 f.0 f.1 f.2 _ c.query.ensures.0,
+          c.args.bases.now c.args.mates.now c.requires.motif_held f.0 f.1 f.2 _ c.query.ensures.0,
       law.asked_work embeds c.args.input.now c.args.cache.now (length c.args.work.now) c.args.hits.now
           c.decode_motif-n.result c.decode_motif-n.new.bases c.decode_motif-n.new.mates
-          c.args.bases.now c.args.mates.now c.requires.input_value_2 f.0 f.1 f.2 _ _ c.query.ensures.1,
+          c.args.bases.now c.args.mates.now c.requires.motif_held f.0 f.1 f.2 _ _ c.query.ensures.1,
     )

@@ -10,7 +10,7 @@ put_hits-requires c =
     record {
       count_in_bounds = (law.fits_hits c.in-Hits.count c.in-Hits.searched _ _ most_output c.in-Hits.is
           c.requires.answer_fits).0;
-      numbers_in_bounds = omega (
+      text_fits = omega (
         arith,
         (law.fits_hits c.in-Hits.count c.in-Hits.searched _ _ most_output c.in-Hits.is
             c.requires.answer_fits).1,

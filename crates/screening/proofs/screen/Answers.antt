@@ -8,7 +8,7 @@ use Rattle.screening.proofs.screen.Goals as goal
 pub returns-then-not-has_room : goal.returns-then-not-has_room
 returns-then-not-has_room c =
     record {
-      hits_after = law.outcome_none embeds c.args.input.now c.args.out.now c.args.cache.now (length c.args.work.now)
+      outcome = law.outcome_none embeds c.args.input.now c.args.out.now c.args.cache.now (length c.args.work.now)
           c.args.hits.now (sym c.has_room.ensures ∙ c.if-not-has_room.true);
       work_kept = law.work_none _ _ _ _ (sym c.has_room.ensures ∙ c.if-not-has_room.true);
     }
@@ -16,9 +16,9 @@ returns-then-not-has_room c =
 pub returns : goal.returns
 returns c =
     record {
-      hits_after = law.outcome_written embeds c.args.input.now c.args.out.now c.args.cache.now (length c.args.work.now)
+      outcome = law.outcome_written embeds c.args.input.now c.args.out.now c.args.cache.now (length c.args.work.now)
           c.args.hits.now (sym c.has_room.ensures ∙ c.if-not-has_room.false) c.write_output-n.ensures.text_put
-          c.write_output-n.ensures.cache_after.0 c.write_output-n.ensures.cache_after.1;
+          c.write_output-n.ensures.buffers_after.0 c.write_output-n.ensures.buffers_after.1;
       work_kept = law.work_room _ _ _ _ _ (sym c.has_room.ensures ∙ c.if-not-has_room.false)
-          (c.write_output-n.ensures.cache_after.2, c.write_output-n.ensures.cache_after.3);
+          (c.write_output-n.ensures.buffers_after.2, c.write_output-n.ensures.buffers_after.3);
     }

@@ -22,7 +22,7 @@ returns-then-not-is_input c =
     record {
       text_put = law.put_bad_length embeds c.args.input.now (sym c.is_input.ensures ∙ c.if-not-is_input.true)
           c.put_word.ensures;
-      cache_after = law.left_unasked embeds c.args.input.now c.args.out.now c.args.cache.now (length c.args.work.now)
+      buffers_after = law.left_unasked embeds c.args.input.now c.args.out.now c.args.cache.now (length c.args.work.now)
           c.args.hits.now c.args.work.now (law.not_input _ (sym c.is_input.ensures ∙ c.if-not-is_input.true));
     }
 
@@ -44,7 +44,7 @@ returns-then-not-holds_motif c =
     record {
       text_put = law.put_bad_motif embeds c.args.input.now (sym c.is_input.ensures ∙ c.if-not-is_input.false)
           (sym c.holds_motif.ensures ∙ c.if-not-holds_motif.true) c.put_word-then-not-holds_motif.ensures;
-      cache_after = law.left_unasked embeds c.args.input.now c.args.out.now c.args.cache.now (length c.args.work.now)
+      buffers_after = law.left_unasked embeds c.args.input.now c.args.out.now c.args.cache.now (length c.args.work.now)
           c.args.hits.now c.args.work.now (law.asked_by_motif _ _ (sym c.is_input.ensures ∙ c.if-not-is_input.false)
           (sym c.holds_motif.ensures ∙ c.if-not-holds_motif.true));
     }
@@ -52,8 +52,8 @@ returns-then-not-holds_motif c =
 pub ask-answer-requires : goal.ask-answer-requires
 ask-answer-requires c =
     record {
-      input_value = (sym c.is_input.ensures ∙ c.if-not-is_input.false);
-      input_value_2 = (sym c.holds_motif.ensures ∙ c.if-not-holds_motif.false);
+      input_whole = (sym c.is_input.ensures ∙ c.if-not-is_input.false);
+      motif_held = (sym c.holds_motif.ensures ∙ c.if-not-holds_motif.false);
       cache_len = (law.room_facts (length c.args.out.now) (length c.args.cache.now) (length c.args.work.now)
           (length c.args.hits.now) c.requires).1;
     }
@@ -80,7 +80,7 @@ returns c =
           (length c.args.hits.now) c.requires).2 (law.room_facts (length c.args.out.now) (length c.args.cache.now)
           (length c.args.work.now) (length c.args.hits.now) c.requires).3 c.ask-answer.ensures.0
           (sym c.holds_motif.ensures ∙ c.if-not-holds_motif.false) c.put_answer.ensures;
-      cache_after = law.left_asked embeds c.args.input.now c.args.out.now c.args.cache.now (length c.args.work.now)
+      buffers_after = law.left_asked embeds c.args.input.now c.args.out.now c.args.cache.now (length c.args.work.now)
           c.args.hits.now c.args.work.now c.ask-answer.new.work (law.asked_by_motif _ _
           (sym c.is_input.ensures ∙ c.if-not-is_input.false)
           (sym c.holds_motif.ensures ∙ c.if-not-holds_motif.false)) c.ask-answer.ensures.0 c.ask-answer.ensures.1;

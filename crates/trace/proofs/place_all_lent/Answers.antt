@@ -11,7 +11,7 @@ place-requires c =
       setting = c.requires.setting;
       lo_le_hi = omega arith;
       sealed = all_sealed c.requires.setting.molecule;
-      to_in_bounds = c.requires.p_in_bounds;
-      arc_levels = levels_whole _ _ _ c.requires.setting.molecule c.requires.setting.short (omega (arith, c.requires.q_in_bounds));
+      to_in_bounds = c.requires.room;
+      arc_levels = levels_whole _ _ _ c.requires.setting.molecule c.requires.setting.short (omega (arith, c.requires.work_room));
       all_starts = c.all_starts.ensures;
     }

@@ -16,7 +16,7 @@ inner_row-requires c =
     record {
       setting = c.requires.setting;
       l_lt_r = c.requires.l_lt_r;
-      room = room_whole _ _ _ _ _ c.requires.setting.short c.requires.l_lt_r.1.0 c.requires.q_in_bounds;
+      room = room_whole _ _ _ _ _ c.requires.setting.short c.requires.l_lt_r.1.0 c.requires.work_room;
       tables = c.requires.tables;
       bounded = bounded_within c.requires.bounded.0 _ _ (omega arith) (omega (arith, c.requires.l_lt_r.0)) (omega arith);
       kept_row = no_kept_row _;
@@ -33,7 +33,7 @@ arc_entry-requires c =
             (omega arith))).reach.upto,
       );
       tables = c.requires.tables;
-      y_value = letter_at c.requires.setting _ c.requires.l_lt_r.1.0;
+      y_letter = letter_at c.requires.setting _ c.requires.l_lt_r.1.0;
     }
 
 pub returns : goal.returns

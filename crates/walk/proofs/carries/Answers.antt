@@ -53,7 +53,7 @@ arc_end-from-requires c =
               c.if-l-r.true,
         ),
       );
-      q_in_bounds = omega (arith, c.requires.q_in_bounds, c.loop-l.invariant.1);
+      work_room = omega (arith, c.requires.work_room, c.loop-l.invariant.1);
       tables = (tables_filled c.loop-l.invariant.2 c.fill-most.ensures.tables_len_unchanged).motif;
       bounded = (c.fill-most.ensures.value.1, c.fill-most.ensures.value.0);
     }
@@ -84,7 +84,7 @@ next_of-from-requires c =
     record {
       p_len_bound = (c.requires.proper.small, omega (arith, c.if-m-from.false));
       tables = c.loop-l.invariant.2.motif;
-      y_value = letter_at S _ (omega (arith, c.requires.lo_le_hi.1));
+      y_letter = letter_at S _ (omega (arith, c.requires.lo_le_hi.1));
     }
 
 pub loop-l-preserved : goal.loop-l-preserved

@@ -9,7 +9,7 @@ arc_entry-requires c =
       pm_len = (c.requires.setting.segment.same, c.requires.setting.segment.small);
       from_in_bounds = (c.requires.from_in_bounds, c.loop_end-here.ensures.reach.upto);
       tables = c.requires.tables;
-      y_value = letter_at c.requires.setting _ c.requires.l_lt_r.1.0;
+      y_letter = letter_at c.requires.setting _ c.requires.l_lt_r.1.0;
     }
 
 pub returns : goal.returns

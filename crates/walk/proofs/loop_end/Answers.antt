@@ -13,7 +13,7 @@ next_of-end-requires c =
     record {
       p_len_bound = (c.requires.setting.segment.small, c.loop-i.invariant.0.reach.upto);
       tables = c.requires.tables;
-      y_value = letter_at c.requires.setting _ (omega (arith, c.requires.lo_le_hi));
+      y_letter = letter_at c.requires.setting _ (omega (arith, c.requires.lo_le_hi));
     }
 
 pub loop-i-preserved : goal.loop-i-preserved

@@ -6,6 +6,6 @@ whole_end-requires c =
     record {
       setting = c.requires.setting;
       walked = c.requires.walked;
-      q_in_bounds = c.requires.q_in_bounds;
-      tables_for = c.prepare.ensures _ c.requires.q_in_bounds_2;
+      work_room = c.requires.work_room;
+      tables_for = c.prepare.ensures _ c.requires.table_room;
     }

@@ -8,7 +8,7 @@ arc_end-requires c =
       setting = c.requires.setting;
       from_in_bounds = c.requires.from_in_bounds;
       l_lt_r = c.requires.l_lt_r;
-      q_in_bounds = c.requires.q_in_bounds;
+      work_room = c.requires.work_room;
       tables = (tables_filled c.requires.tables_for c.fill-most.ensures.tables_len_unchanged).motif;
       bounded = (c.fill-most.ensures.value.1, c.fill-most.ensures.value.0);
     }

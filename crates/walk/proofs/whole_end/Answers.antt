@@ -24,7 +24,7 @@ next_of-from-requires c =
     record {
       p_len_bound = (c.requires.setting.segment.small, omega (arith, c.if-m-from.false));
       tables = c.loop-l.invariant.2.motif;
-      y_value = letter_at c.requires.setting _ (omega arith);
+      y_letter = letter_at c.requires.setting _ (omega arith);
     }
 
 pub loop-l-preserved : goal.loop-l-preserved

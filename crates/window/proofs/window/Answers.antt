@@ -23,7 +23,7 @@ tightest-best-requires c =
     let F = window_facts _ _ _ _ _ (sym c.judge_length-verdict.ensures ∙ c.in_default.is) in record {
       proper = F.0.motif;
       proper_2 = F.0.molecule;
-      q_in_bounds = F.1;
+      work_room = F.1;
     }
 
 pub returns-then-q-length : goal.returns-then-q-length

@@ -9,7 +9,7 @@ embeds-requires c =
     c.requires.1 c.args.q.now c.args.qm.now c.requires.3 in record {
       proper = all.0;
       proper_2 = all.1.0;
-      q_in_bounds = all.1.1.0;
+      work_room = all.1.1.0;
       tables_for = all.1.1.1;
     }
 

@@ -13,7 +13,7 @@ inner_row-requires c =
       setting = segment_of _ _ _ c.requires.setting c.requires.from_lt_to.0 c.smaller-end.ensures c.requires.l_lt_r.0 c.requires.l_lt_r.1.0
           c.requires.l_lt_r.1.1;
       l_lt_r = c.requires.l_lt_r;
-      room = room_any (omega (arith, c.requires.setting.short, c.requires.l_lt_r)) c.requires.p_in_bounds;
+      room = room_any (omega (arith, c.requires.setting.short, c.requires.l_lt_r)) c.requires.room;
       tables = c.requires.all_starts.motif;
       bounded = starts_bounded c.requires.all_starts
           (omega (

@@ -10,7 +10,7 @@ close_short-requires c =
     record {
       segment = c.requires.segment;
       tables = c.requires.tables;
-      steps = law.steps_of _ _ _ _ _ _ c.requires.tables c.requires.y_value c.steps_at-at.ensures.0 c.requires.segment.ends;
+      steps = law.steps_of _ _ _ _ _ _ c.requires.tables c.requires.y_letter c.steps_at-at.ensures.0 c.requires.segment.ends;
       from_le_end = (
         omega (arith, c.end_of-end.ensures, c.requires.from_le_last, c.requires.segment.order),
         (omega (arith, c.end_of-end.ensures), omega (arith, c.requires.segment.ends)),
@@ -21,12 +21,12 @@ close_short-requires c =
 pub returns-then-end-from : goal.returns-then-end-from
 returns-then-end-from c =
     passes.remade_short _ _ _ _ _ _ _ (part c.steps_at-at.result c.args.tables.now)
-    (law.step_capped _ _ _ _ _ _ c.requires.tables c.requires.y_value c.steps_at-at.ensures.0 c.requires.segment.ends)
+    (law.step_capped _ _ _ _ _ _ c.requires.tables c.requires.y_letter c.steps_at-at.ensures.0 c.requires.segment.ends)
     c.end_of-end.ensures _ _ c.requires.by_index c.close_short.ensures
 
 pub returns : goal.returns
 returns c =
     passes.remade _ _ _ _ _ _ _ (part c.steps_at-at.result c.args.tables.now)
-    (law.step_capped _ _ _ _ _ _ c.requires.tables c.requires.y_value c.steps_at-at.ensures.0 c.requires.segment.ends)
+    (law.step_capped _ _ _ _ _ _ c.requires.tables c.requires.y_letter c.steps_at-at.ensures.0 c.requires.segment.ends)
     c.end_of-end.ensures _ _ _ _ _ (omega (arith, c.requires.segment.ends)) c.requires.by_index c.over.ensures
     c.step.ensures c.raise.ensures

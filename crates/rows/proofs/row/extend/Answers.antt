@@ -12,12 +12,12 @@ pub extend_by-requires : goal.extend_by-requires
 extend_by-requires c =
     record {
       from_le_end = (omega arith, (omega arith, omega arith));
-      steps = tables.steps_of _ _ _ _ _ _ c.requires.tables c.requires.b_value c.steps_at-at.ensures.0 (omega arith);
+      steps = tables.steps_of _ _ _ _ _ _ c.requires.tables c.requires.b_letter c.steps_at-at.ensures.0 (omega arith);
     }
 
 pub returns : goal.returns
 returns c =
     pass_end _ _ _ _ _ _ (pass_as (λ (j : ℕ). nth c.args.row.now (nth (part c.steps_at-at.result c.args.tables.now) j)) _ _ _
     _ _ c.extend_by.ensures (λ k h. ap (nth c.args.row.now) (tables.step_unit _ _ _ _ _ _ c.requires.tables
-    c.requires.b_value c.steps_at-at.ensures.0 c.requires.segment.ends k (omega (arith, c.end_of-end.ensures)))))
+    c.requires.b_letter c.steps_at-at.ensures.0 c.requires.segment.ends k (omega (arith, c.end_of-end.ensures)))))
     (omega (arith, c.end_of-end.ensures)) (omega (arith, c.end_of-end.ensures))

@@ -9,13 +9,13 @@ pub copy_steps-requires : goal.copy_steps-requires
 copy_steps-requires c =
     record {
       from_le_end = (omega arith, (omega arith, omega arith));
-      steps = tables.steps_of _ _ _ _ _ _ c.requires.tables c.requires.b_value c.steps_at-at.ensures.0 (omega arith);
+      steps = tables.steps_of _ _ _ _ _ _ c.requires.tables c.requires.b_letter c.steps_at-at.ensures.0 (omega arith);
     }
 
 pub returns : goal.returns
 returns c =
     pass_set _ _ _ _ _ _ (pass_as _ _ _ _ _ _ c.copy_steps.ensures (λ k h. tables.step_unit _ _ _ _ _ _ c.requires.tables
-    c.requires.b_value c.steps_at-at.ensures.0 c.requires.segment.ends k (omega (arith, c.requires.from_le_last)))) (omega arith)
+    c.requires.b_letter c.steps_at-at.ensures.0 c.requires.segment.ends k (omega (arith, c.requires.from_le_last)))) (omega arith)
     (omega arith) (c.smaller.ensures
-    ∙ tables.step_capped _ _ _ _ _ _ c.requires.tables c.requires.b_value c.steps_at-at.ensures.0 c.requires.segment.ends _
+    ∙ tables.step_capped _ _ _ _ _ _ c.requires.tables c.requires.b_letter c.steps_at-at.ensures.0 c.requires.segment.ends _
     c.requires.from_le_last.1)

@@ -6,5 +6,5 @@ use Rattle.rows.proofs.tables.fill.Goals as goal
 pub returns : goal.returns
 returns c =
     tables.tables_made _ _ _ _ _ _ _ _ (λ i. omega (arith, c.shared_slice_known-1.given i))
-    (omega (arith, c.requires.p_in_bounds, c.put_classes.ensures.long)) c.add_mates.ensures c.put_base.ensures
+    (omega (arith, c.requires.room, c.put_classes.ensures.long)) c.add_mates.ensures c.put_base.ensures
     c.put_base-2.ensures c.put_base-3.ensures c.put_base-4.ensures

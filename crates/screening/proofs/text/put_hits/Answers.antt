@@ -10,7 +10,7 @@ put_field-a-requires c =
     omega (
       arith,
       law.hits_length c.args.count c.args.searched (take c.args.count c.args.numbers.now),
-      c.requires.numbers_in_bounds,
+      c.requires.text_fits,
     )
 
 pub put_field-b-requires : goal.put_field-b-requires
@@ -18,7 +18,7 @@ put_field-b-requires c =
     omega (
       arith,
       law.hits_length c.args.count c.args.searched (take c.args.count c.args.numbers.now),
-      c.requires.numbers_in_bounds,
+      c.requires.text_fits,
       c.put_field-a.ensures.past,
       c.put_field-a.auto.out,
     )
@@ -28,7 +28,7 @@ put_byte-past-requires c =
     omega (
       arith,
       law.hits_length c.args.count c.args.searched (take c.args.count c.args.numbers.now),
-      c.requires.numbers_in_bounds,
+      c.requires.text_fits,
       c.put_field-a.ensures.past,
       c.put_field-a.auto.out,
       c.put_field-b.ensures.past,
@@ -39,10 +39,10 @@ pub put_lines-requires : goal.put_lines-requires
 put_lines-requires c =
     record {
       count_in_bounds = c.requires.count_in_bounds;
-      numbers_in_bounds = omega (
+      text_fits = omega (
         arith,
         law.hits_length c.args.count c.args.searched (take c.args.count c.args.numbers.now),
-        c.requires.numbers_in_bounds,
+        c.requires.text_fits,
         c.put_field-a.ensures.past,
         c.put_field-a.auto.out,
         c.put_field-b.ensures.past,
@@ -54,5 +54,5 @@ put_lines-requires c =
 
 pub returns : goal.returns
 returns c =
-    law.hits_put _ _ _ c.requires.numbers_in_bounds c.put_field-a.ensures c.put_field-b.ensures c.put_byte-past.ensures
+    law.hits_put _ _ _ c.requires.text_fits c.put_field-a.ensures c.put_field-b.ensures c.put_byte-past.ensures
     c.put_lines.ensures

@@ -56,7 +56,7 @@ embeds-requires c =
       proper = matching.motif_long c.args.p.now c.args.pm.now c.requires.0.motif;
       proper_2 = matching.molecule_read (molecule_at c.args.catalog.now c.args.d) c.decode_molecule-n.result
           c.decode_molecule-n.new.bases c.decode_molecule-n.new.mates f;
-      q_in_bounds = matching.room (molecule_at c.args.catalog.now c.args.d) c.decode_molecule-n.result
+      work_room = matching.room (molecule_at c.args.catalog.now c.args.d) c.decode_molecule-n.result
           c.decode_molecule-n.new.bases c.decode_molecule-n.new.mates f c.args.p.now
           (length c.args.work.now) c.requires.0.room;
       tables_for = matching.tables_read (molecule_at c.args.catalog.now c.args.d) c.decode_molecule-n.result
