@@ -43,6 +43,7 @@ fn decode(s: &[u8], start: usize, most: usize, bases: &mut [u8], mates: &mut [u1
 }
 
 // Whether s is of one block's length, its length byte is at most 160, and the slices have so many places.
+#[tactic(auto, using(crate::proofs::OutcomeLaws::decodes_too_long))]
 fn can_decode(s: &[u8], bases: usize, mates: usize) -> bool
     ensures { result ≡ decodes s.now bases mates }
 {
