@@ -1,5 +1,5 @@
-"""What crates/testing has, for the scripts that make the cases: random numbers, bonds, sums, answers as numbers, strands that a field says. And the
-lines and counts of matcher_test and window_test.
+"""What crates/testing has, for the scripts that make the cases: random numbers, bonds, sums, answers as the numbers of a line, strands that a field says. And
+the lines and counts of matcher_test and window_test.
 """
 import collections
 

@@ -1,3 +1,4 @@
 pub mod Arcs
-pub mod Made
 pub mod BoundLaws
+pub mod Made
+pub mod Pairs

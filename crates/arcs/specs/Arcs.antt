@@ -8,6 +8,15 @@ use Rattle.embedding.specs.Embedding.{letters_fit}
 use Rattle.embedding.specs.Row.{IsRow, Bounds}
 use Rattle.rows.specs.Rows.{Segment, Tables, bound_at, last_at}
 
+-- A nested motif, and a nested molecule of letters.
+pub record Sound (p pm q qm : List ℕ) : Type 0 where
+  pub same : length pm ≡ length p
+  pub motif : Nested (nth pm) (length p)
+  pub equal : length qm ≡ length q
+  pub short : length q ≤ 4096
+  pub bases : all (is_letter molecule_side) q ≡ true
+  pub molecule : Nested (nth qm) (length q)
+
 -- A segment of a nested motif, and a nested molecule of letters.
 pub record Setting (p pm q qm : List ℕ) (from to : ℕ) : Type 0 where
   pub segment : Segment p pm from to

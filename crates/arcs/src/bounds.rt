@@ -17,7 +17,7 @@ fn next(p: &[u8], pm: &[u16], tables: &[u16], bound: usize, base: u8) -> usize
     if p.len() <= bound {
         return bound;
     }
-    if tables[bound] % 256 == letters::letter_class(base) as u16 {
+    if tables[bound] % 256 == u16::from(letters::letter_class(base)) {
         return bound + 1;
     }
     bound
@@ -43,11 +43,9 @@ pub fn fill(
 {
     let at = tables::ROWS * (p.len() + 1);
     let mut bound = from;
-    let mut i = lo;
-    while i < hi {
+    for i in lo..hi {
         tables[at + i] = bound as u16;
         bound = next(p, pm, tables, bound, q[i]);
-        i += 1;
     }
     tables[at + hi] = bound as u16;
     bound
@@ -60,9 +58,5 @@ pub fn all_starts(p: &[u8], pm: &[u16], n: usize, tables: &mut [u16])
     ensures { AllStarts p.now pm.now n tables.new }
 {
     let at = tables::ROWS * (p.len() + 1);
-    let mut i = 0;
-    while i <= n {
-        tables[at + i] = p.len() as u16;
-        i += 1;
-    }
+    tables[at..=at + n].fill(p.len() as u16);
 }

@@ -1,4 +1,5 @@
 -- The answers of a batch: what one query leaves from the hits that were found for it, and the queries one after the other.
+use Rattle.std.specs.Prelude.{Ok}
 use Prim.Native.Nat.{ℕ, ◌+◌, ◌-◌, ◌*◌, ◌<◌, ◌≤◌}
 use native.Mathlib.Omega.{arith}
 use native.Mathlib.Numerals.{add-one}
@@ -7,20 +8,20 @@ use mathlib.Core.Path.{◌≡◌, refl, sym, ap, ap₂, ◌∙◌}
 use mathlib.Core.Bool.{Bool, ◌&&◌, ◌||◌}
 use mathlib.Core.List.{List, [], ◌++◌}
 use borrow.Rule.Slice.PartMut.{put_mid}
-use lib.ListN.{length, drop}
+use lib.ListN.{length, get_or, drop}
 use Rattle.lists.specs.Vocabulary.{piece, put_piece, select}
 use Rattle.lists.proofs.Stretches.{piece_back, piece_within}
 use Rattle.strand.specs.Strands.{Strand, strand_of}
-use Rattle.octets.specs.Octets.{map_size, map_bit, map_bytes}
+use Rattle.octets.specs.Octets.{map_bit, map_bytes}
 use Rattle.octets.proofs.MapLaws.{length_map, map_small, map_is, map_bit_lem, map_ext}
 use Rattle.block.specs.Content.{entry_with, keeps_motif, searched_in, hit_in}
 use Rattle.block.specs.Block.{block_of, block_count, put_block}
 use Rattle.embedding.specs.Longest.{embeds}
+use Rattle.calls.specs.Answers.{hits_of}
 use Rattle.calls.specs.Buffers.{held, molecule_at}
 use Rattle.calls.specs.Calls.{slot_in, to_search, is_hit, QueryEffect, queried}
 use Rattle.calls.specs.Motifs.{motif_of}
 use Rattle.calls.specs.Batch.{batch_state, batch_to, query_at, count_of}
-use Rattle.calls.specs.declared.Queried.TheVariants.{Hits}
 use Rattle.calls.proofs.CallLaws.{hit_is}
 use Rattle.calls.proofs.ReadingLaws.{clean_same}
 use Rattle.calls.proofs.BatchLaws as batch
@@ -45,13 +46,13 @@ map_again w p e = map_is w (ap length e ∙ length_map p) (rw e (map_small p))
 
 -- ---- one query: its motif p, pm, its slot s with the entry there, and the entries that its hits go to
 
-module _ (catalog motifs mates h found cache : List ℕ) (t : ℕ) (A : Answering catalog motifs mates h found cache t) (p pm : List ℕ)
+module _ (catalog motifs h found cache : List ℕ) (t : ℕ) (A : Answering catalog motifs h found cache t) (p pm : List ℕ)
     (eq : strand_of p pm ≡ motif_of motifs t) (s : ℕ) (es : s ≡ slot_in cache (strand_of p pm)) (entry : List ℕ) (ee : entry ≡ block_of s cache)
     (hits : List ℕ) where
   entry_is : entry ≡ block_of (slot_in cache (motif_of motifs t)) cache
   entry_is = ee ∙ ap (λ (k : ℕ). block_of k cache) (es ∙ ap (slot_in cache) eq)
 
-  hit_map : (hit : List ℕ) → hit ≡ map_bytes (λ d. known_of h entry (strand_of p pm) d || map_bit found (map_size * t) d)
+  hit_map : (hit : List ℕ) → hit ≡ map_bytes (λ d. known_of h entry (strand_of p pm) d || map_bit found 0 d)
       → hit ≡ map_bytes (is_hit embeds catalog entry (strand_of p pm))
   unfolding known_of
   hit_map hit e =
@@ -64,14 +65,14 @@ module _ (catalog motifs mates h found cache : List ℕ) (t : ℕ) (A : Answerin
       ∙ sym (hit_is catalog entry (strand_of p pm) d embeds))
 
   -- c hits stand at the start of y, x is the cache with the new entry
-  pub query_answered : (hit x y : List ℕ) (c : ℕ) → hit ≡ map_bytes (λ d. known_of h entry (strand_of p pm) d || map_bit found (map_size * t) d)
+  pub query_answered : (hit x y : List ℕ) (c : ℕ) → hit ≡ map_bytes (λ d. known_of h entry (strand_of p pm) d || map_bit found 0 d)
       → (c ≡ length (select (block_count catalog) (map_bit hit 0))) × (y ≡ select (block_count catalog) (map_bit hit 0) ++ drop c hits)
       → x ≡ put_block s (entry_with [] p pm h hit) cache
       → (c ≡ count_of (answered catalog cache (motif_of motifs t) hits).answer) × (x ≡ (answered catalog cache (motif_of motifs t) hits).cache)
       × (y ≡ (answered catalog cache (motif_of motifs t) hits).hits)
   unfolding count_of
   query_answered hit x y c eh listed ex =
-      let whole : queried (Hits c (length (select (block_count catalog) (to_search catalog entry (strand_of p pm))))) x y
+      let whole : queried (Ok (hits_of c (length (select (block_count catalog) (to_search catalog entry (strand_of p pm)))))) x y
       ≡ answered catalog cache (motif_of motifs t) hits
       = answer_is catalog cache entry s p pm hits A.most es ee h hit A.held_is (hit_map hit eh) c _ x y refl listed ex
       ∙ ap (λ (q : Strand). answered catalog cache q hits) eq in (
@@ -82,7 +83,8 @@ module _ (catalog motifs mates h found cache : List ℕ) (t : ℕ) (A : Answerin
 
 -- ---- all queries, in their order
 
-module _ {catalog motifs mates h found cache : List ℕ} {work : ℕ} {hits : List ℕ} (G : Batching catalog motifs mates h found cache work hits) where
+module _ {catalog motifs h : List ℕ} {found : List (List ℕ)} {cache : List ℕ} {work : ℕ} {hits : List ℕ}
+    (G : Batching catalog motifs h found cache work hits) where
   abbrev to : ℕ → List ℕ
   to t = (batch_to embeds catalog motifs work t (batch_state cache hits)).hits
 
@@ -125,34 +127,32 @@ module _ {catalog motifs mates h found cache : List ℕ} {work : ℕ} {hits : Li
         let n = ap length ew ∙ batch.hits_size embeds catalog motifs work cache hits G.verdict t (omega arith) in
         omega arith
 
-    planning : Planning motifs mates h (clean t)
+    planning : Planning h (clean t)
     planning =
         let f = batch.batch_facts catalog cache motifs work (length hits) G.verdict in
         let n = batch.clean_size embeds catalog motifs work cache hits G.verdict t (omega arith) in
         record {
-          usable = f.1;
-          mates_of = G.mates_of;
           held_map = map_again h (held catalog) G.held_is;
           slots = omega (arith, f.0.slots);
           cache_size = omega (arith, f.0.whole, f.0.most_slots);
           sound = batch.clean_sound_at embeds catalog motifs work cache hits G.verdict t (omega arith);
         }
 
-    here : Answering catalog motifs mates h found (clean t) t
+    here : Answering catalog motifs h (get_or found t []) (clean t) t
     here =
         record {
           planning = planning;
           below = l;
           most = few_blocks;
           held_is = G.held_is;
-          found_size = G.found_size;
+          found_size = G.sizes t l;
           found_is = λ d k.
               G.found_is t d l k
               ∙ ap (λ (b : Bool). b && embeds (motif_of motifs t) (molecule_at catalog d))
               (batch.searches_is embeds catalog motifs work cache hits G.verdict t d (omega arith));
         }
 
-    pub answering_at : Answering catalog motifs mates h found c t
+    pub answering_at : Answering catalog motifs h (get_or found t []) c t
     answering_at = rw ec here
 
     query_is : answered catalog c (motif_of motifs t) (piece (block_count catalog) t w) ≡ query t
@@ -176,11 +176,6 @@ module _ {catalog motifs mates h found cache : List ℕ} {work : ℕ} {hits : Li
         ∙ sym (batch.hits_next embeds catalog motifs work cache hits t)
         ∙ ap to (sym (add-one t))
 
-  pub cache_end : (t : ℕ) (c : List ℕ) → block_count motifs ≤ t → t ≤ block_count motifs → c ≡ clean t
+  pub cache_end : (t : ℕ) (c : List ℕ) → t ≡ block_count motifs → c ≡ clean t
       → c ≡ (batch_to embeds catalog motifs work (block_count motifs) (batch_state cache hits)).cache
-  cache_end t c a b e =
-      let q : t ≡ block_count motifs = omega arith in
-      e ∙ ap clean q ∙ batch.clean_last embeds catalog motifs work cache hits G.verdict
-
-  pub hits_end : (t : ℕ) (w : List ℕ) → block_count motifs ≤ t → t ≤ block_count motifs → w ≡ to t → w ≡ to (block_count motifs)
-  hits_end t w a b e = let q : t ≡ block_count motifs = omega arith in e ∙ ap to q
+  cache_end t c q e = e ∙ ap clean q ∙ batch.clean_last embeds catalog motifs work cache hits G.verdict

@@ -1,4 +1,5 @@
 -- A batch on the clean cache answers and leaves what it does on the cache as it was: each query cleans the cache first.
+use Rattle.std.specs.Prelude.{Ok}
 use Prim.Native.Nat.{ℕ, zero, suc, ◌<◌, ◌≤◌}
 use native.Mathlib.Omega.{arith}
 use mathlib.Core.Path.{◌≡◌, refl, sym, ap, ap₂, ◌∙◌}
@@ -7,7 +8,6 @@ use lib.ListN.{length}
 use Rattle.lists.specs.Vocabulary.{piece, put_piece}
 use Rattle.lists.proofs.ListLaws.{tab_ext}
 use Rattle.lists.proofs.Ranges.{some_ext, select_ext}
-use Rattle.refusals.specs.declared.Verdict.TheVariants.{Accepted}
 use Rattle.block.specs.Content.{padded}
 use Rattle.block.specs.Block.{block_of, block_count, cleaned, each_block}
 use Rattle.block.proofs.ContentLaws.{length_cleaned}
@@ -19,13 +19,12 @@ use Rattle.calls.specs.Motifs.{motif_of}
 use Rattle.calls.specs.Batch.{batch_verdict, BatchState, batch_state, batch_to, query_at, searches_at, read_list}
 use Rattle.calls.specs.Batch.{batch_answer, batched, batch_outcome, count_of}
 use Rattle.calls.specs.Batch.{searched_of}
-use Rattle.calls.specs.declared.BatchRead.TheVariants.{Molecules}
 use Rattle.calls.proofs.ReadingLaws.{clean_same}
 use Rattle.calls.proofs.CallLaws.{clean_sound}
 use Rattle.calls.proofs.BatchLaws as batch
 use Rattle.calls.proofs.BatchRefusing.{batch_accepts}
 
-module _ (catalog cache motifs : List ℕ) (work : ℕ) (hits : List ℕ) (e : batch_verdict catalog cache motifs work (length hits) ≡ Accepted)
+module _ (catalog cache motifs : List ℕ) (work : ℕ) (hits : List ℕ) (e : batch_verdict catalog cache motifs work (length hits) ≡ Ok tt)
     (y : List ℕ) (ey : y ≡ each_block cleaned cache) where
   size : length y ≡ length cache
   size = ap length ey ∙ length_each cleaned length_cleaned cache
@@ -43,7 +42,7 @@ module _ (catalog cache motifs : List ℕ) (work : ℕ) (hits : List ℕ) (e : b
         blocks = u.blocks;
       }
 
-  pub clean_verdict : batch_verdict catalog y motifs work (length hits) ≡ Accepted
+  pub clean_verdict : batch_verdict catalog y motifs work (length hits) ≡ Ok tt
   clean_verdict =
       let f = batch.batch_facts catalog cache motifs work (length hits) e in
       (batch_accepts catalog y motifs work (length hits)).1 (usable, f.1, f.2, f.3)
@@ -106,7 +105,7 @@ module _ (catalog cache motifs : List ℕ) (work : ℕ) (hits : List ℕ) (e : b
   answers : batch_answer embeds catalog motifs work (from y) ≡ batch_answer embeds catalog motifs work (from cache)
   unfolding batch_answer
   answers = λ i. record {
-    read = Molecules (length (reads i));
+    read = Ok (length (reads i));
     counts = padded 16 (tab_ext (λ t. count_of (query y t).answer) (λ t. count_of (query cache t).answer) (block_count motifs)
         (λ t l. ap (λ (x : QueryEffect). count_of x.answer) (queries t l (same t (omega arith)))) i);
     searched = padded 16 (tab_ext (λ t. searched_of (query y t).answer) (λ t. searched_of (query cache t).answer) (block_count motifs)

@@ -1,4 +1,4 @@
-mod JoinLaws
+mod HitLaws
 mod MotifUse
 mod MoleculeUse
 mod PlanLaws

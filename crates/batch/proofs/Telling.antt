@@ -1,23 +1,21 @@
 -- The plan tells what each query of a batch has to search: the copy of the cache and the cache itself have, before each query, entries that know the same,
 -- though not the same hits. So the maps that the search leaves give the answers of the batch.
-use Prim.Native.Nat.{ℕ, zero, suc, ◌+◌, ◌-◌, ◌*◌, ◌/◌, ◌%◌, ◌<◌, ◌≤◌}
+use Rattle.std.specs.Prelude.{Ok}
+use Prim.Native.Nat.{ℕ, zero, suc, ◌+◌, ◌-◌, ◌/◌, ◌<◌, ◌≤◌}
 use native.Mathlib.Omega.{arith}
-use native.Mathlib.Nat.{mod-lt, zero-add}
+use native.Mathlib.Nat.{mod-lt}
 use native.Mathlib.Decide.{ℕ_discrete}
 use mathlib.Core.Path.{◌≡◌, refl, sym, ap, ap₂, ◌∙◌}
-use mathlib.Core.Bool.{Bool, true, false, not, ◌&&◌, ◌||◌}
-use mathlib.Core.List.{List, ◌++◌}
-use lib.ListN.{length, drop, replicate, length-drop, length-replicate}
+use mathlib.Core.Bool.{Bool, true, not, ◌&&◌}
+use mathlib.Core.List.{List, [], ◌++◌}
+use lib.ListN.{length, get_or, drop, replicate, length-drop, length-replicate}
 use lib.Seq.{ext_get_or, get_or-drop}
-use Rattle.lists.specs.Vocabulary.{nth, piece, select, tab}
+use Rattle.lists.specs.Vocabulary.{select, tab}
 use Rattle.lists.proofs.ListLaws.{and_left, tab_ext, length_tab, zeros_at, zeros_zero}
 use Rattle.lists.proofs.Ranges.{some_ext, select_ext}
-use Rattle.lists.proofs.Stretches.{nth_stretch}
 use Rattle.strand.specs.Strands.{Strand, same_strand, key}
-use Rattle.refusals.specs.declared.Verdict.TheVariants.{Accepted}
-use Rattle.octets.specs.Octets.{bit_of, map_size, map_bit, map_bytes}
-use Rattle.octets.proofs.BitLaws.{zero_bit}
-use Rattle.octets.proofs.MapLaws.{map_bit_lem}
+use Rattle.octets.specs.Octets.{map_bit, map_bytes}
+use Rattle.octets.proofs.MapLaws.{map_bit_lem, length_map}
 use Rattle.block.specs.Content.{block_size, encode_entry, padded}
 use Rattle.block.specs.Block.{block_of, block_count, put_block}
 use Rattle.block.proofs.ContentLaws.{entry_length, entry_of_maps}
@@ -33,19 +31,7 @@ use Rattle.calls.proofs.CallLaws.{entry_known}
 use Rattle.calls.proofs.MotifLaws.{motif_proper, motif_verdict_lem}
 use Rattle.calls.proofs.ReadingLaws.{clean_same}
 use Rattle.calls.proofs.BatchLaws as batch
-use Rattle.batch.specs.Steps.{maps_size, planned_by, planned, planned_after, PlannedTo, hits_in, in_some, Batching, Found, told}
-
--- Bit d of map t.
-pub piece_bit : (s : List ℕ) (t d : ℕ) → d < 512 → map_bit s (map_size * t) d ≡ map_bit (piece map_size t s) 0 d
-unfolding map_bit
-piece_bit s t d l =
-    ap (λ (x : ℕ). bit_of x (d % 8)) (sym (nth_stretch (map_size * t) map_size s (d / 8) (omega arith)))
-    ∙ ap (λ (i : ℕ). bit_of (nth (piece map_size t s) i) (d % 8)) (sym (zero-add (d / 8)))
-
--- A map of zeros has no number.
-pub no_bit : (n at d : ℕ) → map_bit (replicate n 0) at d ≡ false
-unfolding map_bit
-no_bit n at d = ap (λ (x : ℕ). bit_of x (d % 8)) (zeros_at (replicate n 0) (zeros_zero n) (at + d / 8)) ∙ zero_bit (d % 8)
+use Rattle.batch.specs.Steps.{planned_by, planned, planned_after, PlannedTo, hits_in, in_some, Batching, Found, told}
 
 zeros_left : (k n : ℕ) → drop k (replicate {A = ℕ} n 0) ≡ replicate (n - k) 0
 zeros_left k n =
@@ -55,14 +41,15 @@ zeros_left k n =
     ∙ sym (zeros_at (replicate (n - k) 0) (zeros_zero (n - k)) i))
 
 -- What the plan asks for is held.
-pub planned_held : (catalog motifs h cache todo : List ℕ) → h ≡ map_bytes (held catalog) → PlannedTo motifs h cache todo (block_count motifs)
-    → (t d : ℕ) → t < block_count motifs → d < 512 → map_bit todo (map_size * t) d ≡ true → held catalog d ≡ true
+pub planned_held : (catalog motifs h cache : List ℕ) (todo : List (List ℕ)) → h ≡ map_bytes (held catalog)
+    → PlannedTo motifs h cache todo (block_count motifs)
+    → (t d : ℕ) → t < block_count motifs → d < 512 → map_bit (get_or todo t []) 0 d ≡ true → held catalog d ≡ true
 unfolding planned_by
 planned_held catalog motifs h cache todo eh P t d l k yes_bit =
     sym (ap (λ (m : List ℕ). map_bit m 0 d) eh ∙ map_bit_lem (held catalog) d k)
-    ∙ and_left (map_bit h 0 d) _ (sym (piece_bit todo t d k ∙ ap (λ (m : List ℕ). map_bit m 0 d) (P.each t l) ∙ map_bit_lem _ d k) ∙ yes_bit)
+    ∙ and_left (map_bit h 0 d) _ (sym (ap (λ (m : List ℕ). map_bit m 0 d) (P.each t l) ∙ map_bit_lem _ d k) ∙ yes_bit)
 
-module _ (catalog cache motifs : List ℕ) (work : ℕ) (hits : List ℕ) (e : batch_verdict catalog cache motifs work (length hits) ≡ Accepted)
+module _ (catalog cache motifs : List ℕ) (work : ℕ) (hits : List ℕ) (e : batch_verdict catalog cache motifs work (length hits) ≡ Ok tt)
     (sound : AllSound cache) where
   abbrev h : List ℕ
   h = map_bytes (held catalog)
@@ -174,31 +161,30 @@ module _ (catalog cache motifs : List ℕ) (work : ℕ) (hits : List ℕ) (e : b
       ∙ A.same (slot_in (clean t) (p t)) (omega (arith, size_clean t l A, slot_below t l A)) (p t) d k)
       ∙ sym (batch.searches_is embeds catalog motifs work cache hits e t d (omega arith))
 
-  module _ {mates g todo found : List ℕ} {read : ℕ} (F : Found catalog cache motifs mates g todo (replicate maps_size 0) found read) where
+  module _ {g : List ℕ} {todo found : List (List ℕ)} {read : ℕ} (F : Found catalog cache motifs g todo found read) where
     asked_is : (t d : ℕ) → t < block_count motifs → d < 512
-        → map_bit todo (map_size * t) d ≡ searches_at embeds catalog motifs work (batch_state cache hits) t d
+        → map_bit (get_or todo t []) 0 d ≡ searches_at embeds catalog motifs work (batch_state cache hits) t d
     asked_is t d l k =
-        piece_bit todo t d k
-        ∙ ap (λ (m : List ℕ). map_bit m 0 d) (F.plan.each t l)
+        ap (λ (m : List ℕ). map_bit m 0 d) (F.plan.each t l)
         ∙ map_bit_lem (planned_by g (planned_after motifs g cache t) (p t)) d k
         ∙ ap (λ (m : List ℕ). planned_by m (planned_after motifs m cache t) (p t) d) F.held_is
         ∙ planned_is t d l k
 
     found_is : (t d : ℕ) → t < block_count motifs → d < 512
-        → map_bit found (map_size * t) d ≡ (searches_at embeds catalog motifs work (batch_state cache hits) t d && embeds (p t) (molecule_at catalog d))
+        → map_bit (get_or found t []) 0 d ≡ (searches_at embeds catalog motifs work (batch_state cache hits) t d && embeds (p t) (molecule_at catalog d))
     unfolding hits_in
     found_is t d l k =
-        F.joined.bits t d l k
-        ∙ ap₂ (λ (a b : Bool). a || (b && embeds (p t) (molecule_at catalog d))) (no_bit maps_size (map_size * t) d) (asked_is t d l k)
+        ap (λ (m : List ℕ). map_bit m 0 d) (F.hits.each t l)
+        ∙ map_bit_lem (hits_in motifs todo catalog t) d k
+        ∙ ap (λ (a : Bool). a && embeds (p t) (molecule_at catalog d)) (asked_is t d l k)
 
-    pub batching : Batching catalog motifs mates g found cache work hits
+    pub batching : Batching catalog motifs g found cache work hits
     batching =
         record {
           verdict = e;
           sound = sound;
-          mates_of = F.mates_of;
           held_is = F.held_is;
-          found_size = F.joined.size ∙ length-replicate {A = ℕ} maps_size 0;
+          sizes = λ t l. ap length (F.hits.each t l) ∙ length_map (hits_in motifs todo catalog t);
           found_is = found_is;
         }
 
@@ -218,7 +204,7 @@ module _ (catalog cache motifs : List ℕ) (work : ℕ) (hits : List ℕ) (e : b
     query_searched t l = ap (λ (x : QueryEffect). searched_of x.answer) (batch.query_at_is embeds catalog motifs work cache hits e t l)
 
     searched_is : (t : ℕ) → t < block_count motifs
-        → length (select (block_count catalog) (map_bit todo (map_size * t)))
+        → length (select (block_count catalog) (map_bit (get_or todo t []) 0))
         ≡ searched_of (query_at embeds catalog motifs work (batch_state cache hits) t).answer
     searched_is t l =
         ap length (select_ext (block_count catalog) _ _ (λ d k.
@@ -237,7 +223,7 @@ module _ (catalog cache motifs : List ℕ) (work : ℕ) (hits : List ℕ) (e : b
         → counts ≡ tab (block_count motifs) (λ t. count_of (query_at embeds catalog motifs work (batch_state cache hits) t).answer)
         ++ drop (block_count motifs) (replicate 16 0)
         → searched
-        ≡ tab (block_count motifs) (λ t. length (select (block_count catalog) (map_bit todo (map_size * t)))) ++ drop (block_count motifs) (replicate 16 0)
+        ≡ tab (block_count motifs) (λ t. length (select (block_count catalog) (map_bit (get_or todo t []) 0))) ++ drop (block_count motifs) (replicate 16 0)
         → cache' ≡ (batch_to embeds catalog motifs work (block_count motifs) (batch_state cache hits)).cache
         → hits' ≡ (batch_to embeds catalog motifs work (block_count motifs) (batch_state cache hits)).hits
         → batched (told read counts searched) cache' hits' ≡ batch_outcome embeds catalog motifs work cache hits

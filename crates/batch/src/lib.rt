@@ -6,115 +6,49 @@ mod plan;
 mod rules;
 mod scan;
 
-ghost use Rattle.std.specs.Prelude.{◌≡◌, ◌*◌, length, replicate};
+ghost use Rattle.std.specs.Prelude.{◌≡◌, length};
 ghost use Rattle.refusals.specs.Rules.{WorkKept};
-ghost use Rattle.refusals.specs.declared.Verdict.TheVariants.{Accepted};
-ghost use Rattle.octets.specs.Octets.{map_size};
 ghost use Rattle.embedding.specs.Longest.{embeds};
-ghost use Rattle.calls.specs.Buffers.{most_motif_bases};
 ghost use Rattle.calls.specs.Statements.{AllSound};
-ghost use Rattle.calls.specs.Motifs.{most_motifs};
 ghost use Rattle.calls.specs.Batch.{batch_verdict, batched, not_batched, batch_outcome};
-ghost use Rattle.search.specs.Search.{tables_size};
-ghost use Rattle.batch.specs.Steps.{maps_size, Begun, Found, told};
+ghost use Rattle.batch.specs.Steps.{Begun, Found};
 
 use block::layout;
 pub use calls::{BatchRead, Batched};
+use motifs::Motifs;
+use refusals::Refusal;
 
-// The bytes of the maps of all motifs, one behind the other.
-const MAPS_SIZE: usize = layout::MAP_SIZE * calls::MOST_MOTIFS;
+// A map for each motif.
+type Maps = [[u8; layout::MAP_SIZE]; calls::MOST_MOTIFS];
 
-// What the queries have to search, and what of it are hits: the motifs are unpacked, the plan is made and every molecule that it asks for is read; how many
-// these are. The held numbers and, for each motif, a map of the numbers to search and one of the hits among them are left.
-fn find_lent(
-    catalog: &[u8],
-    cache: &[u8],
-    motifs: &[u8],
-    work: &mut [u16],
-    mates: &mut [u16],
-    tables: &mut [u16],
-    held: &mut [u8],
-    todo: &mut [u8],
-    found: &mut [u8],
-) -> usize
-    requires { Begun catalog.now cache.now motifs.now (length work.old) × (length mates.old ≡ most_motif_bases * most_motifs)
-        × (length tables.old ≡ tables_size * most_motifs) × (length held.old ≡ map_size) × (length todo.old ≡ maps_size)
-        × (length found.old ≡ maps_size) }
-    ensures { Found catalog.now cache.now motifs.now mates.new held.new todo.new
-        found.old found.new result }
-{
-    motifs::unpack(motifs, mates, tables);
-    search::maps::fill_held(catalog, held);
-    plan::plan(motifs, mates, held, cache, todo);
-    scan::search_all(catalog, motifs, mates, tables, todo, work, found)
+// What the queries have to search, and what of it are hits: the held numbers, for each motif the numbers to search and the hits among them, and how many
+// molecules were read. Nobody copies these arrays, so it is no Clone.
+#[derive(Drop)]
+struct Findings {
+    held: [u8; layout::MAP_SIZE],
+    todo: Maps,
+    found: Maps,
+    read: usize,
 }
 
-// The same, with room for the tables of all motifs.
-fn find(
-    catalog: &[u8],
-    cache: &[u8],
-    motifs: &[u8],
-    work: &mut [u16],
-    mates: &mut [u16],
-    held: &mut [u8],
-    todo: &mut [u8],
-    found: &mut [u8],
-) -> usize
-    requires { Begun catalog.now cache.now motifs.now (length work.old) × (length mates.old ≡ most_motif_bases * most_motifs)
-        × (length held.old ≡ map_size) × (length todo.old ≡ maps_size) × (length found.old ≡ maps_size) }
-    ensures { Found catalog.now cache.now motifs.now mates.new held.new todo.new
-        found.old found.new result }
+// The plan is made, and every molecule that it asks for is read.
+fn find(catalog: &[u8], cache: &[u8], motifs: &Motifs, work: &mut [u16]) -> Findings
+    requires { Begun catalog.now cache.now motifs.now.blocks.now (length work.old) }
+    ensures { Found catalog.now cache.now motifs.now.blocks.now result.held result.todo result.found result.read }
 {
-    let mut tables = [0u16; motifs::TABLES_SIZE];
-    find_lent(
-        catalog,
-        cache,
-        motifs,
-        work,
-        mates,
-        &mut tables,
+    let mut held = [0u8; layout::MAP_SIZE];
+    search::maps::fill_held(catalog, &mut held);
+    let todo = plan::plan(motifs, &held, cache);
+    let (found, read) = scan::search_all(catalog, motifs, &todo, work);
+    Findings {
         held,
         todo,
         found,
-    )
+        read,
+    }
 }
 
-// The answers of all motifs, with their numbers in `counts` and `searched`, and how many molecules were read. The slices are zeros at first.
-fn answer_lent(
-    catalog: &[u8],
-    cache: &mut [u8],
-    motifs: &[u8],
-    work: &mut [u16],
-    hits: &mut [u16],
-    mates: &mut [u16],
-    held: &mut [u8],
-    todo: &mut [u8],
-    found: &mut [u8],
-    counts: &mut [usize],
-    searched: &mut [usize],
-) -> usize
-    requires { (batch_verdict catalog.now cache.old motifs.now (length work.old) (length hits.old) ≡ Accepted) × AllSound cache.old
-        × (length mates.old ≡ most_motif_bases * most_motifs) × (length held.old ≡ map_size) × (length todo.old ≡ maps_size)
-        × (found.old ≡ replicate maps_size 0) × (counts.old ≡ replicate most_motifs 0) × (searched.old ≡ replicate most_motifs 0) }
-    ensures { batched (told result counts.new searched.new) cache.new hits.new
-        ≡ batch_outcome embeds catalog.now motifs.now (length work.old) cache.old hits.old }
-{
-    let entries = work.len();
-    let read = find(catalog, cache, motifs, work, mates, held, todo, found);
-    let mut hit = [0u8; layout::MAP_SIZE];
-    answer::answer_all(
-        catalog, cache, motifs, entries, mates, held, found, &mut hit, hits, counts,
-    );
-    plan::count_all(
-        todo,
-        motifs.len() / layout::BLOCK_SIZE,
-        catalog.len() / layout::BLOCK_SIZE,
-        searched,
-    );
-    read
-}
-
-// The answer of an accepted batch on a clean cache. The arrays of the call are made here.
+// The answer of an accepted batch on a clean cache. The motifs are unpacked here.
 fn answer_accepted(
     catalog: &[u8],
     cache: &mut [u8],
@@ -122,42 +56,28 @@ fn answer_accepted(
     work: &mut [u16],
     hits: &mut [u16],
 ) -> Batched
-    requires { (batch_verdict catalog.now cache.old motifs.now (length work.old) (length hits.old) ≡ Accepted) × AllSound cache.old }
+    requires { (batch_verdict catalog.now cache.old motifs.now (length work.old) (length hits.old) ≡ Ok tt) × AllSound cache.old }
     ensures { batched result cache.new hits.new
         ≡ batch_outcome embeds catalog.now motifs.now (length work.old) cache.old hits.old }
 {
-    let mut mates = [0u16; motifs::MATES_SIZE];
-    let mut held = [0u8; layout::MAP_SIZE];
-    let mut todo = [0u8; MAPS_SIZE];
-    let mut found = [0u8; MAPS_SIZE];
-    let mut counts = [0usize; calls::MOST_MOTIFS];
-    let mut searched = [0usize; calls::MOST_MOTIFS];
-    let read = answer_lent(
-        catalog,
-        cache,
-        motifs,
-        work,
-        hits,
-        &mut mates,
-        &mut held,
-        &mut todo,
-        &mut found,
-        &mut counts,
-        &mut searched,
-    );
+    let entries = work.len();
+    let motifs = Motifs::new(motifs);
+    let x = find(catalog, cache, &motifs, work);
+    let counts = answer::answer_all(catalog, cache, &motifs, entries, &x.held, &x.found, hits);
+    let searched = plan::count_all(&x.todo, motifs.count(), layout::block_count(catalog));
     Batched {
-        read: BatchRead::Molecules(read),
+        read: Ok(x.read),
         counts,
         searched,
     }
 }
 
 // The answer of a refused batch.
-fn refused(x: refusals::Refusal) -> Batched
+fn refused(x: Refusal) -> Batched
     ensures { result ≡ not_batched x }
 {
     Batched {
-        read: BatchRead::Refused(x),
+        read: Err(x),
         counts: [0usize; calls::MOST_MOTIFS],
         searched: [0usize; calls::MOST_MOTIFS],
     }
@@ -177,10 +97,8 @@ pub fn batch(
         × WorkKept (batch_verdict catalog.now cache.old motifs.now (length work.old) (length hits.old))
         work.old work.new }
 {
-    let entries = work.len();
-    let places = hits.len();
-    let verdict = rules::judge_batch(catalog, cache, motifs, entries, places);
-    if let refusals::Verdict::Refused(r) = verdict {
+    // By no `?`: a refused batch answers arrays too, as the C interface has them beside the number read.
+    if let Err(r) = rules::judge_batch(catalog, cache, motifs, work.len(), hits.len()) {
         return refused(r);
     }
     buffer::clean_all(cache);

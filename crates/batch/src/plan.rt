@@ -1,111 +1,73 @@
 // The plan of a batch: for each motif the numbers that its query has to search, by a copy of the cache in which each query leaves its entry.
-ghost use Rattle.std.specs.Prelude.{◌≡◌, ◌++◌, ◌*◌, ◌<◌, ◌≤◌, length, drop};
-ghost use Rattle.lists.specs.Vocabulary.{choose, select, tab};
+ghost use Rattle.std.specs.Prelude.{◌≡◌, ◌++◌, ◌<◌, ◌≤◌, [], length, drop, get_or, replicate};
+ghost use Rattle.std.specs.List.{count_by, range_with_len};
+ghost use Rattle.lists.specs.Vocabulary.{select, tab};
 ghost use Rattle.octets.specs.Octets.{map_size, map_bit, map_bytes};
 ghost use Rattle.block.specs.Block.{block_count};
 ghost use Rattle.calls.specs.Motifs.{most_motifs, motif_of};
-ghost use Rattle.batch.specs.Steps.{maps_size, Planning, planned, planned_by, PlannedTo};
+ghost use Rattle.batch.specs.Steps.{Planning, planned, planned_by, PlannedTo};
 
+use crate::Maps;
 use block::layout;
+use motifs::Motifs;
 
 // The bytes of the largest cache.
 const CACHE_SIZE: usize = layout::BLOCK_SIZE * judge::MOST_CACHE_BLOCKS;
 
-// The numbers that query t has to search, by the entry of its slot, into the borrowed map; then the entry that it leaves. Its hits are not known yet: every
-// held number has its hit bit.
-fn plan_motif(
-    motifs: &[u8],
-    t: usize,
-    mates: &[u16],
-    held: &[u8],
-    cache: &mut [u8],
-    todo: &mut [u8],
-)
-    requires { Planning motifs.now mates.now held.now cache.old × (t < block_count motifs.now) × (length todo.old ≡ map_size) }
-    ensures { (todo.new ≡ map_bytes (planned_by held.now cache.old (motif_of motifs.now t)))
-        × (cache.new ≡ planned held.now cache.old (motif_of motifs.now t)) }
+// The numbers that query t has to search, by the entry of its slot, into the map; then the entry that it leaves. Its hits are not known yet: every held
+// number has its hit bit.
+fn plan_motif(motifs: &Motifs, t: usize, held: &[u8], cache: &mut [u8], todo: &mut [u8])
+    requires { Planning held.now cache.old × (t < block_count motifs.now.blocks.now) × (length todo.old ≡ map_size) }
+    ensures { (todo.new ≡ map_bytes (planned_by held.now cache.old (motif_of motifs.now.blocks.now t)))
+        × (cache.new ≡ planned held.now cache.old (motif_of motifs.now.blocks.now t)) }
 {
-    let p = motifs::bases_at(motifs, t);
-    let a = layout::ENTRY_BASES * t;
-    let e = a + p.len();
-    let pm = &mates[a..e];
-    let s = search::slot(p, pm, cache.len() / layout::BLOCK_SIZE);
+    let p = motifs.bases_at(t);
+    let pm = motifs.mates_at(t);
+    let s = search::slot(p, pm, layout::block_count(cache));
     let entry = layout::block_at(cache, s);
     let same = codec::entry::keeps(entry, p, pm);
     search::maps::fill_todo(entry, same, held, todo);
     buffer::put_entry(cache, s, p, pm, held, held);
 }
 
-// All motifs, in their order: map t of `todo` has the numbers that query t has to search.
-fn plan_lent(motifs: &[u8], mates: &[u16], held: &[u8], cache: &mut [u8], todo: &mut [u8])
-    requires { Planning motifs.now mates.now held.now cache.old × (length todo.old ≡ maps_size) }
-    ensures { PlannedTo motifs.now held.now cache.old todo.new (block_count motifs.now) }
+// All motifs, in their order: map t has the numbers that query t has to search.
+fn plan_all(motifs: &Motifs, held: &[u8], cache: &mut [u8]) -> Maps
+    requires { Planning held.now cache.old }
+    ensures { PlannedTo motifs.now.blocks.now held.now cache.old result (block_count motifs.now.blocks.now) }
 {
-    let k = motifs.len() / layout::BLOCK_SIZE;
-    let mut t = 0;
-    while t < k {
-        let a = layout::MAP_SIZE * t;
-        let e = a + layout::MAP_SIZE;
-        plan_motif(motifs, t, mates, held, cache, &mut todo[a..e]);
-        t += 1;
+    let mut todo = [[0u8; layout::MAP_SIZE]; calls::MOST_MOTIFS];
+    for t in 0..motifs.count() {
+        plan_motif(motifs, t, held, cache, &mut todo[t]);
     }
+    todo
 }
 
-// The same, and the cache stays: a copy of it in the borrowed room takes the entries.
-fn plan_in(
-    motifs: &[u8],
-    mates: &[u16],
-    held: &[u8],
-    cache: &[u8],
-    room: &mut [u8],
-    todo: &mut [u8],
-)
-    requires { Planning motifs.now mates.now held.now cache.now × (length todo.old ≡ maps_size) × (length cache.now ≤ length room.old) }
-    ensures { PlannedTo motifs.now held.now cache.now todo.new (block_count motifs.now) }
-{
-    let n = cache.len();
-    let copy = &mut room[..n];
-    octets::scan::copy(cache, copy);
-    plan_lent(motifs, mates, held, copy, todo);
-}
-
-// The same, with room for the largest cache.
-pub(crate) fn plan(motifs: &[u8], mates: &[u16], held: &[u8], cache: &[u8], todo: &mut [u8])
-    requires { Planning motifs.now mates.now held.now cache.now × (length todo.old ≡ maps_size) }
-    ensures { PlannedTo motifs.now held.now cache.now todo.new (block_count motifs.now) }
+// The same, and the cache stays: a copy of it takes the entries.
+pub(crate) fn plan(motifs: &Motifs, held: &[u8], cache: &[u8]) -> Maps
+    requires { Planning held.now cache.now }
+    ensures { PlannedTo motifs.now.blocks.now held.now cache.now result (block_count motifs.now.blocks.now) }
 {
     let mut room = [0u8; CACHE_SIZE];
-    plan_in(motifs, mates, held, cache, &mut room, todo);
+    let copy = &mut room[..cache.len()];
+    copy.copy_from_slice(cache);
+    plan_all(motifs, held, copy)
 }
 
-// 1 for yes, 0 for no.
-fn one(yes: bool) -> usize
-    ensures { result ≡ choose yes 1 0 }
+// How many numbers below n the map has.
+fn count_in(map: &[u8], n: usize) -> usize
+    ensures { result ≡ count_by (map_bit map.now 0) (range_with_len 0 n) }
 {
-    if yes { 1 } else { 0 }
-}
-
-// How many numbers below n the map that begins at byte `at` has.
-fn count_in(map: &[u8], at: usize, n: usize) -> usize
-    ensures { result ≡ length (select n (map_bit map.now at)) }
-{
-    let mut count = 0;
-    let mut d = 0;
-    while d < n {
-        count += one(octets::bits::test(map, at, d));
-        d += 1;
-    }
-    count
+    (0..n).filter(|d| octets::bits::test(map, 0, *d)).count()
 }
 
 // How many numbers below n each of the first k maps has.
-pub(crate) fn count_all(todo: &[u8], k: usize, n: usize, searched: &mut [usize])
-    requires { (k ≤ most_motifs) × (length searched.old ≡ most_motifs) }
-    ensures { searched.new ≡ tab k (λ t. length (select n (map_bit todo.now (map_size * t)))) ++ drop k searched.old }
+pub(crate) fn count_all(todo: &Maps, k: usize, n: usize) -> [usize; calls::MOST_MOTIFS]
+    requires { k ≤ most_motifs }
+    ensures { result ≡ tab k (λ t. length (select n (map_bit (get_or todo.now t []) 0))) ++ drop k (replicate most_motifs 0) }
 {
-    let mut t = 0;
-    while t < k {
-        searched[t] = count_in(todo, layout::MAP_SIZE * t, n);
-        t += 1;
+    let mut searched = [0usize; calls::MOST_MOTIFS];
+    for t in 0..k {
+        searched[t] = count_in(&todo[t], n);
     }
+    searched
 }

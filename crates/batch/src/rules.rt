@@ -3,7 +3,7 @@ ghost use Rattle.std.specs.Prelude.{◌≡◌};
 ghost use Rattle.calls.specs.Batch.{batch_verdict};
 
 use block::layout;
-use refusals::numbers;
+use refusals::{Rule, Side, Verdict, refuse};
 
 // `work` and `room` are the lengths of the work and the hit slice.
 pub(crate) fn judge_batch(
@@ -12,24 +12,18 @@ pub(crate) fn judge_batch(
     motifs: &[u8],
     work: usize,
     room: usize,
-) -> refusals::Verdict
+) -> Verdict
     ensures { result ≡ batch_verdict catalog.now cache.now motifs.now work room }
 {
-    let buffers = judge::judge_buffers(catalog, cache);
-    if let refusals::Verdict::Refused(r) = buffers {
-        return refusals::Verdict::Refused(r);
-    }
-    let usable = motifs::judge(motifs);
-    if let refusals::Verdict::Refused(r) = usable {
-        return refusals::Verdict::Refused(r);
-    }
-    let k = motifs.len() / layout::BLOCK_SIZE;
-    if room < k * (catalog.len() / layout::BLOCK_SIZE) {
-        return refusals::refuse(numbers::WRONG_SLICE, numbers::NEITHER, 0);
+    judge::judge_buffers(catalog, cache)?;
+    motifs::judge(motifs)?;
+    let k = layout::block_count(motifs);
+    if room < k * layout::block_count(catalog) {
+        return refuse(Rule::WrongSlice, Side::Neither, 0);
     }
     let longest = motifs::longest(motifs);
     if work < 64 * (longest + 1) + 8 * layout::BLOCK_BASES {
-        return refusals::refuse(numbers::WORK_TOO_SHORT, numbers::NEITHER, 0);
+        return refuse(Rule::WorkTooShort, Side::Neither, 0);
     }
-    refusals::Verdict::Accepted
+    Ok(())
 }

@@ -9,75 +9,60 @@
 
 mod batches;
 
-use catalog_testing::tell;
+use batches::Batches;
+use catalog_testing::{Bench, LINE, lines};
 use std::io;
-use std::io::{BufReader, Read};
-use testing::answer::NOTHING;
-use testing::input;
-use testing::input::MOST_LINES;
+use std::io::BufReader;
+use testing::input::{MOST_LINES, number, read};
 
-// Acts on a line; the number that is counted.
-fn act<P: Print>(out: &P, line: &[u8], kind: u8, s: &mut [u8]) -> io::Result<usize> {
-    match kind {
-        b'M' => batches::answer(out, line, s),
-        b'P' => {
-            batches::put(line, s);
-            Ok(NOTHING)
+// How many blocks the bank has.
+const BANK: u8 = 35;
+
+// The lines that `catalog_testing` does not know.
+#[derive(Clone, Copy, Debug)]
+enum Command {
+    Batch,
+    Put(usize),
+    EndGroup,
+}
+
+impl Command {
+    fn of(line: &[u8]) -> Option<Command> {
+        match line.first()? {
+            b'M' => Some(Command::Batch),
+            b'P' => Some(Command::Put(number(line, 2..9))),
+            b'G' => Some(Command::EndGroup),
+            _ => None,
         }
-        _ => catalog_testing::act(out, line, kind, s),
     }
 }
 
-// Writes the name of a group and its counts, and begins anew.
-fn report<P: Print>(out: &P, line: &[u8], counts: &mut [u16]) -> io::Result<()> {
-    tell::report_calls(out, line, counts)?;
-    tell::report_batches(out, counts)?;
-    tell::report_rows(out, counts)
-}
-
-fn step<P: Print>(out: &P, line: &[u8], s: &mut [u8], counts: &mut [u16]) -> io::Result<()> {
-    let kind = input::kind(line);
-    if kind == b'G' {
-        return report(out, line, counts);
-    }
-    tell::count(counts, kind, act(out, line, kind, s)?);
-    Ok(())
-}
-
-// The lines of the input, 99,999 at most.
-fn all<P: Print, R: Read>(
-    out: &P,
-    from: &mut R,
-    line: &mut [u8],
-    s: &mut [u8],
-    counts: &mut [u16],
+fn step<R: Print + AllocGlobal>(
+    rt: &R,
+    line: &[u8],
+    bench: &mut Bench,
+    batches: &mut Batches,
 ) -> io::Result<()> {
-    let mut i: usize = 0;
-    while i < MOST_LINES {
-        if !input::read(from, line)? {
-            return Ok(());
-        }
-        step(out, line, s, counts)?;
-        i += 1;
+    match Command::of(line) {
+        Some(Command::Batch) => batches.ask(rt, line, bench)?,
+        Some(Command::Put(d)) => bench.image.put(d, &lines::strand(rt.alloc(), line)?),
+        Some(Command::EndGroup) => bench.counts.report_with_batches(rt, line)?,
+        None => bench.act(rt, line)?,
     }
     Ok(())
-}
-
-// A reference to an array is borrowed as a slice at no cost, where the array itself would be spelled out by the prover.
-fn run<P: Print, R: Read>(
-    out: &P,
-    from: &mut R,
-    line: &mut [u8; 104],
-    s: &mut [u8; 313856],
-    counts: &mut [u16; 111],
-) -> io::Result<()> {
-    all(out, from, line, s, counts)
 }
 
 fn main(rt: HostRuntime) -> io::Result<()> {
-    let mut from = BufReader::new(rt.alloc(), rt.reader())?;
-    let mut line = [0u8; 104];
-    let mut s = [0u8; 313856];
-    let mut counts = [0u16; 111];
-    run(&rt, &mut from, &mut line, &mut s, &mut counts)
+    let alloc = rt.alloc();
+    let mut bench = Bench::new(alloc, BANK)?;
+    let mut batches = Batches::new(alloc)?;
+    let mut input = BufReader::new(alloc, rt.reader())?;
+    let mut line = [0u8; LINE];
+    for _ in 0..MOST_LINES {
+        if !read(&mut input, &mut line)? {
+            break;
+        }
+        step(&rt, &line, &mut bench, &mut batches)?;
+    }
+    Ok(())
 }

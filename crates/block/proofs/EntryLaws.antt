@@ -7,6 +7,7 @@ use native.Mathlib.Omega.{arith}
 use lib.ListN.{length, length-append}
 use borrow.Author.Tests.{eq-eqb}
 use Rattle.lists.specs.Vocabulary.{nth, choose}
+use Rattle.refusals.specs.Rules.{motif_side}
 use Rattle.strand.specs.Strands.{strand_of, Proper}
 use Rattle.lists.proofs.ListLaws.{every_true}
 use Rattle.octets.specs.Octets.{Bytes, bytes32, map_bit, clear_map, map_bytes, without}
@@ -24,7 +25,7 @@ regroup a b c d = simp append_assoc
 regroup₂ : (a b c d : List ℕ) → a ++ b ++ c ++ d ≡ a ++ b ++ (c ++ d)
 regroup₂ a b c d = append_assoc (a ++ b) c d
 
-module _ (own bases mates : List ℕ) (ho : 2 + length own ≡ entry_kind.blank) (P : Proper 0 entry_kind.least 120 bases mates) (S H : ℕ → Bool) where
+module _ (own bases mates : List ℕ) (ho : 2 + length own ≡ entry_kind.blank) (P : Proper motif_side entry_kind.least 120 bases mates) (S H : ℕ → Bool) where
   C : List ℕ
   C = content_of entry_kind own bases mates
 
@@ -88,7 +89,7 @@ module _ (own bases mates : List ℕ) (ho : 2 + length own ≡ entry_kind.blank)
         ∙ sym (append_assoc (C ++ map_bytes (without d S)) (map_bytes (without d H)) tail)
 
 -- Number d taken out of a cache entry: the block of the two sets without d.
-pub entry_forget : (own bases mates : List ℕ) (ho : 2 + length own ≡ entry_kind.blank) (P : Proper 0 entry_kind.least 120 bases mates) (S H : ℕ
+pub entry_forget : (own bases mates : List ℕ) (ho : 2 + length own ≡ entry_kind.blank) (P : Proper motif_side entry_kind.least 120 bases mates) (S H : ℕ
     → Bool) (d : ℕ)
     → d < 512
     → forgot d (entry_with own bases mates (map_bytes S) (map_bytes H)) ≡ entry_with own bases mates (map_bytes (without d S)) (map_bytes (without d H))
@@ -100,7 +101,7 @@ entry_forget own bases mates ho P S H d hd =
     (length_clear _ 444 d ∙ length_clear _ 380 d ∙ entry_length own bases mates ho P S H) (cleared own bases mates ho P S H d hd) refl)
 
 -- The block of a motif and two sets is sound, where each hit was searched.
-module _ (own bases mates : List ℕ) (ho : 2 + length own ≡ entry_kind.blank) (P : Proper 0 entry_kind.least 120 bases mates) (S H : ℕ → Bool)
+module _ (own bases mates : List ℕ) (ho : 2 + length own ≡ entry_kind.blank) (P : Proper motif_side entry_kind.least 120 bases mates) (S H : ℕ → Bool)
     (needs : (d : ℕ) → d < 512 → not (H d) || S d ≡ true) (small : Bytes own) where
   block : List ℕ
   block = entry_with own bases mates (map_bytes S) (map_bytes H)

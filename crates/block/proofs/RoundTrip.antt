@@ -18,6 +18,7 @@ use Rattle.strand.specs.Strands.{strand_of, is_nested, Proper}
 use Rattle.lists.proofs.ListLaws.{length_tab, nth_tab, every_at, zeros_zero}
 use Rattle.strand.proofs.VerdictLaws.{nested_test}
 use Rattle.octets.specs.Octets.{Bytes, is_zero, word16, word32, bytes32, words, bytes_of}
+use Rattle.refusals.specs.declared.Side.{Side}
 use Rattle.block.specs.Content.{sum_to, checksum_of, checksum_ok, with_checksum, Kind, mates_at, length_in, mates_in, strand_in, padded, head_of, content_of}
 use Rattle.block.specs.Content.{strand_block}
 use Rattle.block.proofs.PartLaws.{mates_end, own_in, regroup, length_content, length_padded, length_head}
@@ -198,7 +199,7 @@ module _ (k : Kind) (own bases mates t : List ℕ) (ho : 2 + length own ≡ k.bl
 
 -- ---- bytes
 
-small_letters : (side : ℕ) (l : List ℕ) → all (is_letter side) l ≡ true → Bytes l
+small_letters : (side : Side) (l : List ℕ) → all (is_letter side) l ≡ true → Bytes l
 small_letters side l e i =
     elim (dec_lt i (length l)) [
       | yes h ↦ letter_byte side (nth l i) (every_at (λ j. is_letter side (nth l j)) (length l) i e h)

@@ -13,6 +13,7 @@ use Rattle.letters.specs.Letters.{is_letter}
 use Rattle.strand.specs.Strands.{is_nested}
 use Rattle.lists.proofs.ListLaws.{every_at, every_true, and_left, and_right, never, is_true, both_ways, zeros_not}
 use Rattle.octets.specs.Octets.{is_zero, words, word32, bit_of, map_bit}
+use Rattle.refusals.specs.declared.Side.{Side}
 use Rattle.block.specs.Content.{sum_to, checksum_of, checksum_ok, Kind, molecule_kind, entry_kind, mates_at, is_empty, length_in, mates_in}
 use Rattle.octets.specs.Bits.{bits_within}
 use Rattle.block.proofs.PartLaws.{mates_end}
@@ -22,7 +23,7 @@ use Rattle.block.specs.Motif.{sound_motif, holds_motif}
 
 -- ---- the content, rule by rule
 
-module _ (side blank start most n : ℕ) (s : List ℕ) where
+module _ (side : Side) (blank start most n : ℕ) (s : List ℕ) where
   pub head_not_blank : all is_zero (between blank start s) ≡ false → false ≡ base_bytes_ok side blank start most n s
   unfolding base_bytes_ok
   head_not_blank h = rw h

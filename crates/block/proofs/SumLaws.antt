@@ -6,13 +6,14 @@ use Prim.Native.Nat.{ℕ, zero, suc, ◌+◌, ◌*◌, ◌<◌, ◌≤◌}
 use native.Mathlib.Omega.{arith}
 use native.Mathlib.Nat.{mul-le-mul, le_of_suc-le-suc, not-suc-le-zero, eq-or-lt_of_le}
 use native.Mathlib.Numerals.{add-one}
-use lib.ListN.{length, set, length-append, get_or-append}
-use lib.Seq.{get_or-set_same, get_or-set_other, get_or-append-add}
+use lib.ListN.{length, set, take, drop, length-append, get_or-append}
+use lib.Seq.{get_or-set_same, get_or-set_other, get_or-append-add, sets-eq, drop-drop}
+use borrow.Rule.Slice.PartMut.{put_mid}
 use borrow.Author.Tests.{le-leb, lt-leb}
 use Rattle.lists.specs.Vocabulary.{nth}
 use Rattle.lists.proofs.ListLaws.{choose_yes, choose_no}
-use Rattle.octets.specs.Octets.{Bytes}
-use Rattle.block.specs.Content.{sum_to, rechecked}
+use Rattle.octets.specs.Octets.{Bytes, bytes32}
+use Rattle.block.specs.Content.{sum_to, checksum_of, rechecked}
 use Rattle.block.specs.Inner.{rechecked_whole}
 
 pub sum_none : (s : List ℕ) → sum_to s 0 ≡ 0
@@ -106,5 +107,12 @@ module _ (s : List ℕ) where
   unfolding rechecked_whole
   rechecked_whole_lem h = choose_yes _ (rechecked s) s (le-leb 512 (length s) h)
 
-  pub rechecked_is : (r : List ℕ) → 512 ≤ length s → r ≡ rechecked s → r ≡ rechecked_whole s
-  rechecked_is r h e = e ∙ sym (rechecked_whole_lem h)
+  -- The four bytes of the sum put into bytes 508 to 511.
+  pub checksum_put : (p : List ℕ) (x : ℕ) → 512 ≤ length s → x ≡ sum_to s 508 → p ≡ bytes32 x → put_mid 508 4 s p ≡ rechecked_whole s
+  unfolding rechecked checksum_of
+  checksum_put p x h ex ep =
+      ap (put_mid 508 4 s) (ep ∙ ap bytes32 ex)
+      ∙ ap (λ (l : List ℕ). take 508 s ++ (bytes32 (sum_to s 508) ++ l)) (drop-drop 4 508 s)
+      ∙ sym (append_assoc (take 508 s) (bytes32 (sum_to s 508)) (drop 512 s))
+      ∙ sym (sets-eq (bytes32 (sum_to s 508)) s 508 (omega arith))
+      ∙ sym (rechecked_whole_lem h)

@@ -7,10 +7,14 @@ use Prim.Native.Nat.{ℕ, zero, suc, ◌+◌, ◌-◌, ◌*◌, ◌%◌, ◌<◌
 use native.Mathlib.Omega.{arith}
 use native.Mathlib.Decide.{dec_lt, ℕ_discrete}
 use native.Mathlib.Numerals.{add-one}
-use lib.Dec.{eqb}
+use lib.Dec.{eqb, leb}
+use mir.Val.{bool_byte}
 use lib.ListN.{length, take, drop, replicate, length-take, length-drop}
 use lib.Seq.{get_or-take, get_or-drop, take_all, length-take-le}
-use borrow.Author.Tests.{eq-eqb, eqb-true}
+use borrow.Author.Tests.{eq-eqb, eqb-true, lt-leb, le-leb}
+use Rattle.std.specs.Prelude.{Option, Some, None}
+use Rattle.std.specs.Bool.{then_some}
+use Rattle.std.proofs.lemmas.Option.{none-some, same_Some}
 use Rattle.lists.specs.Vocabulary.{nth, every, all, between, choose}
 use Rattle.lists.proofs.ListLaws.{Tells, never, both_ways, every_at, every_true, zeros_at, nth_tab, length_tab, same_eq, same_all}
 use Rattle.strand.specs.Strands.{Inside, is_nested}
@@ -50,6 +54,15 @@ module _ (q : ℕ → Bool) (s : List ℕ) (a e : ℕ) (h : a ≤ e) (l : e ≤ 
           every_true (test_from q s a) (e - a) (λ k u.
           rw (part_at s a e k (omega arith)) at (every_at (λ k. q (nth (between a e s) k)) (length (between a e s)) k t (omega (arith, n))))
 
+-- ---- bytes under no rule
+
+-- The sum over the bytes passed, and what the next byte of the part adds.
+pub gathered_next : (s : List ℕ) (a e i total x : ℕ) → a + i < e → total ≡ sum_to s (a + i) → x ≡ (a + i + 1) * nth (between a e s) i
+    → total + x ≡ sum_to s (a + (i + 1))
+gathered_next s a e i total x h t ex =
+    let z : a + (i + 1) ≡ a + i + 1 = omega arith in
+    rw (z, sum_more s (a + i), ← t, ← part_at s a e i h) (ap (λ (k : ℕ). total + k) ex)
+
 -- ---- tested bytes
 
 -- The first i bytes from a on have been passed: the total is the sum over all bytes before a + i, and `least`, the least of the tests as numbers, is 1
@@ -66,17 +79,20 @@ module _ (q : ℕ → Bool) (s : List ℕ) (a : ℕ) where
       record { sum_is = rw z e; small = omega (arith, e, sum_small s a B h); all_pass = least_none (test_from q s a) }
 
   -- The next byte b, with its test t and what it adds.
-  pub tested_next : (e i total least b t r x : ℕ) → Tested q s a i total least → a + i < e → e ≤ 508 → b ≡ nth (between a e s) i → b < 256
-      → t ≡ choose (q b) 1 0 → r ≡ min least t → x ≡ (a + i + 1) % 512 * b → Tested q s a (i + 1) (total + x) r
-  tested_next e i total least b t r x T h few is byte et er ex =
+  pub tested_next : (e i total least b r x : ℕ) {t : Bool} → Tested q s a i total least → a + i < e → e ≤ 508 → b ≡ nth (between a e s) i → Bytes s
+      → t ≡ q b → r ≡ min least (bool_byte t) → x ≡ (a + i + 1) % 512 * b → Tested q s a (i + 1) (total + x) r
+  tested_next e i total least b r x T h few is B et er ex =
       record {
         sum_is = rw (next, sum_more s (a + i), ← T.sum_is, ← at) (ap (λ (k : ℕ). total + k) added);
         small = omega (arith, T.small, added, term_small (a + i) b (omega arith) byte);
-        all_pass = least_next (test_from q s a) i er T.all_pass (et ∙ ap (λ (k : ℕ). choose (q k) 1 0) at);
+        all_pass = least_next (test_from q s a) i er T.all_pass (et ∙ ap q at);
       }
     where
       at : b ≡ nth s (a + i)
       at = is ∙ part_at s a e i h
+
+      byte : b < 256
+      byte = omega (arith, at, B (a + i))
 
       weight : (a + i + 1) % 512 ≡ a + i + 1
       weight = omega arith
@@ -120,12 +136,12 @@ low_more at mates i = rw add-one
 low_weight : (at i : ℕ) → at + 2 * i < 508 → (at + 2 * i + 1) % 512 ≡ at + 2 * i + 1
 low_weight at i h = omega arith
 
-pub low_small : (at i m : ℕ) {weight r : ℕ} → weight ≡ at + 2 * i + 1 → at + 2 * i < 508 → r ≡ weight % 512 * (m % 256) → r ≤ 129540
-low_small at i m w h e = rw (e, w, low_weight at i h) (term_small (at + 2 * i) (m % 256) h (omega arith))
+pub low_small : (at i m : ℕ) {r : ℕ} → at + 2 * i < 508 → r ≡ (at + 2 * i + 1) % 512 * (m % 256) → r ≤ 129540
+low_small at i m h e = rw (e, low_weight at i h) (term_small (at + 2 * i) (m % 256) h (omega arith))
 
-pub low_next : (at : ℕ) (mates : List ℕ) (i sum : ℕ) {weight total r : ℕ} → weight ≡ at + 2 * i + 1 → total ≡ sum + low_sum at mates i
-    → at + 2 * i < 508 → r ≡ weight % 512 * (nth mates i % 256) → total + r ≡ sum + low_sum at mates (i + 1)
-low_next at mates i sum w t h e = rw (t, e, w, low_weight at i h, low_more at mates i) (omega arith)
+pub low_next : (at : ℕ) (mates : List ℕ) (i sum : ℕ) {total r : ℕ} → total ≡ sum + low_sum at mates i
+    → at + 2 * i < 508 → r ≡ (at + 2 * i + 1) % 512 * (nth mates i % 256) → total + r ≡ sum + low_sum at mates (i + 1)
+low_next at mates i sum t h e = rw (t, e, low_weight at i h, low_more at mates i) (omega arith)
 
 -- Of the first i mates `outside` are at or above n.
 pub record Counted (mates : List ℕ) (n i outside : ℕ) : Type 0 where
@@ -137,9 +153,9 @@ pub counted_none : (mates : List ℕ) (n : ℕ) → Counted mates n 0 0
 counted_none mates n = record { few = omega arith; none = λ e k l. absurd (omega arith); found = λ h. refl }
 
 -- r says whether mate i is one of them.
-pub counted_next : (mates : List ℕ) (n i outside r : ℕ) → Counted mates n i outside → r ≤ 1 → (nth mates i < n → r ≡ 0) → (n ≤ nth mates i → r ≡ 1)
+counted_one : (mates : List ℕ) (n i outside r : ℕ) → Counted mates n i outside → r ≤ 1 → (nth mates i < n → r ≡ 0) → (n ≤ nth mates i → r ≡ 1)
     → Counted mates n (i + 1) (outside + r)
-counted_next mates n i outside r C one yes_below not-below =
+counted_one mates n i outside r C one yes_below not-below =
     record {
       few = omega (arith, C.few);
       none = λ e k l. elim (ℕ_discrete k i) [
@@ -148,6 +164,15 @@ counted_next mates n i outside r C one yes_below not-below =
       ];
       found = λ h. omega (arith, C.found (λ k l. h k (omega arith)), yes_below (h i (omega arith)));
     }
+
+byte_small : (b : Bool) → bool_byte b ≤ 1
+byte_small true = omega arith
+byte_small false = omega arith
+
+pub counted_next : (mates : List ℕ) (n i outside : ℕ) → Counted mates n i outside → Counted mates n (i + 1) (outside + bool_byte (leb n (nth mates i)))
+counted_next mates n i outside C =
+    let m = nth mates i in
+    counted_one mates n i outside _ C (byte_small (leb n m)) (λ h. ap bool_byte (lt-leb n m h)) (λ h. ap bool_byte (le-leb n m h))
 
 pub counted_end : (mates : List ℕ) (n i outside : ℕ) → Counted mates n i outside → i ≤ n → n ≤ i → Tells (eqb outside 0) (Inside (nth mates) n)
 counted_end mates n i outside C u v =
@@ -249,13 +274,12 @@ module _ (s : List ℕ) where
   maps_none sum e = rw e refl
 
   -- One byte of each map more.
-  module _ (i weight x y : ℕ) (h : i < 64) (w : weight ≡ 380 + i + 1) (ex : x ≡ weight % 512 * nth s (380 + i))
-      (ey : y ≡ (weight + 64) % 512 * nth s (444 + i)) where
+  module _ (i x y : ℕ) (h : i < 64) (ex : x ≡ (380 + i + 1) % 512 * nth s (380 + i)) (ey : y ≡ (444 + i + 1) % 512 * nth s (444 + i)) where
     first_adds : x ≡ (380 + i + 1) * nth s (380 + i)
-    first_adds = let z : weight % 512 ≡ 380 + i + 1 = omega arith in rw z at ex
+    first_adds = let z : (380 + i + 1) % 512 ≡ 380 + i + 1 = omega arith in rw z at ex
 
     second_adds : y ≡ (444 + i + 1) * nth s (444 + i)
-    second_adds = let z : (weight + 64) % 512 ≡ 444 + i + 1 = omega arith in rw z at ey
+    second_adds = let z : (444 + i + 1) % 512 ≡ 444 + i + 1 = omega arith in rw z at ey
 
     pub maps_small : Bytes s → x + y ≤ 2 * 129540
     maps_small B =
@@ -275,3 +299,24 @@ module _ (s : List ℕ) where
 
   pub maps_end : (i total : ℕ) → MapsPassed s i total → i ≤ 64 → 64 ≤ i → total ≡ sum_to s 508
   maps_end i total P u v = let z : i ≡ 64 = omega arith in omega (arith, rw z at P)
+
+-- ---- a sum that is handed on where bytes keep their rule b
+
+pub handed : (b : Bool) (x v : ℕ) → Some v ≡ then_some b x → (b ≡ true) × (v ≡ x)
+handed true x v e = (refl, same_Some v x e)
+handed false x v e = absurd (none-some v (sym e))
+
+pub not_handed : (b : Bool) (x : ℕ) → None ≡ then_some b x → b ≡ false
+not_handed true x e = absurd (none-some x e)
+not_handed false x e = refl
+
+pub hand_none : (b : Bool) (x : ℕ) → b ≡ false → None ≡ then_some b x
+hand_none b x e = rw e refl
+
+hand_same : (b : Bool) (x y : ℕ) → (b ≡ true → x ≡ y) → then_some b x ≡ then_some b y
+hand_same true x y h = ap (λ (k : ℕ). Some k) (h refl)
+hand_same false x y h = refl
+
+-- What a callee handed on, under the caller's rule, with the caller's sum.
+pub hand_on : (r : Option ℕ) (a b : Bool) (x y : ℕ) → r ≡ then_some a x → a ≡ b → (b ≡ true → x ≡ y) → r ≡ then_some b y
+hand_on r a b x y e q h = e ∙ ap (λ (t : Bool). then_some t x) q ∙ hand_same b x y h

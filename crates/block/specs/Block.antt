@@ -4,6 +4,7 @@ use Rattle.lists.specs.Vocabulary.{nth, between, every, all, choose}
 use Rattle.letters.specs.Letters.{is_letter}
 use Rattle.strand.specs.Strands.{is_nested}
 use Rattle.octets.specs.Octets.{is_zero, map_bit, clear_map, map_bits}
+use Rattle.refusals.specs.declared.Side.{Side}
 use Rattle.block.specs.Content.{block_size, checksum_ok, rechecked, Kind, molecule_kind, entry_kind, mates_at, searched_at, hit_at, is_empty, length_in}
 use Rattle.block.specs.Content.{mates_in}
 
@@ -28,7 +29,7 @@ unfoldable pub each_block : (List ℕ → List ℕ) → List ℕ → List ℕ
 each_block f s = blocks_to f (block_count s) s ++ drop (block_size * block_count s) s
 
 -- The bytes of n bases that begin at `start`, with room for `most`: bytes from `blank` up to them zero, letters of the side, unused places zero.
-unfoldable pub base_bytes_ok : ℕ → ℕ → ℕ → ℕ → ℕ → List ℕ → Bool
+unfoldable pub base_bytes_ok : Side → ℕ → ℕ → ℕ → ℕ → List ℕ → Bool
 base_bytes_ok side blank start most n s =
     all is_zero (between blank start s)
     && all (is_letter side) (between start (start + n) s)

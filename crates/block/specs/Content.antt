@@ -4,6 +4,7 @@ use Rattle.std.proofs.lemmas.List.Edits.{sets}
 use Rattle.lists.specs.Vocabulary.{nth, between, all}
 use Rattle.octets.specs.Octets.{word32, bytes32, is_zero, words, bytes_of, map_bit, map_bytes}
 use Rattle.strand.specs.Strands.{Strand, same_strand, least_motif, least_molecule}
+use Rattle.refusals.specs.declared.Side.{Side}
 use Rattle.refusals.specs.Rules.{motif_side, molecule_side}
 
 -- A block has 512 bytes, and its checksum stands in bytes 508 to 511.
@@ -36,7 +37,7 @@ rechecked s = sets s checksum_at (bytes32 (checksum_of s))
 -- greatest length; where its zero bytes begin, the bytes from 2 up to there being the kind's own; and where its bases begin.
 pub record Kind : Type 0 where
   pub mark : ℕ
-  pub side : ℕ
+  pub side : Side
   pub least : ℕ
   pub most : ℕ
   pub blank : ℕ

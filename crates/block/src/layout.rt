@@ -39,6 +39,13 @@ pub const HIT_AT: usize = 444;
 
 pub const MAP_SIZE: usize = 64;
 
+// The number of blocks of a buffer.
+pub fn block_count(buf: &[u8]) -> usize
+    ensures { result ≡ block_count buf.now }
+{
+    buf.len() / BLOCK_SIZE
+}
+
 // Block d of a buffer. Callers name a block that is there.
 pub fn block_at(buf: &[u8], d: usize) -> &[u8]
     requires { d < block_count buf.now }

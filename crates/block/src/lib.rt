@@ -2,6 +2,7 @@
 #![tactic(auto)]
 
 pub mod checksum;
+pub mod kind;
 pub mod layout;
 pub mod sound;
 mod walk;

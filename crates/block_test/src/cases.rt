@@ -1,166 +1,161 @@
-// What a line does, over three buffers. `image` is three blocks and a byte. `bytes` has the line, a strand's bases and two maps: from 0, 48, 210
-// and 275. `words` has the strand's mates, from 162 the lengths of bases, mates, searched and hits, then how many answers were right and how
-// many wrong.
-use super::{blocks, parts, strands};
-use std::io;
-use std::io::Read;
+// What a line says: its letter, and its numbers a, b and c from columns 2, 8 and 14.
 use testing::input::number;
-use testing::output::say;
-use testing::slices::{bond, clear, entry_at, first, part, set_entry, sum_bytes, sum_entries};
-use testing::{input, output};
+use testing::slices::byte;
 
-// ---- the strand and the maps
-
-// `N a b c`: a random bases and b mates without bonds, from the seed c.
-fn strand(bytes: &mut [u8], words: &mut [u16]) {
-    parts::fill(bytes, words, number(bytes, 14, 5));
-    set_entry(words, 162, number(bytes, 2, 5));
-    set_entry(words, 163, number(bytes, 8, 5));
+// What a block may be sound as: a molecule block, a cache entry, a block handed in as a motif; or what it holds: a motif.
+#[derive(Clone, Copy, Debug, PartialEq, Eq)]
+pub enum Kind {
+    Molecule,
+    Entry,
+    Motif,
+    HoldsMotif,
 }
 
-// `C a b`: empty maps of a and b bytes.
-fn maps(bytes: &mut [u8], words: &mut [u16], a: usize, b: usize) {
-    if bytes.len() < 340 {
-        return;
-    }
-    clear(&mut bytes[210..340]);
-    set_entry(words, 164, a);
-    set_entry(words, 165, b);
-}
-
-// `G`: a group of cases ends here. Its name stands in the line.
-fn group<P: Print>(out: &P, line: &[u8], words: &mut [u16]) -> io::Result<()> {
-    say(out, part(line, 20, 27))?;
-    output::number(out, b" ", entry_at(words, 166))?;
-    output::number(out, b" right, ", entry_at(words, 167))?;
-    say(out, b" wrong\n")?;
-    set_entry(words, 166, 0);
-    set_entry(words, 167, 0);
-    Ok(())
-}
-
-// The commands that ask nothing. `A a b`: an arc. `P a b`: number a is searched (b 0) or a hit (b 1).
-fn prepare<P: Print>(out: &P, kind: u8, bytes: &mut [u8], words: &mut [u16]) -> io::Result<usize> {
-    let a = number(bytes, 2, 5);
-    let b = number(bytes, 8, 5);
-    match kind {
-        b'N' => strand(bytes, words),
-        b'A' => bond(words, a, b),
-        b'C' => maps(bytes, words, a, b),
-        b'P' => octets::bits::set(bytes, 210 + b % 2 * 65, a),
-        _ => group(out, bytes, words)?,
-    }
-    Ok(parts::NOTHING)
-}
-
-// ---- questions
-
-// `W a 0 c`: the sum over the image (0), the bases (1), the mates (2).
-fn sum(image: &[u8], bytes: &[u8], words: &[u16]) -> usize {
-    match number(bytes, 2, 5) {
-        0 => sum_bytes(image),
-        1 => sum_bytes(part(bytes, 48, 162)),
-        _ => sum_entries(first(words, 162)),
+impl Kind {
+    // 1 to 3 in this order; every other number asks for a motif.
+    pub fn of(number: usize) -> Kind {
+        match number {
+            1 => Kind::Molecule,
+            2 => Kind::Entry,
+            3 => Kind::Motif,
+            _ => Kind::HoldsMotif,
+        }
     }
 }
 
-// The block s decoded, for `E` as a motif, into the bases up to byte `end` and the first m mates.
-fn decoded(kind: u8, s: &[u8], bytes: &mut [u8], end: usize, words: &mut [u16], m: usize) -> usize {
-    let from = 0;
-    let begin = 48;
-    if end < begin {
-        return parts::WRONG;
-    }
-    if bytes.len() < end {
-        return parts::WRONG;
-    }
-    if words.len() < m {
-        return parts::WRONG;
-    }
-    if kind == b'E' {
-        return codec::molecule::decode_motif(s, &mut bytes[begin..end], &mut words[from..m]);
-    }
-    codec::molecule::decode_molecule(s, &mut bytes[begin..end], &mut words[from..m])
+// What a command writes that asks nothing.
+#[derive(Clone, Copy, Debug)]
+pub enum Preparation {
+    // `N a b c`: a random bases and b mates without bonds, from the seed c.
+    Strand(usize, usize, usize),
+    // `A a b`: an arc.
+    Arc(usize, usize),
+    // `C a b`: empty maps of a and b bytes.
+    Maps(usize, usize),
+    // `P a b`: number a is searched (b even) or a hit (b odd).
+    Searched(usize),
+    Hit(usize),
+    // `S a b`: byte a of the image becomes b.
+    Byte(usize, u8),
 }
 
-// `D a b c`: the first block decoded into a bases and b mates of the strand, `E` the same as a block handed in as a motif. `d` gives it a byte less than
-// a block.
-fn decode(kind: u8, image: &[u8], size: usize, bytes: &mut [u8], words: &mut [u16]) -> usize {
-    let end = 48 + number(bytes, 2, 5) % 1000;
-    let m = number(bytes, 8, 5);
-    decoded(kind, part(image, 0, size), bytes, end, words, m)
+// What becomes of the strand in the first bytes of the image.
+#[derive(Clone, Copy, Debug)]
+pub enum Encoding {
+    // `M`: it is encoded as a molecule.
+    Molecule,
+    // `K`: it is encoded with the maps as an entry.
+    Entry,
+    // `O a`: it is written as block a.
+    Block(usize),
+    // `U`: it may be the motif that the entry there keeps.
+    Keeps,
 }
 
-// What the line's command answers; `blocks` and `strands` have the other letters.
-fn answer<P: Print>(
-    out: &P,
-    kind: u8,
-    image: &mut [u8],
-    bytes: &mut [u8],
-    words: &mut [u16],
-) -> io::Result<usize> {
-    match kind {
-        b'N' | b'A' | b'C' | b'P' | b'G' => prepare(out, kind, bytes, words),
-        b'M' | b'K' | b'O' | b'U' => Ok(strands::answer(kind, image, bytes, words)),
-        b'D' | b'E' => Ok(decode(kind, image, 512, bytes, words)),
-        b'd' => Ok(decode(kind, image, 511, bytes, words)),
-        b'W' => Ok(sum(image, bytes, words)),
-        _ => Ok(blocks::answer(kind, image, bytes)),
+// What the first block is decoded as.
+#[derive(Clone, Copy, Debug)]
+pub enum Decoding {
+    // `D`
+    Molecule,
+    // `E`: a block handed in as a motif.
+    Motif,
+    // `d`: a byte less than a block.
+    Short,
+}
+
+#[derive(Clone, Copy, Debug)]
+pub enum Question {
+    // `M`, `K`, `O` and `U` take the first b bytes.
+    Encode(Encoding, usize),
+    // `D`, `E` and `d` write a bases and b mates of the strand.
+    Decode(Decoding, usize, usize),
+    // `W a`: the sum over the image (0), the bases (1), the mates (2).
+    SumImage,
+    SumBases,
+    SumMates,
+    // `J a b`: whether the first b bytes are sound as kind a.
+    Sound(Kind, usize),
+    // `R a`: writes the checksum into the first a bytes and asks whether it is right.
+    Checksum(usize),
+    // `Q a`: 1 where number a of the entry is searched, and 2 more where it is a hit.
+    Bits(usize),
+    // `X a b c`: byte a becomes b. The digits of c are the kind, and whether the block is sound with the old checksum, with the checksum made right, and
+    // with the byte put back and the checksum made right.
+    Damage(usize, u8, usize),
+    // `F a` and every other letter: takes number a out of the entry and asks whether it is sound.
+    Forget(usize),
+    // `Z a`: zeroes block a. `Y a` asks whether it is sound as a molecule block.
+    Zero(usize),
+    SoundAt(usize),
+    // `H` cleans all entries, `f a` takes number a out of all; their answer is the sum over the image.
+    CleanAll,
+    ForgetAll(usize),
+}
+
+#[derive(Clone, Copy, Debug)]
+pub enum Command {
+    Prepare(Preparation),
+    Ask(Question),
+    // `G`: a group of cases ends here. Its name stands in the line.
+    EndGroup,
+}
+
+impl Preparation {
+    fn of(letter: u8, a: usize, b: usize, c: usize) -> Option<Preparation> {
+        match letter {
+            b'N' => Some(Preparation::Strand(a % 65536, b % 65536, c)),
+            b'A' => Some(Preparation::Arc(a, b)),
+            b'C' => Some(Preparation::Maps(a % 65536, b % 65536)),
+            b'P' if b % 2 == 0 => Some(Preparation::Searched(a)),
+            b'P' => Some(Preparation::Hit(a)),
+            b'S' => Some(Preparation::Byte(a, byte(b))),
+            _ => None,
+        }
     }
 }
 
-// A wrong answer: its line, then what was got.
-fn tell<P: Print>(out: &P, line: &[u8], got: usize) -> io::Result<()> {
-    say(out, part(line, 0, 48))?;
-    output::number(out, b" ", got % 65536)?;
-    say(out, b"\n")
+impl Question {
+    fn of(letter: u8, a: usize, b: usize, c: usize) -> Question {
+        match letter {
+            b'M' => Question::Encode(Encoding::Molecule, b),
+            b'K' => Question::Encode(Encoding::Entry, b),
+            b'O' => Question::Encode(Encoding::Block(a), b),
+            b'U' => Question::Encode(Encoding::Keeps, b),
+            b'D' => Question::Decode(Decoding::Molecule, a, b),
+            b'E' => Question::Decode(Decoding::Motif, a, b),
+            b'd' => Question::Decode(Decoding::Short, a, b),
+            b'W' if a == 0 => Question::SumImage,
+            b'W' if a == 1 => Question::SumBases,
+            b'W' => Question::SumMates,
+            b'J' => Question::Sound(Kind::of(a), b),
+            b'R' => Question::Checksum(a),
+            b'Q' => Question::Bits(a),
+            b'X' => Question::Damage(a, byte(b), c / 1000),
+            b'Z' => Question::Zero(a),
+            b'Y' => Question::SoundAt(a),
+            b'H' => Question::CleanAll,
+            b'f' => Question::ForgetAll(a),
+            _ => Question::Forget(a),
+        }
+    }
 }
 
-// One more at i.
-fn count(words: &mut [u16], i: usize) {
-    set_entry(words, i, entry_at(words, i) % 65535 + 1);
-}
-
-// An answer is counted, and told where it is wrong; a sum counts modulo 65536.
-fn expect<P: Print>(out: &P, line: &[u8], words: &mut [u16], got: usize) -> io::Result<()> {
-    if got == parts::NOTHING {
-        return Ok(());
+impl Command {
+    // None for the byte 0, at which the input ends.
+    pub fn of(line: &[u8]) -> Option<Command> {
+        let letter = *line.first()?;
+        if letter == 0 {
+            return None;
+        }
+        let a = number(line, 2..7);
+        let b = number(line, 8..13);
+        let c = number(line, 14..19);
+        if letter == b'G' {
+            return Some(Command::EndGroup);
+        }
+        match Preparation::of(letter, a, b, c) {
+            Some(preparation) => Some(Command::Prepare(preparation)),
+            None => Some(Command::Ask(Question::of(letter, a, b, c))),
+        }
     }
-    if got % 65536 == number(line, 14, 5) {
-        count(words, 166);
-        return Ok(());
-    }
-    tell(out, line, got)?;
-    count(words, 167);
-    Ok(())
-}
-
-// The next line into the first 48 bytes, and its letter; 0 where the input has no more.
-fn read<R: Read>(lines: &mut R, bytes: &mut [u8]) -> io::Result<u8> {
-    let from = 0;
-    let n = 48;
-    if bytes.len() < n {
-        return Ok(0);
-    }
-    if input::read(lines, &mut bytes[from..n])? {
-        return Ok(input::kind(bytes));
-    }
-    Ok(0)
-}
-
-// The next line; false where the input has no more.
-pub fn run<P: Print, R: Read>(
-    out: &P,
-    lines: &mut R,
-    image: &mut [u8],
-    bytes: &mut [u8],
-    words: &mut [u16],
-) -> io::Result<bool> {
-    let kind = read(lines, bytes)?;
-    if kind == 0 {
-        return Ok(false);
-    }
-    let got = answer(out, kind, image, bytes, words)?;
-    expect(out, bytes, words, got)?;
-    Ok(true)
 }

@@ -42,6 +42,13 @@ module _ (f : List ℕ → List ℕ) where
       sum : a + k ≡ 512 * (d + 1)
       sum = omega arith
 
+  -- What stands before block d of a buffer of s's length, when d blocks are done.
+  pub blocks_front : (d : ℕ) (s w : List ℕ) → length w ≡ length s → 512 * d ≤ length s → w ≡ blocks_to f d s ++ drop (512 * d) s
+      → length (blocks_to f d s) ≡ 512 * d
+  blocks_front d s w same h e =
+      let sum = ap length e ∙ length-append (blocks_to f d s) (drop (512 * d) s) in
+      let rest = length-drop (512 * d) s in omega (arith, same, sum, rest)
+
   pub blocks_end : (d : ℕ) (s w : List ℕ) → d ≡ block_count s → w ≡ blocks_to f d s ++ drop (512 * d) s → w ≡ each_block f s
   unfolding each_block
   blocks_end d s w h e = e ∙ ap (λ (n : ℕ). blocks_to f n s ++ drop (512 * n) s) h

@@ -1,52 +1,64 @@
 // The blocks of a buffer, one after the other.
 #![tactic(auto)]
 
-ghost use Rattle.std.specs.Prelude.{◌≡◌};
+ghost use Rattle.std.specs.Prelude.{◌≡◌, Bool, ◌&&◌, List, ℕ};
 ghost use Rattle.strand.specs.Strands.{strand_of};
-ghost use Rattle.block.specs.Block.{each_block, cleaned, forgot};
-ghost use Rattle.buffer.specs.Buffer.{molecule_put, entry_put, zero_put};
-ghost use Rattle.codec.specs.Outcomes.{wrote};
+ghost use Rattle.block.specs.Block.{put_block, each_block, cleaned, forgot};
+ghost use Rattle.buffer.specs.Buffer.{block_fits, molecule_put, entry_put, zero_put};
+ghost use Rattle.buffer.specs.Steps.{Leaves, Writes};
+ghost use Rattle.codec.specs.Outcomes.{wrote, wrote_if};
 
 use block::layout;
+
+// One step at every block, in order. Its bounds by hand: of a slice cut by `chunks_exact_mut` nothing is known afterwards.
+fn each_block<F: Fn(&mut [u8])>(s: &mut [u8], step: F)
+    requires { F.IsAlwaysCallable step }
+    ensures { (f : List ℕ → List ℕ) → Leaves (F.post step) f → s.new ≡ each_block f s.old }
+{
+    for d in 0..layout::block_count(s) {
+        let a = layout::BLOCK_SIZE * d;
+        let e = a + layout::BLOCK_SIZE;
+        step(&mut s[a..e]);
+    }
+}
+
+// One step at block d, and its answer. False, and nothing written, where there is no block d. Its bounds by hand, as in `each_block`.
+fn at_block<F: FnOnce(&mut [u8]) -> bool>(buf: &mut [u8], d: usize, step: F) -> bool
+    requires { F.IsAlwaysCallable step }
+    ensures { (fits : Bool) (b : List ℕ) → Writes (F.post step) fits b
+        → wrote result buf.new ≡ wrote_if (block_fits d buf.old && fits) (put_block d b buf.old) buf.old }
+{
+    if layout::block_count(buf) <= d {
+        return false;
+    }
+    let a = layout::BLOCK_SIZE * d;
+    let e = a + layout::BLOCK_SIZE;
+    step(&mut buf[a..e])
+}
 
 // Zero each cache block that is not sound.
 pub fn clean_all(s: &mut [u8])
     ensures { s.new ≡ each_block cleaned s.old }
 {
-    let n = s.len() / layout::BLOCK_SIZE;
-    let mut d = 0;
-    while d < n {
-        let a = layout::BLOCK_SIZE * d;
-        let e = a + layout::BLOCK_SIZE;
-        codec::entry::clean(&mut s[a..e]);
-        d += 1;
-    }
+    each_block(s, |block| codec::entry::clean(block));
 }
 
 // Take number d out of each cache entry.
 pub fn forget_all(s: &mut [u8], d: usize)
     ensures { s.new ≡ each_block (forgot d) s.old }
 {
-    let n = s.len() / layout::BLOCK_SIZE;
-    let mut k = 0;
-    while k < n {
-        let a = layout::BLOCK_SIZE * k;
-        let e = a + layout::BLOCK_SIZE;
-        codec::entry::forget(&mut s[a..e], d);
-        k += 1;
-    }
+    each_block(s, |block| codec::entry::forget(block, d));
 }
 
 // Write the block of a molecule at number d. False, and nothing written, where there is no block d or the molecule does not fit.
 pub fn put_molecule(buf: &mut [u8], d: usize, bases: &[u8], mates: &[u16]) -> bool
     ensures { wrote result buf.new ≡ molecule_put d (strand_of bases.now mates.now) buf.old }
 {
-    if buf.len() / layout::BLOCK_SIZE <= d {
-        return false;
-    }
-    let a = layout::BLOCK_SIZE * d;
-    let e = a + layout::BLOCK_SIZE;
-    codec::molecule::encode_molecule(&mut buf[a..e], bases, mates)
+    at_block(
+        buf,
+        d,
+        |block| codec::molecule::encode_molecule(block, bases, mates),
+    )
 }
 
 // Write the entry of a motif with its two maps as block k. False, and nothing written, where there is no block k, the motif does not fit or a map is
@@ -62,23 +74,19 @@ pub fn put_entry(
     ensures { wrote result buf.new
         ≡ entry_put k (strand_of bases.now mates.now) searched.now hits.now buf.old }
 {
-    if buf.len() / layout::BLOCK_SIZE <= k {
-        return false;
-    }
-    let a = layout::BLOCK_SIZE * k;
-    let e = a + layout::BLOCK_SIZE;
-    codec::entry::encode_entry(&mut buf[a..e], bases, mates, searched, hits)
+    at_block(
+        buf,
+        k,
+        |block| codec::entry::encode_entry(block, bases, mates, searched, hits),
+    )
 }
 
 // Zero block d. False, and nothing written, where there is no block d.
 pub fn zero_at(buf: &mut [u8], d: usize) -> bool
     ensures { wrote result buf.new ≡ zero_put d buf.old }
 {
-    if buf.len() / layout::BLOCK_SIZE <= d {
-        return false;
-    }
-    let a = layout::BLOCK_SIZE * d;
-    let e = a + layout::BLOCK_SIZE;
-    octets::scan::zero(&mut buf[a..e]);
-    true
+    at_block(buf, d, |block| {
+        block.fill(0);
+        true
+    })
 }

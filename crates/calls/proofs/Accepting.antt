@@ -1,4 +1,5 @@
 -- Add, remove and query are accepted exactly where no rule of theirs applies.
+use Rattle.std.specs.Prelude.{Ok}
 use Prim.Native.Nat.{ℕ}
 use native.Mathlib.Omega.{arith}
 use mathlib.Core.Path.{◌≡◌, refl, sym, ap, ◌∙◌}
@@ -10,7 +11,6 @@ use Rattle.lists.proofs.ListLaws.{lowest_all}
 use Rattle.strand.specs.Strands.{Strand, least_motif, least_molecule}
 use Rattle.strand.proofs.VerdictLaws.{proper_accepted}
 use Rattle.refusals.specs.Rules.{motif_side, molecule_side}
-use Rattle.refusals.specs.declared.Verdict.TheVariants.{Accepted}
 use Rattle.block.specs.Block.{block_of, block_count, sound_molecule}
 use Rattle.calls.specs.Buffers.{most_catalog_blocks, most_cache_blocks, most_molecule_bases, most_motif_bases, is_whole, unsound_at, buffers_verdict, Usable}
 use Rattle.calls.specs.Calls.{AddAccepts, RemoveAccepts, QueryAccepts}
@@ -34,7 +34,7 @@ module _ (catalog cache : List ℕ) where
     unfolding unsound_at
     none_unsound = lowest_all (λ d. not (sound_molecule (block_of d catalog))) (block_count catalog) (λ d l. ap not (u.blocks d l))
 
-    pub usable_pass : buffers_verdict catalog cache ≡ Accepted
+    pub usable_pass : buffers_verdict catalog cache ≡ Ok tt
     usable_pass =
         sym (buffers_pass catalog cache catalog_whole cache_whole (lowest (block_count catalog) (unsound_at catalog)) refl (omega (arith, none_unsound)))
 

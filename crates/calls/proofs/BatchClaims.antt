@@ -1,4 +1,5 @@
 -- The claims about batch for all inputs and all contents of the buffers.
+use Rattle.std.specs.Prelude.{Ok}
 use Prim.Native.Nat.{ℕ, zero, suc, ◌+◌, ◌-◌, ◌*◌, ◌≤◌, ◌<◌}
 use native.Mathlib.Omega.{arith}
 use mathlib.Core.Path.{◌≡◌, refl, sym, ap, ap₂, ◌∙◌}
@@ -13,13 +14,10 @@ use Rattle.lists.proofs.Ranges.{some_true, select_ext, selected}
 use Rattle.lists.proofs.Counts.{count_more}
 use Rattle.strand.specs.Strands.{Strand}
 use Rattle.refusals.proofs.RuleLaws.{by_accepted}
-use Rattle.refusals.specs.declared.Verdict.TheVariants.{Accepted}
 use Rattle.block.specs.Block.{block_count}
 use Rattle.block.specs.Content.{padded}
 use Rattle.block.proofs.PartLaws.{length_padded}
-use Rattle.calls.specs.declared.Queried.{Queried}
-use Rattle.calls.specs.declared.Queried.TheVariants.{Hits}
-use Rattle.calls.specs.declared.BatchRead.TheVariants.{Molecules}
+use Rattle.calls.specs.Answers.{Queried, hits_of}
 use Rattle.calls.specs.Buffers.{held, clean_cache}
 use Rattle.calls.specs.Calls.{QueryEffect, slot_in, entry_for, to_search, is_hit, query_accepted, query_outcome}
 use Rattle.calls.specs.Motifs.{most_motifs, motif_of}
@@ -39,7 +37,7 @@ use Rattle.calls.proofs.BatchSlots.{slots_shared}
 -- ---- counts
 
 -- The numbers of an answer that is no refusal.
-answer_is : (a : Queried) (c s : ℕ) → a ≡ Hits c s → a ≡ Hits (count_of a) (searched_of a)
+answer_is : (a : Queried) (c s : ℕ) → a ≡ Ok (hits_of c s) → a ≡ Ok (hits_of (count_of a) (searched_of a))
 unfolding count_of searched_of
 answer_is a c s e = rw e
 
@@ -49,7 +47,7 @@ padded_size m n f h = length_padded m (tab n f) (omega (arith, length_tab f n))
 -- ---- an accepted batch
 
 module _ (embeds : Strand → Strand → Bool) (catalog motifs : List ℕ) (work : ℕ) (cache hits : List ℕ)
-    (e : batch_verdict catalog cache motifs work (length hits) ≡ Accepted) where
+    (e : batch_verdict catalog cache motifs work (length hits) ≡ Ok tt) where
   abbrev K : ℕ
   K = block_count motifs
 
@@ -70,7 +68,7 @@ module _ (embeds : Strand → Strand → Bool) (catalog motifs : List ℕ) (work
   abbrev search : ℕ → ℕ → Bool
   search t = searches_at embeds catalog motifs work begin t
 
-  answer_at : (t : ℕ) → t < K → (query t).answer ≡ Hits (count_of (query t).answer) (searched_of (query t).answer)
+  answer_at : (t : ℕ) → t < K → (query t).answer ≡ Ok (hits_of (count_of (query t).answer) (searched_of (query t).answer))
   unfolding query_at batch_query
   answer_at t l =
       answer_is (query t).answer _ _
@@ -134,10 +132,11 @@ module _ (embeds : Strand → Strand → Bool) (catalog motifs : List ℕ) (work
 
   answers : (t : ℕ) → t < K
       → (query t).answer
-      ≡ Hits (nth (batch_answer embeds catalog motifs work begin).counts t) (nth (batch_answer embeds catalog motifs work begin).searched t)
+      ≡ Ok (hits_of (nth (batch_answer embeds catalog motifs work begin).counts t) (nth (batch_answer embeds catalog motifs work begin).searched t))
   answers t l =
       answer_at t l
-      ∙ ap₂ Hits (sym (law.count_at embeds catalog motifs work cache hits e t l)) (sym (law.searched_at_lem embeds catalog motifs work cache hits e t l))
+      ∙ ap₂ (λ c s. Ok (hits_of c s)) (sym (law.count_at embeds catalog motifs work cache hits e t l))
+      (sym (law.searched_at_lem embeds catalog motifs work cache hits e t l))
 
   last_sound : AllSound (to K).cache
   last_sound =
@@ -214,7 +213,7 @@ unfolding some
 some_one p = or-false (p 0)
 
 module _ (embeds : Strand → Strand → Bool) (catalog motifs : List ℕ) (work : ℕ) (cache hits : List ℕ)
-    (e : batch_verdict catalog cache motifs work (length hits) ≡ Accepted) (one : block_count motifs ≡ 1) where
+    (e : batch_verdict catalog cache motifs work (length hits) ≡ Ok tt) (one : block_count motifs ≡ 1) where
   abbrev only : Strand
   only = motif_of motifs 0
 
@@ -281,7 +280,7 @@ module _ (embeds : Strand → Strand → Bool) (catalog motifs : List ℕ) (work
       let searched = sym (searched_is embeds catalog motifs work cache hits e 0 there) ∙ ap searched_of (new.answers 0 there) in
       record {
         answer = same_answer ∙ new.answers 0 there;
-        read = new.read ∙ ap Molecules (read_one ∙ searched);
+        read = new.read ∙ ap Ok (read_one ∙ searched);
         cache_same =
             new.cache_is ∙ ap (λ (n : ℕ). (batch_to embeds catalog motifs work n (batch_state cache hits)).cache) one
             ∙ law.cache_next embeds catalog motifs work cache hits 0 ∙ same_cache;

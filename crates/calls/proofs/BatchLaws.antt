@@ -1,4 +1,5 @@
 -- Batch: one law for each place where its judge can return, what is known of a batch that passes, and its queries, one after the other.
+use Rattle.std.specs.Prelude.{Ok, Err}
 use Prim.Native.Nat.{ℕ, zero, suc, ◌+◌, ◌-◌, ◌*◌, ◌≤◌, ◌<◌}
 use native.Mathlib.Omega.{arith}
 use native.Mathlib.Decide.{ℕ_discrete}
@@ -16,11 +17,9 @@ use Rattle.strand.specs.Strands.{Strand}
 use Rattle.refusals.specs.Rules.{no_side, wrong_slice, work_too_short, refusal, refuse_if, work_size}
 use Rattle.refusals.proofs.RuleLaws.{first_one, first_skip, first_stop, first_pass, rule_yes, rule_no, rule_pass, by_accepted, by_refused}
 use Rattle.refusals.specs.declared.Refusal.{Refusal}
-use Rattle.refusals.specs.declared.Verdict.TheVariants.{Accepted, Refused}
 use Rattle.block.specs.Content.{padded}
 use Rattle.block.specs.Block.{block_of, block_count}
 use Rattle.calls.specs.declared.Batched.{Batched}
-use Rattle.calls.specs.declared.BatchRead.TheVariants.{Molecules}
 use Rattle.calls.specs.Buffers.{most_molecule_bases, buffers_verdict, slot_of, clean_cache, Usable}
 use Rattle.calls.specs.Calls.{query_verdict, QueryEffect, slot_in, to_search, query_accepted, Found, found_all}
 use Rattle.calls.specs.Motifs.{most_motifs, motif_of, motifs_verdict, UsableMotifs, longest_motif}
@@ -37,16 +36,16 @@ use Rattle.calls.proofs.MotifLaws.{motifs_usable, motif_proper, longest_least}
 -- Its rules
 
 module _ (catalog cache motifs : List ℕ) (work room : ℕ) where
-  pub batch_buffers_refused : (r : Refusal) → buffers_verdict catalog cache ≡ Refused r → Refused r ≡ batch_verdict catalog cache motifs work room
+  pub batch_buffers_refused : (r : Refusal) → buffers_verdict catalog cache ≡ Err r → Err r ≡ batch_verdict catalog cache motifs work room
   unfolding batch_verdict
   batch_buffers_refused r e = sym (first_stop _ _ r e)
 
-  module _ (buffers : buffers_verdict catalog cache ≡ Accepted) where
-    pub batch_motifs_refused : (r : Refusal) → motifs_verdict motifs ≡ Refused r → Refused r ≡ batch_verdict catalog cache motifs work room
+  module _ (buffers : buffers_verdict catalog cache ≡ Ok tt) where
+    pub batch_motifs_refused : (r : Refusal) → motifs_verdict motifs ≡ Err r → Err r ≡ batch_verdict catalog cache motifs work room
     unfolding batch_verdict
     batch_motifs_refused r e = sym (first_skip _ _ buffers ∙ first_stop _ _ r e)
 
-    module _ (usable : motifs_verdict motifs ≡ Accepted) where
+    module _ (usable : motifs_verdict motifs ≡ Ok tt) where
       pub batch_few_hits : room < block_count motifs * block_count catalog → refusal wrong_slice no_side 0 ≡ batch_verdict catalog cache motifs work room
       unfolding batch_verdict
       batch_few_hits h =
@@ -60,14 +59,14 @@ module _ (catalog cache motifs : List ℕ) (work room : ℕ) where
             sym (first_skip _ _ buffers ∙ first_skip _ _ usable ∙ first_skip _ _ (rule_no wrong_slice no_side _ (le-ltb room _ fits))
             ∙ first_one _ ∙ rule_yes work_too_short no_side _ (lt-ltb work _ h))
 
-        pub batch_passes : work_size (longest_motif motifs) most_molecule_bases ≤ work → Accepted ≡ batch_verdict catalog cache motifs work room
+        pub batch_passes : work_size (longest_motif motifs) most_molecule_bases ≤ work → Ok tt ≡ batch_verdict catalog cache motifs work room
         unfolding batch_verdict
         batch_passes h =
             sym (first_skip _ _ buffers ∙ first_skip _ _ usable ∙ first_skip _ _ (rule_no wrong_slice no_side _ (le-ltb room _ fits))
             ∙ first_one _ ∙ rule_no work_too_short no_side _ (le-ltb work _ h))
 
   -- What they let pass.
-  pub batch_facts : batch_verdict catalog cache motifs work room ≡ Accepted
+  pub batch_facts : batch_verdict catalog cache motifs work room ≡ Ok tt
       → Usable catalog cache × UsableMotifs motifs × (block_count motifs * block_count catalog ≤ room)
       × ((t : ℕ) → t < block_count motifs → work_size (length (motif_of motifs t).bases) most_molecule_bases ≤ work)
   unfolding batch_verdict
@@ -85,7 +84,7 @@ module _ (catalog cache motifs : List ℕ) (work room : ℕ) where
 
 -- A refused batch.
 pub batch_refused : (embeds : Strand → Strand → Bool) (catalog motifs : List ℕ) (work : ℕ) (cache hits : List ℕ) (r : Refusal)
-    → batch_verdict catalog cache motifs work (length hits) ≡ Refused r
+    → batch_verdict catalog cache motifs work (length hits) ≡ Err r
     → batch_outcome embeds catalog motifs work cache hits ≡ batched (not_batched r) cache hits
 unfolding batch_outcome
 batch_refused embeds catalog motifs work cache hits r e = by_refused (batch_verdict catalog cache motifs work (length hits)) _ _ r e
@@ -133,7 +132,7 @@ module _ (embeds : Strand → Strand → Bool) (catalog motifs : List ℕ) (work
   unfolding batch_to query_at
   hits_next t = refl
 
-  module _ (e : batch_verdict catalog cache motifs work (length hits) ≡ Accepted) where
+  module _ (e : batch_verdict catalog cache motifs work (length hits) ≡ Ok tt) where
     usable : Usable catalog cache
     usable = (batch_facts catalog cache motifs work (length hits) e).0
 
@@ -155,7 +154,7 @@ module _ (embeds : Strand → Strand → Bool) (catalog motifs : List ℕ) (work
     within t l h same = omega (arith, piece_within B t K l, (batch_facts catalog cache motifs work (length hits) e).2)
 
     accepted : (t : ℕ) → t < K → (c h : List ℕ) → length c ≡ length cache → length h ≡ length hits
-        → query_verdict catalog c (motif_of motifs t) work (length (piece B t h)) ≡ Accepted
+        → query_verdict catalog c (motif_of motifs t) work (length (piece B t h)) ≡ Ok tt
     accepted t l c h lc lh =
         let f = batch_facts catalog cache motifs work (length hits) e in
         let n = length_stretch (B * t) B h (within t l h lh) in
@@ -173,7 +172,7 @@ module _ (embeds : Strand → Strand → Bool) (catalog motifs : List ℕ) (work
     left_none = record { cache_size = refl; hits_size = refl; ahead = λ u h l. refl }
 
     module _ (t : ℕ) (l : t < K) (before : Left t) where
-      passes : query_verdict catalog (to t).cache (motif_of motifs t) work (length (piece B t (to t).hits)) ≡ Accepted
+      passes : query_verdict catalog (to t).cache (motif_of motifs t) work (length (piece B t (to t).hits)) ≡ Ok tt
       passes = accepted t l (to t).cache (to t).hits before.cache_size before.hits_size
 
       cache_kept : length (query t).cache ≡ length cache
@@ -212,7 +211,7 @@ module _ (embeds : Strand → Strand → Bool) (catalog motifs : List ℕ) (work
     handed t l = (left t (omega arith)).ahead t (omega arith) l
 
     pub query_accepted_at : (t : ℕ) → t < K
-        → query_verdict catalog (to t).cache (motif_of motifs t) work (length (piece B t (to t).hits)) ≡ Accepted
+        → query_verdict catalog (to t).cache (motif_of motifs t) work (length (piece B t (to t).hits)) ≡ Ok tt
     query_accepted_at t l = passes t l (left t (omega arith))
 
     -- Query t leaves a list of B entries, which later queries do not touch; nothing behind the entries of the last motif changes.
@@ -328,11 +327,11 @@ module _ (embeds : Strand → Strand → Bool) (catalog motifs : List ℕ) (work
     unfolding found_at
     found_at_lem t l = λ i. record { count = count_at t l i; hits = take (count_at t l i) (listed t l i); searched = searched_at_lem t l i }
 
-    result_is : (r : Batched) (h : List ℕ) (n : ℕ) → r.read ≡ Molecules n → batch_result B K r h ≡ found_all (tab K (found_at B r h)) n
+    result_is : (r : Batched) (h : List ℕ) (n : ℕ) → r.read ≡ Ok n → batch_result B K r h ≡ found_all (tab K (found_at B r h)) n
     unfolding batch_result batch_result_by
     result_is r h n q = rw q
 
-    read_is : (batch_answer embeds catalog motifs work begin).read ≡ Molecules (length (read_list embeds catalog motifs work begin))
+    read_is : (batch_answer embeds catalog motifs work begin).read ≡ Ok (length (read_list embeds catalog motifs work begin))
     unfolding batch_answer
     read_is = refl
 

@@ -1,4 +1,5 @@
 -- The rules of batch: where it is accepted, what it is refused for, at which place and in which order, and that a refused batch changes nothing.
+use Rattle.std.specs.Prelude.{Ok, Err}
 use Prim.Native.Nat.{ℕ, ◌-◌, ◌/◌, ◌<◌}
 use native.Mathlib.Omega.{arith}
 use mathlib.Core.Path.{◌≡◌, refl, sym, ◌∙◌}
@@ -10,12 +11,12 @@ use Rattle.lists.specs.Vocabulary.{lowest}
 use Rattle.lists.proofs.ListLaws.{lowest_all, lowest_found}
 use Rattle.strand.specs.Strands.{Strand}
 use Rattle.refusals.specs.Rules.{motif_side, no_side, bad_motifs, too_long, Keeps, RefusesBy, BatchNumbered, of_table, of_motifs, of_long, work_size}
+use Rattle.refusals.specs.Rules.{Verdict, wrong_slice}
 use Rattle.refusals.proofs.Refusing.{Numbering, NumberingBy, call_number, if_numbered, work_numbered, when_by, lowest_by, none_by, first_by, refuses_by}
 use Rattle.refusals.proofs.Refusing.{keeps_by}
 use Rattle.refusals.specs.declared.Refusal.{Refusal}
-use Rattle.refusals.specs.declared.Verdict.{Verdict}
 use Rattle.block.specs.Block.{block_count}
-use Rattle.calls.specs.declared.BatchRead.TheVariants.{Molecules, Refused as NotRead}
+use Rattle.calls.specs.Answers.{BatchRead}
 use Rattle.calls.specs.Buffers.{most_molecule_bases, is_whole}
 use Rattle.calls.specs.Motifs.{most_motifs, no_motif_at, long_motif_at, motifs_verdict, longest_motif}
 use Rattle.calls.specs.Batch.{batch_verdict, BatchEffect, not_batched, batch_answer, batch_outcome}
@@ -100,31 +101,31 @@ unfolding batch_verdict
 batch_numbered catalog cache motifs work room =
     first_by BatchNumbered _ _ (of_table_lem _ (buffers_numbered catalog cache))
     (first_by BatchNumbered _ _ (motifs_numbered motifs)
-    (first_by BatchNumbered _ _ (of_table_lem _ (if_numbered 9 no_side (call_number 9 0 (omega arith) (omega arith) (λ n. refl)) _))
+    (first_by BatchNumbered _ _ (of_table_lem _ (if_numbered wrong_slice no_side (call_number 9 0 (omega arith) (omega arith) (λ n. refl)) _))
     (first_by BatchNumbered _ _ (of_table_lem _ (work_numbered (longest_motif motifs) most_molecule_bases work)) (none_by BatchNumbered))))
 
 module _ (embeds : Strand → Strand → Bool) (catalog cache motifs : List ℕ) (work : ℕ) (hits : List ℕ) where
-  apart_batch : (n : ℕ) (r : Refusal) → Molecules n ≡ NotRead r → ⊥
-  apart_batch n r h = let z : ◌≡◌ {A = ℕ} 0 1 = cc in omega arith
+  apart_batch : (n : ℕ) (r : Refusal) → ◌≡◌ {A = BatchRead} (Ok n) (Err r) → ⊥
+  apart_batch n r h = cc
 
-  pub batch_refuses : RefusesBy BatchNumbered (batch_verdict catalog cache motifs work (length hits)) NotRead
+  pub batch_refuses : RefusesBy BatchNumbered (batch_verdict catalog cache motifs work (length hits)) Err
       (batch_outcome embeds catalog motifs work cache hits).answer.read
   unfolding batch_outcome not_batched batch_answer
   batch_refuses =
-      refuses_by (batch_verdict catalog cache motifs work (length hits)) _ _ (λ (a : BatchEffect). a.answer.read) NotRead (λ r. refl) (apart_batch _)
+      refuses_by (batch_verdict catalog cache motifs work (length hits)) _ _ (λ (a : BatchEffect). a.answer.read) Err (λ r. refl) (apart_batch _)
       (batch_numbered catalog cache motifs work (length hits)) (λ r s e. cc)
 
-  pub batch_keeps : Keeps NotRead (batch_outcome embeds catalog motifs work cache hits).answer.read cache hits
+  pub batch_keeps : Keeps Err (batch_outcome embeds catalog motifs work cache hits).answer.read cache hits
       (batch_outcome embeds catalog motifs work cache hits).cache (batch_outcome embeds catalog motifs work cache hits).hits
   unfolding batch_outcome not_batched batch_answer
   batch_keeps =
-      keeps_by (batch_verdict catalog cache motifs work (length hits)) _ _ (λ (a : BatchEffect). a.answer.read) NotRead (λ r. refl) (apart_batch _)
+      keeps_by (batch_verdict catalog cache motifs work (length hits)) _ _ (λ (a : BatchEffect). a.answer.read) Err (λ r. refl) (apart_batch _)
       (λ (a : BatchEffect). a.cache) (λ (a : BatchEffect). a.hits) cache hits (λ r. refl) (λ r. refl)
 
-  pub batch_no_numbers : Keeps NotRead (batch_outcome embeds catalog motifs work cache hits).answer.read (replicate most_motifs 0) (replicate most_motifs 0)
+  pub batch_no_numbers : Keeps Err (batch_outcome embeds catalog motifs work cache hits).answer.read (replicate most_motifs 0) (replicate most_motifs 0)
       (batch_outcome embeds catalog motifs work cache hits).answer.counts (batch_outcome embeds catalog motifs work cache hits).answer.searched
   unfolding batch_outcome not_batched batch_answer
   batch_no_numbers =
-      keeps_by (batch_verdict catalog cache motifs work (length hits)) _ _ (λ (a : BatchEffect). a.answer.read) NotRead (λ r. refl) (apart_batch _)
+      keeps_by (batch_verdict catalog cache motifs work (length hits)) _ _ (λ (a : BatchEffect). a.answer.read) Err (λ r. refl) (apart_batch _)
       (λ (a : BatchEffect). a.answer.counts) (λ (a : BatchEffect). a.answer.searched) (replicate most_motifs 0) (replicate most_motifs 0)
       (λ r. refl) (λ r. refl)

@@ -1,4 +1,5 @@
 -- Motifs of a batch in one slot of the cache: the later one finds the entry of the earlier one.
+use Rattle.std.specs.Prelude.{Ok}
 use Prim.Native.Nat.{ℕ, zero, suc, ◌≤◌, ◌<◌}
 use native.Mathlib.Omega.{arith}
 use native.Mathlib.Nat.{mod-lt}
@@ -9,7 +10,6 @@ use mathlib.Core.List.{List}
 use lib.ListN.{length}
 use Rattle.lists.specs.Vocabulary.{piece}
 use Rattle.strand.specs.Strands.{Strand, key, same_strand}
-use Rattle.refusals.specs.declared.Verdict.TheVariants.{Accepted}
 use Rattle.block.specs.Content.{encode_entry}
 use Rattle.block.specs.Block.{block_of, block_count}
 use Rattle.calls.specs.Buffers.{most_catalog_blocks, held, slot_of, clean_cache}
@@ -25,7 +25,7 @@ use Rattle.calls.proofs.MotifLaws.{motif_verdict_lem}
 use Rattle.calls.proofs.BatchLaws.{batch_facts, clean_to, cache_size, clean_count, query_accepted_at, clean_next, searches_is}
 
 module _ (embeds : Strand → Strand → Bool) (catalog motifs : List ℕ) (work : ℕ) (cache hits : List ℕ)
-    (e : batch_verdict catalog cache motifs work (length hits) ≡ Accepted) where
+    (e : batch_verdict catalog cache motifs work (length hits) ≡ Ok tt) where
   abbrev K : ℕ
   K = block_count motifs
 

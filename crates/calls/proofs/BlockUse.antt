@@ -1,5 +1,6 @@
 -- What the catalog and its histories take from crate block: laws of empty blocks, of encoded molecules and of cache entries,
 -- with the rules of a molecule or a motif in place of the facts that they give.
+use Rattle.std.specs.Prelude.{Ok}
 use Prim.Native.Nat.{ℕ, ◌<◌}
 use mathlib.Core.Path.{◌≡◌, sym, ◌∙◌, ap}
 use mathlib.Core.Bool.{Bool, true, false}
@@ -11,12 +12,11 @@ use Rattle.strand.proofs.VerdictLaws.{accepted_proper}
 use Rattle.block.specs.Content.{block_size, empty_block, is_empty, molecule_in, encode_molecule, encode_entry, motif_in, searched_in, hit_in, keeps_motif}
 use Rattle.block.specs.Block.{sound_molecule, sound_entry, cleaned, forgot}
 use Rattle.octets.specs.Octets.{without}
-use Rattle.refusals.specs.declared.Verdict.TheVariants.{Accepted}
 use Rattle.block.proofs.ContentLaws as law
 pub use Rattle.block.proofs.ContentLaws.{empty_length, empty_empty, empty_molecule, empty_entry, empty_forgot, entry_changed, molecule_first}
 use Rattle.calls.specs.Buffers.{most_molecule_bases, most_motif_bases, most_catalog_blocks, molecule_verdict, motif_verdict}
 
-module _ (q : Strand) (ok : molecule_verdict q ≡ Accepted) where
+module _ (q : Strand) (ok : molecule_verdict q ≡ Ok tt) where
   good : Proper molecule_side least_molecule most_molecule_bases q.bases q.mates
   unfolding molecule_verdict
   good = accepted_proper molecule_side least_molecule most_molecule_bases q.bases q.mates ok
@@ -33,7 +33,7 @@ module _ (q : Strand) (ok : molecule_verdict q ≡ Accepted) where
   pub molecule_full : is_empty (encode_molecule q) ≡ false
   molecule_full = law.molecule_full q good
 
-module _ (p : Strand) (ok : motif_verdict p ≡ Accepted) (searched hits : ℕ → Bool) where
+module _ (p : Strand) (ok : motif_verdict p ≡ Ok tt) (searched hits : ℕ → Bool) where
   good' : Proper motif_side least_motif most_motif_bases p.bases p.mates
   unfolding motif_verdict
   good' = accepted_proper motif_side least_motif most_motif_bases p.bases p.mates ok

@@ -1,4 +1,5 @@
 -- The claims about add, remove and query for all inputs and all contents of the buffers.
+use Rattle.std.specs.Prelude.{Ok, Err}
 use Prim.Native.Nat.{ℕ, ◌+◌, ◌*◌, ◌/◌, ◌%◌, ◌<◌}
 use native.Mathlib.Omega.{arith}
 use native.Mathlib.Nat.{mod-lt, zero-mod}
@@ -25,12 +26,8 @@ use Rattle.octets.proofs.BitLaws.{zero_bit}
 use Rattle.block.specs.Block.{block_of, sound_molecule, sound_entry, cleaned, forgot, block_count, each_block, put_block}
 use Rattle.buffer.proofs.BlockLaws.{length_block, length_put, block_put, block_other}
 use Rattle.block.proofs.ContentLaws as law
-use Rattle.refusals.specs.declared.Verdict.TheVariants.{Accepted, Refused}
 use Rattle.refusals.specs.declared.Refusal.{Refusal}
 use Rattle.refusals.proofs.RuleLaws.{first_without, by_accepted, by_refused}
-use Rattle.calls.specs.declared.Added.TheVariants.{Refused as NotAdded}
-use Rattle.calls.specs.declared.Removed.TheVariants.{Refused as NotRemoved}
-use Rattle.calls.specs.declared.Queried.TheVariants.{Refused as NotQueried}
 use Rattle.calls.specs.Buffers.{most_catalog_blocks, most_molecule_bases, most_motif_bases, motif_verdict, work_verdict, buffers_verdict, held, molecule_at}
 use Rattle.calls.specs.Buffers.{slot_of, clean_cache, Usable}
 use Rattle.calls.specs.Calls.{effect, add_verdict, add_outcome, remove_verdict, remove_outcome, queried, query_verdict, is_known, to_search, is_hit}
@@ -78,7 +75,7 @@ module _ (cache : List ℕ) (n : ℕ) (len : length cache ≡ block_size * n) wh
 
 -- Add
 
-module _ (catalog cache : List ℕ) (d : ℕ) (q : Strand) (e : add_verdict catalog cache d q ≡ Accepted) where
+module _ (catalog cache : List ℕ) (d : ℕ) (q : Strand) (e : add_verdict catalog cache d q ≡ Ok tt) where
   pub add_accepted : AddLeaves catalog cache d q (add_outcome catalog cache d q)
   unfolding add_outcome
   add_accepted =
@@ -156,7 +153,7 @@ clean_bytes b l h =
     (λ (e : sound_entry b ≡ false). rw (leaf.unsound_clean b l e) zero_bytes)
     (by_bool (sound_entry b))
 
-module _ (catalog cache : List ℕ) (d : ℕ) (e : remove_verdict catalog cache d ≡ Accepted) where
+module _ (catalog cache : List ℕ) (d : ℕ) (e : remove_verdict catalog cache d ≡ Ok tt) where
   -- every block of the cleaned cache, after the number is taken out
   remove_each : (P : List ℕ → Type 0) → ((b : List ℕ) → sound_entry b ≡ true → Bytes b → d < most_catalog_blocks → P (forgot d b)) → Bytes cache → (s : ℕ)
       → s < block_count (each_block (forgot d) (clean_cache cache)) → P (block_of s (each_block (forgot d) (clean_cache cache)))
@@ -227,7 +224,7 @@ module _ (embeds : Strand → Strand → Bool) where
   unfolding to_search is_known
   same_motif catalog entry p d e h = (hit_known catalog entry p d (unfold is_known in (rw (e, h))), rw (e, h) (and-false (held catalog d)))
 
-  module _ (catalog cache : List ℕ) (p : Strand) (work : ℕ) (hits : List ℕ) (e : query_verdict catalog cache p work (length hits) ≡ Accepted) where
+  module _ (catalog cache : List ℕ) (p : Strand) (work : ℕ) (hits : List ℕ) (e : query_verdict catalog cache p work (length hits) ≡ Ok tt) where
     abbrev hit : ℕ → Bool
     hit = is_hit embeds catalog (entry_for cache p) p
 
@@ -282,24 +279,24 @@ module _ (embeds : Strand → Strand → Bool) where
 
 -- Refused calls
 
-pub add_refused : (catalog cache : List ℕ) (d : ℕ) (q : Strand) (r : Refusal) → add_verdict catalog cache d q ≡ Refused r
-    → add_outcome catalog cache d q ≡ effect (NotAdded r) catalog cache
+pub add_refused : (catalog cache : List ℕ) (d : ℕ) (q : Strand) (r : Refusal) → add_verdict catalog cache d q ≡ Err r
+    → add_outcome catalog cache d q ≡ effect (Err r) catalog cache
 unfolding add_outcome
 add_refused catalog cache d q r e = by_refused (add_verdict catalog cache d q) _ _ r e
 
-pub remove_refused : (catalog cache : List ℕ) (d : ℕ) (r : Refusal) → remove_verdict catalog cache d ≡ Refused r
-    → remove_outcome catalog cache d ≡ effect (NotRemoved r) catalog cache
+pub remove_refused : (catalog cache : List ℕ) (d : ℕ) (r : Refusal) → remove_verdict catalog cache d ≡ Err r
+    → remove_outcome catalog cache d ≡ effect (Err r) catalog cache
 unfolding remove_outcome
 remove_refused catalog cache d r e = by_refused (remove_verdict catalog cache d) _ _ r e
 
 pub query_refused : (embeds : Strand → Strand → Bool) (catalog cache : List ℕ) (p : Strand) (work : ℕ) (hits : List ℕ) (r : Refusal)
-    → query_verdict catalog cache p work (length hits) ≡ Refused r → query_outcome embeds catalog cache p work hits ≡ queried (NotQueried r) cache hits
+    → query_verdict catalog cache p work (length hits) ≡ Err r → query_outcome embeds catalog cache p work hits ≡ queried (Err r) cache hits
 unfolding query_outcome
 query_refused embeds catalog cache p work hits r e = by_refused (query_verdict catalog cache p work (length hits)) _ _ r e
 
 -- What an accepted query comes to.
 pub query_found : (embeds : Strand → Strand → Bool) (catalog cache : List ℕ) (p : Strand) (work : ℕ) (hits : List ℕ)
-    → query_verdict catalog cache p work (length hits) ≡ Accepted
+    → query_verdict catalog cache p work (length hits) ≡ Ok tt
     → query_result (query_outcome embeds catalog cache p work hits).answer (query_outcome embeds catalog cache p work hits).hits
     ≡ found
     (length (select (block_count catalog) (is_hit embeds catalog (entry_for cache p) p)))

@@ -1,4 +1,5 @@
 -- What is known of a call that its rules let pass.
+use Rattle.std.specs.Prelude.{Ok}
 use mathlib.Core.Path.{◌≡◌, refl}
 use mathlib.Core.Bool.{true, false, not, ◌&&◌}
 use mathlib.Core.List.{List, []}
@@ -16,7 +17,6 @@ use Rattle.refusals.proofs.RuleLaws.{first_pass, rule_pass, rule_at_pass}
 use Rattle.strand.proofs.VerdictLaws.{accepted_proper}
 use Rattle.block.specs.Content.{block_size, is_empty, molecule_in}
 use Rattle.block.specs.Block.{sound_molecule, block_of, block_count}
-use Rattle.refusals.specs.declared.Verdict.TheVariants.{Accepted}
 use Rattle.calls.specs.Buffers.{most_catalog_blocks, most_cache_blocks, most_molecule_bases, most_motif_bases, molecule_verdict, motif_verdict, work_verdict}
 use Rattle.calls.specs.Buffers.{is_whole, are_whole, unsound_at, held, molecule_at, buffers_verdict, Usable}
 use Rattle.calls.specs.Calls.{add_verdict, remove_verdict, query_verdict}
@@ -34,7 +34,7 @@ unfolding unsound_at
 sound_block cat d e = not_not _ e
 
 -- Buffers that rules 10 and 11 let pass.
-pub sized : (cat cache : List ℕ) → buffers_verdict cat cache ≡ Accepted → Usable cat cache
+pub sized : (cat cache : List ℕ) → buffers_verdict cat cache ≡ Ok tt → Usable cat cache
 unfolding buffers_verdict are_whole
 sized cat cache e =
     let a = first_pass (refuse_if not_whole_blocks no_side (not (is_whole most_catalog_blocks cat && is_whole most_cache_blocks cache))) _ e in
@@ -61,7 +61,7 @@ unfolding molecule_at
 molecule_at_lem cat d = refl
 
 module _ (cat cache : List ℕ) (d : ℕ) where
-  pub add_facts : (q : Strand) → add_verdict cat cache d q ≡ Accepted
+  pub add_facts : (q : Strand) → add_verdict cat cache d q ≡ Ok tt
       → (d < block_count cat) × Proper molecule_side least_molecule most_molecule_bases q.bases q.mates × Usable cat cache × (held cat d ≡ false)
   unfolding add_verdict molecule_verdict
   add_facts q e =
@@ -75,7 +75,7 @@ module _ (cat cache : List ℕ) (d : ℕ) where
         rule_pass already_held no_side _ c.0,
       )
 
-  pub remove_facts : remove_verdict cat cache d ≡ Accepted → (d < block_count cat) × Usable cat cache × (held cat d ≡ true)
+  pub remove_facts : remove_verdict cat cache d ≡ Ok tt → (d < block_count cat) × Usable cat cache × (held cat d ≡ true)
   unfolding remove_verdict
   remove_facts e =
       let a = first_pass (buffers_verdict cat cache) _ e in
@@ -83,7 +83,7 @@ module _ (cat cache : List ℕ) (d : ℕ) where
       let c = first_pass (refuse_if not_held no_side (not (held cat d))) [] b.1 in
       (leb-false _ d (rule_pass number_too_large no_side _ b.0), sized cat cache a.0, not_not _ (rule_pass not_held no_side _ c.0))
 
-pub query_facts : (cat cache : List ℕ) (p : Strand) (work room : ℕ) → query_verdict cat cache p work room ≡ Accepted
+pub query_facts : (cat cache : List ℕ) (p : Strand) (work room : ℕ) → query_verdict cat cache p work room ≡ Ok tt
     → Usable cat cache × Proper motif_side least_motif most_motif_bases p.bases p.mates × (work_size (length p.bases) most_molecule_bases ≤ work)
     × (block_count cat ≤ room)
 unfolding query_verdict motif_verdict work_verdict

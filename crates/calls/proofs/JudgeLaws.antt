@@ -1,4 +1,5 @@
 -- The rules of each call, one after the other: one law for each place where a judge can return.
+use Rattle.std.specs.Prelude.{Ok, Err}
 use mathlib.Core.Path.{◌≡◌, sym, ap, ◌∙◌}
 use mathlib.Core.Bool.{Bool, true, false, not}
 use mathlib.Core.List.{List}
@@ -14,7 +15,6 @@ use Rattle.refusals.proofs.RuleLaws.{first_one, first_skip, first_stop, rule_yes
 use Rattle.block.specs.Content.{block_size}
 use Rattle.block.specs.Block.{sound_molecule, block_of, block_count}
 use Rattle.refusals.specs.declared.Refusal.{Refusal}
-use Rattle.refusals.specs.declared.Verdict.TheVariants.{Accepted, Refused}
 use Rattle.calls.specs.Buffers.{most_catalog_blocks, most_cache_blocks, most_molecule_bases, most_motif_bases, molecule_verdict, motif_verdict, work_verdict}
 use Rattle.calls.specs.Buffers.{is_whole, are_whole, unsound_at, held, buffers_verdict}
 use Rattle.calls.specs.Calls.{add_verdict, remove_verdict, query_verdict}
@@ -54,7 +54,7 @@ module _ (catalog cache : List ℕ) where
     cache_not_whole h = buffers_not_whole (unfold are_whole in (rw (whole, h)))
 
     module _ (whole' : is_whole most_cache_blocks cache ≡ true) (u : ℕ) (is : u ≡ lowest (block_count catalog) (unsound_at catalog)) where
-      passes : refuse_if not_whole_blocks no_side (not (are_whole catalog cache)) ≡ Accepted
+      passes : refuse_if not_whole_blocks no_side (not (are_whole catalog cache)) ≡ Ok tt
       passes =
           let both : are_whole catalog cache ≡ true = unfold are_whole in (rw (whole, whole')) in
           rule_no not_whole_blocks no_side (not (are_whole catalog cache)) (ap not both)
@@ -64,7 +64,7 @@ module _ (catalog cache : List ℕ) where
       block_unsound h =
           sym (first_skip _ _ passes ∙ first_one _ ∙ rule_at_yes unsound_block no_side (block_count catalog) (unsound_at catalog) u is h)
 
-      pub buffers_pass : block_count catalog ≤ u → Accepted ≡ buffers_verdict catalog cache
+      pub buffers_pass : block_count catalog ≤ u → Ok tt ≡ buffers_verdict catalog cache
       unfolding buffers_verdict
       buffers_pass h =
           sym (first_skip _ _ passes ∙ first_one _ ∙ rule_at_no unsound_block no_side (block_count catalog) (unsound_at catalog) u is h)
@@ -85,11 +85,11 @@ module _ (catalog : List ℕ) (d : ℕ) where
 -- Add
 
 module _ (catalog cache : List ℕ) (d : ℕ) (q : Strand) where
-  pub add_buffers_refused : (r : Refusal) → buffers_verdict catalog cache ≡ Refused r → Refused r ≡ add_verdict catalog cache d q
+  pub add_buffers_refused : (r : Refusal) → buffers_verdict catalog cache ≡ Err r → Err r ≡ add_verdict catalog cache d q
   unfolding add_verdict
   add_buffers_refused r e = sym (first_stop _ _ r e)
 
-  module _ (buffers : buffers_verdict catalog cache ≡ Accepted) where
+  module _ (buffers : buffers_verdict catalog cache ≡ Ok tt) where
     pub add_number_large : block_count catalog ≤ d → refusal number_too_large no_side 0 ≡ add_verdict catalog cache d q
     unfolding add_verdict
     add_number_large h = sym (first_skip _ _ buffers ∙ first_stop _ _ _ (rule_yes number_too_large no_side _ (le-leb (block_count catalog) d h)))
@@ -111,11 +111,11 @@ module _ (catalog cache : List ℕ) (d : ℕ) (q : Strand) where
 -- Remove
 
 module _ (catalog cache : List ℕ) (d : ℕ) where
-  pub remove_buffers_refused : (r : Refusal) → buffers_verdict catalog cache ≡ Refused r → Refused r ≡ remove_verdict catalog cache d
+  pub remove_buffers_refused : (r : Refusal) → buffers_verdict catalog cache ≡ Err r → Err r ≡ remove_verdict catalog cache d
   unfolding remove_verdict
   remove_buffers_refused r e = sym (first_stop _ _ r e)
 
-  module _ (buffers : buffers_verdict catalog cache ≡ Accepted) where
+  module _ (buffers : buffers_verdict catalog cache ≡ Ok tt) where
     pub remove_number_large : block_count catalog ≤ d → refusal number_too_large no_side 0 ≡ remove_verdict catalog cache d
     unfolding remove_verdict
     remove_number_large h = sym (first_skip _ _ buffers ∙ first_stop _ _ _ (rule_yes number_too_large no_side _ (le-leb (block_count catalog) d h)))
@@ -127,7 +127,7 @@ module _ (catalog cache : List ℕ) (d : ℕ) where
           sym (first_skip _ _ buffers ∙ first_skip _ _ (rule_no number_too_large no_side _ (lt-leb (block_count catalog) d below))
           ∙ first_one _ ∙ rule_yes not_held no_side _ (ap not h))
 
-      pub remove_passes : held catalog d ≡ true → Accepted ≡ remove_verdict catalog cache d
+      pub remove_passes : held catalog d ≡ true → Ok tt ≡ remove_verdict catalog cache d
       unfolding remove_verdict
       remove_passes h =
           sym (first_skip _ _ buffers ∙ first_skip _ _ (rule_no number_too_large no_side _ (lt-leb (block_count catalog) d below))
@@ -136,17 +136,17 @@ module _ (catalog cache : List ℕ) (d : ℕ) where
 -- Query
 
 module _ (catalog cache : List ℕ) (p : Strand) (work room : ℕ) where
-  pub query_buffers_refused : (r : Refusal) → buffers_verdict catalog cache ≡ Refused r → Refused r ≡ query_verdict catalog cache p work room
+  pub query_buffers_refused : (r : Refusal) → buffers_verdict catalog cache ≡ Err r → Err r ≡ query_verdict catalog cache p work room
   unfolding query_verdict
   query_buffers_refused r e = sym (first_stop _ _ r e)
 
-  module _ (buffers : buffers_verdict catalog cache ≡ Accepted) where
-    pub query_motif_refused : (r : Refusal) → strand_verdict motif_side least_motif most_motif_bases p.bases p.mates ≡ Refused r
-        → Refused r ≡ query_verdict catalog cache p work room
+  module _ (buffers : buffers_verdict catalog cache ≡ Ok tt) where
+    pub query_motif_refused : (r : Refusal) → strand_verdict motif_side least_motif most_motif_bases p.bases p.mates ≡ Err r
+        → Err r ≡ query_verdict catalog cache p work room
     unfolding query_verdict motif_verdict
     query_motif_refused r e = sym (first_skip _ _ buffers ∙ first_stop _ _ r e)
 
-    module _ (motif : strand_verdict motif_side least_motif most_motif_bases p.bases p.mates ≡ Accepted) where
+    module _ (motif : strand_verdict motif_side least_motif most_motif_bases p.bases p.mates ≡ Ok tt) where
       pub query_few_hits : room < block_count catalog → refusal wrong_slice no_side 0 ≡ query_verdict catalog cache p work room
       unfolding query_verdict motif_verdict
       query_few_hits h =
@@ -160,7 +160,7 @@ module _ (catalog cache : List ℕ) (p : Strand) (work room : ℕ) where
             sym (first_skip _ _ buffers ∙ first_skip _ _ motif ∙ first_skip _ _ (rule_no wrong_slice no_side _ (le-ltb room (block_count catalog) fits))
             ∙ first_one _ ∙ rule_yes work_too_short no_side _ (lt-ltb work _ h))
 
-        pub query_passes : work_size (length p.bases) most_molecule_bases ≤ work → Accepted ≡ query_verdict catalog cache p work room
+        pub query_passes : work_size (length p.bases) most_molecule_bases ≤ work → Ok tt ≡ query_verdict catalog cache p work room
         unfolding query_verdict motif_verdict work_verdict
         query_passes h =
             sym (first_skip _ _ buffers ∙ first_skip _ _ motif ∙ first_skip _ _ (rule_no wrong_slice no_side _ (le-ltb room (block_count catalog) fits))

@@ -1,4 +1,5 @@
 -- The motif buffer of a batch: one law for each place where its judge can return, what is known of a buffer that passes, and the longest of its motifs.
+use Rattle.std.specs.Prelude.{Ok}
 use Prim.Native.Nat.{ℕ, zero, suc, ◌+◌, ◌≤◌, ◌<◌, max}
 use native.Mathlib.Omega.{arith}
 use native.Mathlib.Decide.{ℕ_discrete}
@@ -14,7 +15,6 @@ use Rattle.strand.specs.Strands.{Proper, least_motif}
 use Rattle.strand.proofs.VerdictLaws.{proper_accepted}
 use Rattle.refusals.specs.Rules.{motif_side, bad_motifs, too_long, refusal, refuse_if, refuse_at_lowest}
 use Rattle.refusals.proofs.RuleLaws.{first_one, first_skip, first_stop, first_pass, rule_yes, rule_no, rule_pass, rule_at_yes, rule_at_no, rule_at_pass}
-use Rattle.refusals.specs.declared.Verdict.TheVariants.{Accepted}
 use Rattle.block.specs.Block.{block_of, block_count}
 use Rattle.block.specs.Motif.{motif_handed_in, holds_motif}
 use Rattle.block.proofs.ContentLaws.{motif_proper as handed_proper, held_sound}
@@ -47,7 +47,7 @@ module _ (motifs : List ℕ) where
   motifs_not_whole h = sym (first_stop _ _ _ (rule_yes bad_motifs motif_side (not (is_whole most_motifs motifs)) (ap not h)))
 
   module _ (whole : is_whole most_motifs motifs ≡ true) (u : ℕ) (is : u ≡ lowest (block_count motifs) (no_motif_at motifs)) where
-    size_passes : refuse_if bad_motifs motif_side (not (is_whole most_motifs motifs)) ≡ Accepted
+    size_passes : refuse_if bad_motifs motif_side (not (is_whole most_motifs motifs)) ≡ Ok tt
     size_passes = rule_no bad_motifs motif_side (not (is_whole most_motifs motifs)) (ap not whole)
 
     pub no_motif : u < block_count motifs → refusal bad_motifs motif_side u ≡ motifs_verdict motifs
@@ -56,7 +56,7 @@ module _ (motifs : List ℕ) where
         sym (first_skip _ _ size_passes ∙ first_stop _ _ _ (rule_at_yes bad_motifs motif_side (block_count motifs) (no_motif_at motifs) u is h))
 
     module _ (all : block_count motifs ≤ u) (v : ℕ) (is' : v ≡ lowest (block_count motifs) (long_motif_at motifs)) where
-      blocks_pass : refuse_at_lowest bad_motifs motif_side (block_count motifs) (no_motif_at motifs) ≡ Accepted
+      blocks_pass : refuse_at_lowest bad_motifs motif_side (block_count motifs) (no_motif_at motifs) ≡ Ok tt
       blocks_pass = rule_at_no bad_motifs motif_side (block_count motifs) (no_motif_at motifs) u is all
 
       pub long_motif_lem : v < block_count motifs → refusal too_long motif_side v ≡ motifs_verdict motifs
@@ -65,7 +65,7 @@ module _ (motifs : List ℕ) where
           sym (first_skip _ _ size_passes ∙ first_skip _ _ blocks_pass ∙ first_one _
           ∙ rule_at_yes too_long motif_side (block_count motifs) (long_motif_at motifs) v is' h)
 
-      pub motifs_pass : block_count motifs ≤ v → Accepted ≡ motifs_verdict motifs
+      pub motifs_pass : block_count motifs ≤ v → Ok tt ≡ motifs_verdict motifs
       unfolding motifs_verdict
       motifs_pass h =
           sym (first_skip _ _ size_passes ∙ first_skip _ _ blocks_pass ∙ first_one _
@@ -82,7 +82,7 @@ module _ (motifs : List ℕ) where
   unfolding long_motif_at
   not_long t e = ltb-false most_motif_bases _ e
 
-  pub motifs_usable : motifs_verdict motifs ≡ Accepted → UsableMotifs motifs
+  pub motifs_usable : motifs_verdict motifs ≡ Ok tt → UsableMotifs motifs
   unfolding motifs_verdict
   motifs_usable e =
       let a = first_pass (refuse_if bad_motifs motif_side (not (is_whole most_motifs motifs))) _ e in
@@ -103,7 +103,7 @@ module _ (motifs : List ℕ) where
         whole_is most_motifs (block_count motifs) motifs ok.filled
         ∙ rw (le-leb 1 (block_count motifs) ok.least, le-leb (block_count motifs) most_motifs ok.most)
 
-    pub usable_motifs : motifs_verdict motifs ≡ Accepted
+    pub usable_motifs : motifs_verdict motifs ≡ Ok tt
     usable_motifs =
         let all = lowest_all (no_motif_at motifs) (block_count motifs) (λ t l. no_motif_is motifs t refl (ok.each t l)) in
         let short = lowest_all (long_motif_at motifs) (block_count motifs) (λ t l. short_at motifs t (ok.short t l)) in
@@ -118,7 +118,7 @@ module _ (motifs : List ℕ) where
         let p = handed_proper (block_of t motifs) a.0 a.1 in
         record { same = p.same; enough = p.enough; small = unfold motif_of in (ok.short t l); letters = p.letters; nested = p.nested }
 
-    pub motif_verdict_lem : (t : ℕ) → t < block_count motifs → motif_verdict (motif_of motifs t) ≡ Accepted
+    pub motif_verdict_lem : (t : ℕ) → t < block_count motifs → motif_verdict (motif_of motifs t) ≡ Ok tt
     unfolding motif_verdict
     motif_verdict_lem t l = proper_accepted motif_side least_motif most_motif_bases (motif_of motifs t).bases (motif_of motifs t).mates (motif_proper t l)
 

@@ -1,4 +1,5 @@
 -- What the calls read of catalog and cache after a block of the catalog is written, and after each block of the cache is cleaned.
+use Rattle.std.specs.Prelude.{Ok}
 use Prim.Native.Nat.{ℕ, ◌+◌, ◌*◌, ◌-◌, ◌/◌, ◌%◌, ◌<◌, ◌≤◌}
 use native.Mathlib.Omega.{arith}
 use native.Mathlib.Decide.{ℕ_discrete, dec_lt}
@@ -14,12 +15,13 @@ use Rattle.lists.specs.Vocabulary.{nth, choose}
 use Rattle.lists.proofs.Stretches.{nth_stretch}
 use Rattle.refusals.specs.Rules.{refuse_at_lowest}
 use Rattle.lists.proofs.ListLaws.{by_bool, lowest_all, choose_yes, choose_no}
+use Rattle.refusals.specs.declared.Rule.{Rule}
+use Rattle.refusals.specs.declared.Side.{Side}
 use Rattle.refusals.proofs.RuleLaws.{rule_at_no}
 use Rattle.block.specs.Content.{block_size, empty_block}
 use Rattle.block.specs.Block.{block_of, sound_entry, cleaned, forgot, block_count, each_block, put_block}
 use Rattle.block.proofs.ContentLaws.{length_cleaned, length_forgot}
 use Rattle.buffer.proofs.BlockLaws.{block_each, length_each, length_put, block_put, block_other}
-use Rattle.refusals.specs.declared.Verdict.TheVariants.{Accepted}
 use Rattle.calls.specs.Buffers.{is_whole, clean_cache}
 use Rattle.calls.specs.Statements.{AllSound}
 use Rattle.calls.proofs.BlockUse as leaf
@@ -43,8 +45,8 @@ not_whole most buf h = rw (ne_eqb (length buf % block_size) 0 h)
 
 -- A rule that names a place, where none is
 
-pub no_place : (number side n : ℕ) (p : ℕ → Bool) → ((d : ℕ) → d < n → p d ≡ false) → refuse_at_lowest number side n p ≡ Accepted
-no_place number side n p h = rule_at_no number side n p n (sym (lowest_all p n h)) (omega arith)
+pub no_place : (rule : Rule) (side : Side) (n : ℕ) (p : ℕ → Bool) → ((d : ℕ) → d < n → p d ≡ false) → refuse_at_lowest rule side n p ≡ Ok tt
+no_place rule side n p h = rule_at_no rule side n p n (sym (lowest_all p n h)) (omega arith)
 
 -- One block of the catalog written
 

@@ -1,4 +1,5 @@
 -- Add, remove and query tell a refusal of the table exactly where their rules refuse, and change nothing there.
+use Rattle.std.specs.Prelude.{Ok, Err}
 use Prim.Native.Nat.{ℕ}
 use native.Mathlib.Omega.{arith}
 use mathlib.Core.Path.{◌≡◌, refl}
@@ -7,16 +8,13 @@ use mathlib.Core.List.{List}
 use lib.ListN.{length}
 use Rattle.strand.specs.Folds.{fold_of}
 use Rattle.strand.specs.Strands.{Strand, least_motif, least_molecule}
-use Rattle.refusals.specs.Rules.{motif_side, molecule_side, no_side, refuse_if, Refuses, Keeps}
+use Rattle.refusals.specs.Rules.{motif_side, molecule_side, no_side, wrong_slice, not_whole_blocks, unsound_block, number_too_large, already_held, not_held}
+use Rattle.refusals.specs.Rules.{refuse_if, Refuses, Keeps}
 use Rattle.refusals.proofs.Refusing.{Numbering, call_number, if_numbered, lowest_numbered, none_numbered, first_numbered, work_numbered, refuses_by}
 use Rattle.refusals.proofs.Refusing.{keeps_by}
 use Rattle.refusals.specs.declared.Refusal.{Refusal}
 use Rattle.strand.proofs.VerdictLaws.{strand_numbered}
-use Rattle.calls.specs.declared.Added.{Added}
-use Rattle.calls.specs.declared.Added.TheVariants.{Stored, Refused as NotAdded}
-use Rattle.calls.specs.declared.Removed.{Removed}
-use Rattle.calls.specs.declared.Removed.TheVariants.{Cleared, Refused as NotRemoved}
-use Rattle.calls.specs.declared.Queried.TheVariants.{Hits, Refused as NotQueried}
+use Rattle.calls.specs.Answers.{Added, Removed, Queried, hits_of}
 use Rattle.calls.specs.Buffers.{most_molecule_bases, most_motif_bases, molecule_verdict, motif_verdict, work_verdict, buffers_verdict}
 use Rattle.calls.specs.Calls.{Effect, add_verdict, add_outcome, remove_verdict, remove_outcome, QueryEffect, query_verdict, query_accepted}
 use Rattle.calls.specs.Calls.{query_outcome}
@@ -26,8 +24,9 @@ use Rattle.calls.specs.Calls.{query_outcome}
 pub buffers_numbered : (catalog cache : List ℕ) → Numbering (buffers_verdict catalog cache)
 unfolding buffers_verdict
 buffers_numbered catalog cache =
-    first_numbered _ _ (if_numbered 10 no_side (call_number 10 0 (omega arith) (omega arith) (λ n. refl)) _)
-    (first_numbered _ _ (lowest_numbered 11 no_side (λ place. call_number 11 place (omega arith) (omega arith) (λ n. absurd (n refl))) _ _) none_numbered)
+    first_numbered _ _ (if_numbered not_whole_blocks no_side (call_number 10 0 (omega arith) (omega arith) (λ n. refl)) _)
+    (first_numbered _ _ (lowest_numbered unsound_block no_side (λ place. call_number 11 place (omega arith) (omega arith) (λ n. absurd (n refl))) _ _)
+    none_numbered)
 
 molecule_numbered : (q : Strand) → Numbering (molecule_verdict q)
 unfolding molecule_verdict
@@ -37,15 +36,15 @@ motif_numbered : (p : Strand) → Numbering (motif_verdict p)
 unfolding motif_verdict
 motif_numbered p = strand_numbered motif_side (omega arith) least_motif most_motif_bases p.bases p.mates (λ h. absurd (omega arith))
 
-number_numbered : (b : Bool) → Numbering (refuse_if 12 no_side b)
-number_numbered b = if_numbered 12 no_side (call_number 12 0 (omega arith) (omega arith) (λ n. refl)) b
+number_numbered : (b : Bool) → Numbering (refuse_if number_too_large no_side b)
+number_numbered b = if_numbered number_too_large no_side (call_number 12 0 (omega arith) (omega arith) (λ n. refl)) b
 
 add_numbered : (catalog cache : List ℕ) (d : ℕ) (q : Strand) → Numbering (add_verdict catalog cache d q)
 unfolding add_verdict
 add_numbered catalog cache d q =
     first_numbered _ _ (buffers_numbered catalog cache)
     (first_numbered _ _ (number_numbered _)
-    (first_numbered _ _ (if_numbered 13 no_side (call_number 13 0 (omega arith) (omega arith) (λ n. refl)) _)
+    (first_numbered _ _ (if_numbered already_held no_side (call_number 13 0 (omega arith) (omega arith) (λ n. refl)) _)
     (first_numbered _ _ (molecule_numbered q) none_numbered)))
 
 remove_numbered : (catalog cache : List ℕ) (d : ℕ) → Numbering (remove_verdict catalog cache d)
@@ -53,65 +52,65 @@ unfolding remove_verdict
 remove_numbered catalog cache d =
     first_numbered _ _ (buffers_numbered catalog cache)
     (first_numbered _ _ (number_numbered _)
-    (first_numbered _ _ (if_numbered 14 no_side (call_number 14 0 (omega arith) (omega arith) (λ n. refl)) _) none_numbered))
+    (first_numbered _ _ (if_numbered not_held no_side (call_number 14 0 (omega arith) (omega arith) (λ n. refl)) _) none_numbered))
 
 query_numbered : (catalog cache : List ℕ) (p : Strand) (work room : ℕ) → Numbering (query_verdict catalog cache p work room)
 unfolding query_verdict work_verdict
 query_numbered catalog cache p work room =
     first_numbered _ _ (buffers_numbered catalog cache)
     (first_numbered _ _ (motif_numbered p)
-    (first_numbered _ _ (if_numbered 9 no_side (call_number 9 0 (omega arith) (omega arith) (λ n. refl)) _)
+    (first_numbered _ _ (if_numbered wrong_slice no_side (call_number 9 0 (omega arith) (omega arith) (λ n. refl)) _)
     (first_numbered _ _ (work_numbered (length p.bases) most_molecule_bases work) none_numbered)))
 
 -- ---- the calls
 
 module _ (catalog cache : List ℕ) (d : ℕ) (q : Strand) where
-  apart_add : (r : Refusal) → Stored (fold_of q.mates) ≡ NotAdded r → ⊥
-  apart_add r h = let z : ◌≡◌ {A = ℕ} 0 1 = cc in omega arith
+  apart_add : (r : Refusal) → ◌≡◌ {A = Added} (Ok (fold_of q.mates)) (Err r) → ⊥
+  apart_add r h = cc
 
-  pub add_refuses : Refuses (add_verdict catalog cache d q) NotAdded (add_outcome catalog cache d q).answer
+  pub add_refuses : Refuses (add_verdict catalog cache d q) Err (add_outcome catalog cache d q).answer
   unfolding add_outcome
   add_refuses =
-      refuses_by (add_verdict catalog cache d q) _ _ (λ (a : Effect Added). a.answer) NotAdded (λ r. refl) apart_add
+      refuses_by (add_verdict catalog cache d q) _ _ (λ (a : Effect Added). a.answer) Err (λ r. refl) apart_add
       (add_numbered catalog cache d q) (λ r s e. cc)
 
-  pub add_keeps : Keeps NotAdded (add_outcome catalog cache d q).answer catalog cache
+  pub add_keeps : Keeps Err (add_outcome catalog cache d q).answer catalog cache
       (add_outcome catalog cache d q).catalog (add_outcome catalog cache d q).cache
   unfolding add_outcome
   add_keeps =
-      keeps_by (add_verdict catalog cache d q) _ _ (λ (a : Effect Added). a.answer) NotAdded (λ r. refl) apart_add
+      keeps_by (add_verdict catalog cache d q) _ _ (λ (a : Effect Added). a.answer) Err (λ r. refl) apart_add
       (λ (a : Effect Added). a.catalog) (λ (a : Effect Added). a.cache) catalog cache (λ r. refl) (λ r. refl)
 
 module _ (catalog cache : List ℕ) (d : ℕ) where
-  apart_remove : (r : Refusal) → Cleared ≡ NotRemoved r → ⊥
-  apart_remove r h = let z : ◌≡◌ {A = ℕ} 0 1 = cc in omega arith
+  apart_remove : (r : Refusal) → ◌≡◌ {A = Removed} (Ok tt) (Err r) → ⊥
+  apart_remove r h = cc
 
-  pub remove_refuses : Refuses (remove_verdict catalog cache d) NotRemoved (remove_outcome catalog cache d).answer
+  pub remove_refuses : Refuses (remove_verdict catalog cache d) Err (remove_outcome catalog cache d).answer
   unfolding remove_outcome
   remove_refuses =
-      refuses_by (remove_verdict catalog cache d) _ _ (λ (a : Effect Removed). a.answer) NotRemoved (λ r. refl) apart_remove
+      refuses_by (remove_verdict catalog cache d) _ _ (λ (a : Effect Removed). a.answer) Err (λ r. refl) apart_remove
       (remove_numbered catalog cache d) (λ r s e. cc)
 
-  pub remove_keeps : Keeps NotRemoved (remove_outcome catalog cache d).answer catalog cache
+  pub remove_keeps : Keeps Err (remove_outcome catalog cache d).answer catalog cache
       (remove_outcome catalog cache d).catalog (remove_outcome catalog cache d).cache
   unfolding remove_outcome
   remove_keeps =
-      keeps_by (remove_verdict catalog cache d) _ _ (λ (a : Effect Removed). a.answer) NotRemoved (λ r. refl) apart_remove
+      keeps_by (remove_verdict catalog cache d) _ _ (λ (a : Effect Removed). a.answer) Err (λ r. refl) apart_remove
       (λ (a : Effect Removed). a.catalog) (λ (a : Effect Removed). a.cache) catalog cache (λ r. refl) (λ r. refl)
 
 module _ (embeds : Strand → Strand → Bool) (catalog cache : List ℕ) (p : Strand) (work : ℕ) (hits : List ℕ) where
-  apart_query : (count searched : ℕ) (r : Refusal) → Hits count searched ≡ NotQueried r → ⊥
-  apart_query count searched r h = let z : ◌≡◌ {A = ℕ} 0 1 = cc in omega arith
+  apart_query : (count searched : ℕ) (r : Refusal) → ◌≡◌ {A = Queried} (Ok (hits_of count searched)) (Err r) → ⊥
+  apart_query count searched r h = cc
 
-  pub query_refuses : Refuses (query_verdict catalog cache p work (length hits)) NotQueried (query_outcome embeds catalog cache p work hits).answer
+  pub query_refuses : Refuses (query_verdict catalog cache p work (length hits)) Err (query_outcome embeds catalog cache p work hits).answer
   unfolding query_outcome query_accepted
   query_refuses =
-      refuses_by (query_verdict catalog cache p work (length hits)) _ _ (λ (a : QueryEffect). a.answer) NotQueried (λ r. refl) (apart_query _ _)
+      refuses_by (query_verdict catalog cache p work (length hits)) _ _ (λ (a : QueryEffect). a.answer) Err (λ r. refl) (apart_query _ _)
       (query_numbered catalog cache p work (length hits)) (λ r s e. cc)
 
-  pub query_keeps : Keeps NotQueried (query_outcome embeds catalog cache p work hits).answer cache hits
+  pub query_keeps : Keeps Err (query_outcome embeds catalog cache p work hits).answer cache hits
       (query_outcome embeds catalog cache p work hits).cache (query_outcome embeds catalog cache p work hits).hits
   unfolding query_outcome query_accepted
   query_keeps =
-      keeps_by (query_verdict catalog cache p work (length hits)) _ _ (λ (a : QueryEffect). a.answer) NotQueried (λ r. refl) (apart_query _ _)
+      keeps_by (query_verdict catalog cache p work (length hits)) _ _ (λ (a : QueryEffect). a.answer) Err (λ r. refl) (apart_query _ _)
       (λ (a : QueryEffect). a.cache) (λ (a : QueryEffect). a.hits) cache hits (λ r. refl) (λ r. refl)

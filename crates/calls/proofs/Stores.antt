@@ -1,4 +1,5 @@
 -- A catalog stores these molecules: all that is known of its bytes, and what the calls make of it.
+use Rattle.std.specs.Prelude.{Ok, Err}
 use Prim.Native.Nat.{ℕ, ◌*◌, ◌<◌}
 use native.Mathlib.Omega.{arith}
 use native.Mathlib.Decide.{dec_lt}
@@ -10,13 +11,11 @@ use lib.Dec.{leb, ltb}
 use lib.ListN.{length, replicate, length-replicate}
 use borrow.Author.Tests.{le-ltb}
 use Rattle.strand.specs.Strands.{Strand}
-use Rattle.refusals.specs.Rules.{no_side, wrong_slice, not_whole_blocks, unsound_block, number_too_large, already_held}
+use Rattle.refusals.specs.Rules.{no_side, wrong_slice, not_whole_blocks, unsound_block, number_too_large, already_held, Verdict}
 use Rattle.refusals.specs.Rules.{not_held, first, refuse_if, refuse_at_lowest}
 use Rattle.refusals.proofs.RuleLaws.{first_skip, first_one, first_stop}
 use Rattle.block.specs.Content.{block_size}
 use Rattle.block.specs.Block.{block_count}
-use Rattle.refusals.specs.declared.Verdict.{Verdict}
-use Rattle.refusals.specs.declared.Verdict.TheVariants.{Accepted, Refused}
 use Rattle.calls.specs.Buffers.{most_catalog_blocks, most_cache_blocks, in_range, molecule_verdict, motif_verdict, work_verdict, Holding}
 use Rattle.calls.specs.Buffers.{is_held, are_whole, unsound_at, held, molecule_at, buffers_verdict}
 use Rattle.lists.specs.Vocabulary.{put_at}
@@ -37,9 +36,9 @@ pub record Stores (B : ℕ) (catalog : List ℕ) (molecules : ℕ → Holding) :
   pub molecule_is : (d : ℕ) (q : Strand) → molecules d ≡ holds q → molecule_at catalog d ≡ q
 
 -- a list of rules of which only the first can refuse
-first_only : (v : Verdict) → first (v ∷ Accepted ∷ []) ≡ v
-first_only Accepted = first_skip Accepted (Accepted ∷ []) refl ∙ first_one Accepted
-first_only (Refused r) = first_stop (Refused r) (Accepted ∷ []) r refl
+first_only : (v : Verdict) → first (v ∷ Ok tt ∷ []) ≡ v
+first_only (Ok u) = first_skip (Ok tt) (Ok tt ∷ []) refl ∙ first_one (Ok tt)
+first_only (Err r) = first_stop (Err r) (Ok tt ∷ []) r refl
 
 -- A zeroed catalog
 
@@ -116,14 +115,14 @@ module _ {B : ℕ} {catalog : List ℕ} {molecules : ℕ → Holding} (s : Store
 
   -- The calls
 
-  pub stores_add : (cache : List ℕ) (d : ℕ) (q : Strand) → add_verdict catalog cache d q ≡ Accepted
+  pub stores_add : (cache : List ℕ) (d : ℕ) (q : Strand) → add_verdict catalog cache d q ≡ Ok tt
       → Stores B (add_outcome catalog cache d q).catalog (put_at molecules d (holds q))
   stores_add cache d q e =
       let new = add_accepted catalog cache d q e in
       stores_put d (omega (arith, count, (add_facts catalog cache d q e).0)) _ new.only (holds q)
       (unfold unsound_at in (ap not new.block_sound)) (unfold is_held in new.is_held_lem) (λ r h. new.molecule ∙ cc)
 
-  pub stores_remove : (cache : List ℕ) (d : ℕ) → remove_verdict catalog cache d ≡ Accepted
+  pub stores_remove : (cache : List ℕ) (d : ℕ) → remove_verdict catalog cache d ≡ Ok tt
       → Stores B (remove_outcome catalog cache d).catalog (put_at molecules d vacant)
   stores_remove cache d e =
       let new = remove_accepted catalog cache d e in
@@ -138,7 +137,7 @@ module _ {B : ℕ} {catalog : List ℕ} {molecules : ℕ → Holding} (s : Store
     unfolding are_whole in_range
     whole = rw (whole_is most_catalog_blocks B catalog s.size, whole_is most_cache_blocks S cache len)
 
-    rule_11 : refuse_at_lowest unsound_block no_side (block_count catalog) (unsound_at catalog) ≡ Accepted
+    rule_11 : refuse_at_lowest unsound_block no_side (block_count catalog) (unsound_at catalog) ≡ Ok tt
     rule_11 = rw count (no_place unsound_block no_side B (unsound_at catalog) s.sound)
 
     buffers_judged : buffers_verdict catalog cache ≡ refuse_if not_whole_blocks no_side (not (in_range B S))

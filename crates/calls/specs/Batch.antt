@@ -1,17 +1,13 @@
 -- Batch: 1 to 16 motifs together. What it answers and leaves, for all inputs and all contents of the buffers, by the definition of a single query, and what
 -- histories compare of it. These are the definitions that the contract of the call cites.
-use Rattle.std.specs.Prelude.{ℕ, zero, suc, ◌*◌, List, [], ◌∷◌, Bool, ltb, length, take, replicate}
+use Rattle.std.specs.Prelude.{ℕ, zero, suc, ◌*◌, List, [], ◌∷◌, Bool, ltb, length, take, replicate, Ok, Err}
 use Rattle.lists.specs.Vocabulary.{nth, piece, put_piece, some, select, tab}
 use Rattle.strand.specs.Strands.{Strand}
-use Rattle.refusals.specs.Rules.{no_side, wrong_slice, first, refuse_if, by_verdict, work_rule}
+use Rattle.refusals.specs.Rules.{no_side, wrong_slice, first, refuse_if, by_verdict, work_rule, Verdict}
 use Rattle.refusals.specs.declared.Refusal.{Refusal}
-use Rattle.refusals.specs.declared.Verdict.{Verdict}
 use Rattle.block.specs.Block.{block_count}
 use Rattle.block.specs.Content.{padded}
-use Rattle.calls.specs.declared.Queried.{Queried}
-use Rattle.calls.specs.declared.Queried.TheVariants.{Hits, Refused as NotQueried}
-use Rattle.calls.specs.declared.BatchRead.{BatchRead}
-use Rattle.calls.specs.declared.BatchRead.TheVariants.{Molecules, Refused as NotRead}
+use Rattle.calls.specs.Answers.{Queried, BatchRead}
 use Rattle.calls.specs.declared.Batched.{Batched}
 use Rattle.calls.specs.Buffers.{most_molecule_bases, buffers_verdict}
 use Rattle.calls.specs.Calls.{QueryEffect, entry_for, to_search, query_outcome, Found, Result, found_all, refused_by}
@@ -34,12 +30,12 @@ batch_verdict catalog cache motifs work room = batch_rules (buffers_verdict cata
 
 -- The count and the searched number of a query's answer.
 unfoldable pub count_of : Queried → ℕ
-count_of (Hits count searched) = count
-count_of (NotQueried r) = 0
+count_of (Ok h) = h.count
+count_of (Err r) = 0
 
 unfoldable pub searched_of : Queried → ℕ
-searched_of (Hits count searched) = searched
-searched_of (NotQueried r) = 0
+searched_of (Ok h) = h.searched
+searched_of (Err r) = 0
 
 -- The cache and the slice of the hits, between one query of a batch and the next.
 pub record BatchState : Type 0 where
@@ -60,7 +56,7 @@ batched answer cache hits = record { answer = answer; cache = cache; hits = hits
 
 -- A refused batch has zeros for its numbers.
 unfoldable pub not_batched : Refusal → Batched
-not_batched r = record { read = NotRead r; counts = replicate most_motifs 0; searched = replicate most_motifs 0 }
+not_batched r = record { read = Err r; counts = replicate most_motifs 0; searched = replicate most_motifs 0 }
 
 module _ (embeds : Strand → Strand → Bool) (catalog motifs : List ℕ) (work : ℕ) where
   -- Query t, on the cache as the queries before it left it. "Motif t, counted from 0, has its hits from entry t × B of the hit slice": its B entries.
@@ -91,7 +87,7 @@ module _ (embeds : Strand → Strand → Bool) (catalog motifs : List ℕ) (work
   unfoldable pub batch_answer : BatchState → Batched
   batch_answer x =
       record {
-        read = Molecules (length (read_list x));
+        read = Ok (length (read_list x));
         counts = padded most_motifs (tab (block_count motifs) (λ t. count_of (query_at x t).answer));
         searched = padded most_motifs (tab (block_count motifs) (λ t. searched_of (query_at x t).answer));
       }
@@ -114,8 +110,8 @@ found_at B r hits t =
 
 -- What a batch comes to: its refusal, or what each motif found and the number read.
 unfoldable pub batch_result_by : BatchRead → List Found → Result
-batch_result_by (Molecules read) each = found_all each read
-batch_result_by (NotRead r) each = refused_by r
+batch_result_by (Ok read) each = found_all each read
+batch_result_by (Err r) each = refused_by r
 
 -- Of a batch of K motifs: that of each of them, and the number read.
 unfoldable pub batch_result : ℕ → ℕ → Batched → List ℕ → Result

@@ -1,15 +1,13 @@
 -- What is claimed of batch for all inputs and all contents of the buffers; `claims`, in proofs/BatchClaims, proves it.
-use Rattle.std.specs.Prelude.{ℕ, suc, ◌*◌, ◌≤◌, ◌<◌, ◌≡◌, ◌↔◌, List, Bool, true, false, length, replicate}
+use Rattle.std.specs.Prelude.{ℕ, suc, ◌*◌, ◌≤◌, ◌<◌, ◌≡◌, ◌↔◌, List, Bool, true, false, length, replicate, Ok, Err}
 use Rattle.lists.specs.Vocabulary.{nth, piece, select}
 use Rattle.strand.specs.Strands.{Strand, same_strand}
 use Rattle.refusals.specs.Rules.{motif_side, no_side, too_long, work_too_short, wrong_slice, bad_motifs, refusal, RefusesBy, BatchNumbered, Keeps, work_size}
 use Rattle.refusals.specs.declared.Refusal.{Refusal}
-use Rattle.refusals.specs.declared.Verdict.TheVariants.{Accepted, Refused}
 use Rattle.block.specs.Content.{block_size}
 use Rattle.block.specs.Block.{block_of, block_count}
 use Rattle.block.specs.Motif.{holds_motif}
-use Rattle.calls.specs.declared.Queried.TheVariants.{Hits}
-use Rattle.calls.specs.declared.BatchRead.TheVariants.{Molecules, Refused as NotRead}
+use Rattle.calls.specs.Answers.{hits_of}
 use Rattle.calls.specs.Buffers.{most_molecule_bases, most_motif_bases, buffers_verdict, held, slot_of, Usable}
 use Rattle.calls.specs.Calls.{QueryEffect, entry_for, to_search, query_verdict, query_outcome}
 use Rattle.calls.specs.Motifs.{most_motifs, motif_of, motifs_verdict, UsableMotifs}
@@ -19,7 +17,7 @@ use Rattle.calls.specs.Statements.{AllSound}
 -- It is accepted exactly where no rule applies; the work slice is enough for each motif.
 abbrev pub BatchAccepts : List ℕ → List ℕ → List ℕ → ℕ → ℕ → Type 0
 BatchAccepts catalog cache motifs work room =
-    (batch_verdict catalog cache motifs work room ≡ Accepted)
+    (batch_verdict catalog cache motifs work room ≡ Ok tt)
     ↔ (Usable catalog cache × UsableMotifs motifs × (block_count motifs * block_count catalog ≤ room)
     × ((t : ℕ) → t < block_count motifs → work_size (length (motif_of motifs t).bases) most_molecule_bases ≤ work))
 
@@ -35,16 +33,16 @@ pub record MotifsRefuse (motifs : List ℕ) : Type 0 where
   pub too_long_lem : MotifBlocks motifs → ((s : ℕ) → s < block_count motifs → holds_motif (block_of s motifs) ≡ true)
       → (t : ℕ) → t < block_count motifs → most_motif_bases < length (motif_of motifs t).bases
       → ((s : ℕ) → s < t → length (motif_of motifs s).bases ≤ most_motif_bases) → motifs_verdict motifs ≡ refusal too_long motif_side t
-  pub passes : UsableMotifs motifs → motifs_verdict motifs ≡ Accepted
+  pub passes : UsableMotifs motifs → motifs_verdict motifs ≡ Ok tt
 
 -- The order of its rules: 10 and 11, the motif buffer, 9, then 8 where the work slice is too short for some motif.
 pub record BatchOrder (catalog cache motifs : List ℕ) (work room : ℕ) : Type 0 where
-  pub buffers : (r : Refusal) → buffers_verdict catalog cache ≡ Refused r → batch_verdict catalog cache motifs work room ≡ Refused r
-  pub motif_buffer : buffers_verdict catalog cache ≡ Accepted
-      → (r : Refusal) → motifs_verdict motifs ≡ Refused r → batch_verdict catalog cache motifs work room ≡ Refused r
-  pub few_hits_lem : buffers_verdict catalog cache ≡ Accepted → motifs_verdict motifs ≡ Accepted → room < block_count motifs * block_count catalog
+  pub buffers : (r : Refusal) → buffers_verdict catalog cache ≡ Err r → batch_verdict catalog cache motifs work room ≡ Err r
+  pub motif_buffer : buffers_verdict catalog cache ≡ Ok tt
+      → (r : Refusal) → motifs_verdict motifs ≡ Err r → batch_verdict catalog cache motifs work room ≡ Err r
+  pub few_hits_lem : buffers_verdict catalog cache ≡ Ok tt → motifs_verdict motifs ≡ Ok tt → room < block_count motifs * block_count catalog
       → batch_verdict catalog cache motifs work room ≡ refusal wrong_slice no_side 0
-  pub short_work : buffers_verdict catalog cache ≡ Accepted → motifs_verdict motifs ≡ Accepted → block_count motifs * block_count catalog ≤ room
+  pub short_work : buffers_verdict catalog cache ≡ Ok tt → motifs_verdict motifs ≡ Ok tt → block_count motifs * block_count catalog ≤ room
       → (t : ℕ) → t < block_count motifs → work < work_size (length (motif_of motifs t).bases) most_molecule_bases
       → batch_verdict catalog cache motifs work room ≡ refusal work_too_short no_side 0
 
@@ -73,7 +71,7 @@ module _ (embeds : Strand → Strand → Bool) (catalog motifs : List ℕ) (work
 
   -- "Counts, hits, searched numbers and the shelf afterwards equal those of single queries in that order."
   pub record InOrder (caches : ℕ → List ℕ) (after : BatchEffect) : Type 0 where
-    pub numbers : (t : ℕ) → t < many → (single caches t).answer ≡ Hits (nth after.answer.counts t) (nth after.answer.searched t)
+    pub numbers : (t : ℕ) → t < many → (single caches t).answer ≡ Ok (hits_of (nth after.answer.counts t) (nth after.answer.searched t))
     pub lists : (t : ℕ) → t < many → piece (block_count catalog) t after.hits ≡ (single caches t).hits
     pub cache_last : after.cache ≡ caches many
 
@@ -84,10 +82,10 @@ module _ (embeds : Strand → Strand → Bool) (catalog motifs : List ℕ) (work
     -- every query of it is accepted
     pub queries : (t : ℕ) → t < many
         → query_verdict catalog (batch_to embeds catalog motifs work t begin).cache (motif_of motifs t) work
-        (length (piece (block_count catalog) t (batch_to embeds catalog motifs work t begin).hits)) ≡ Accepted
+        (length (piece (block_count catalog) t (batch_to embeds catalog motifs work t begin).hits)) ≡ Ok tt
     -- of each motif the numbers that its query answers, and zeros where there is no motif; the searched number is that of the molecules it would search
     pub answers : (t : ℕ) → t < many
-        → (query_at embeds catalog motifs work begin t).answer ≡ Hits (nth after.answer.counts t) (nth after.answer.searched t)
+        → (query_at embeds catalog motifs work begin t).answer ≡ Ok (hits_of (nth after.answer.counts t) (nth after.answer.searched t))
     pub searched_is : (t : ℕ) → t < many
         → nth after.answer.searched t ≡ length (select (block_count catalog) (searches_at embeds catalog motifs work begin t))
     pub sizes : (length after.answer.counts ≡ most_motifs) × (length after.answer.searched ≡ most_motifs)
@@ -99,7 +97,7 @@ module _ (embeds : Strand → Strand → Bool) (catalog motifs : List ℕ) (work
     pub size : length after.hits ≡ length hits
     pub behind : (i : ℕ) → many * block_count catalog ≤ i → nth after.hits i ≡ nth hits i
     -- the molecules read, each once: just those that at least one of the queries would search
-    pub read : after.answer.read ≡ Molecules (length reading)
+    pub read : after.answer.read ≡ Ok (length reading)
     pub reads : (d : ℕ) → ((i : ℕ) × (i < length reading) × (nth reading i ≡ d))
         ↔ ((d < block_count catalog) × (t : ℕ) × (t < many) × (searches_at embeds catalog motifs work begin t d ≡ true))
     pub read_rising : (i j : ℕ) → i < j → j < length reading → nth reading i < nth reading j
@@ -113,8 +111,8 @@ module _ (embeds : Strand → Strand → Bool) (catalog motifs : List ℕ) (work
   -- A batch of one motif is a query, with as many read as searched.
   pub record IsQuery (after : BatchEffect) : Type 0 where
     pub answer : (query_outcome embeds catalog cache (motif_of motifs 0) work hits).answer
-        ≡ Hits (nth after.answer.counts 0) (nth after.answer.searched 0)
-    pub read : after.answer.read ≡ Molecules (nth after.answer.searched 0)
+        ≡ Ok (hits_of (nth after.answer.counts 0) (nth after.answer.searched 0))
+    pub read : after.answer.read ≡ Ok (nth after.answer.searched 0)
     pub cache_same : after.cache ≡ (query_outcome embeds catalog cache (motif_of motifs 0) work hits).cache
     pub hits_same : after.hits ≡ (query_outcome embeds catalog cache (motif_of motifs 0) work hits).hits
 
@@ -148,19 +146,19 @@ pub record BatchClaims (embeds : Strand → Strand → Bool) : Type 0 where
   pub batch_order : (catalog cache motifs : List ℕ) (work room : ℕ) → BatchOrder catalog cache motifs work room
   -- a batch answers a refusal exactly where its rules refuse, and then changes nothing
   pub batch_refuses : (catalog cache motifs : List ℕ) (work : ℕ) (hits : List ℕ)
-      → RefusesBy BatchNumbered (batch_verdict catalog cache motifs work (length hits)) NotRead
+      → RefusesBy BatchNumbered (batch_verdict catalog cache motifs work (length hits)) Err
       (batch_outcome embeds catalog motifs work cache hits).answer.read
   pub batch_keeps : (catalog cache motifs : List ℕ) (work : ℕ) (hits : List ℕ)
-      → Keeps NotRead (batch_outcome embeds catalog motifs work cache hits).answer.read cache hits
+      → Keeps Err (batch_outcome embeds catalog motifs work cache hits).answer.read cache hits
       (batch_outcome embeds catalog motifs work cache hits).cache (batch_outcome embeds catalog motifs work cache hits).hits
   -- and has zeros for its numbers
   pub batch_no_numbers : (catalog cache motifs : List ℕ) (work : ℕ) (hits : List ℕ)
-      → Keeps NotRead (batch_outcome embeds catalog motifs work cache hits).answer.read (replicate most_motifs 0) (replicate most_motifs 0)
+      → Keeps Err (batch_outcome embeds catalog motifs work cache hits).answer.read (replicate most_motifs 0) (replicate most_motifs 0)
       (batch_outcome embeds catalog motifs work cache hits).answer.counts (batch_outcome embeds catalog motifs work cache hits).answer.searched
   -- an accepted batch
-  pub batch_accepted : (catalog cache motifs : List ℕ) (work : ℕ) (hits : List ℕ) → batch_verdict catalog cache motifs work (length hits) ≡ Accepted
+  pub batch_accepted : (catalog cache motifs : List ℕ) (work : ℕ) (hits : List ℕ) → batch_verdict catalog cache motifs work (length hits) ≡ Ok tt
       → BatchLeaves embeds catalog motifs work cache hits (batch_outcome embeds catalog motifs work cache hits)
-  pub batch_shares : (catalog cache motifs : List ℕ) (work : ℕ) (hits : List ℕ) → batch_verdict catalog cache motifs work (length hits) ≡ Accepted
+  pub batch_shares : (catalog cache motifs : List ℕ) (work : ℕ) (hits : List ℕ) → batch_verdict catalog cache motifs work (length hits) ≡ Ok tt
       → SlotsShared embeds catalog motifs work cache hits
-  pub batch_of_one : (catalog cache motifs : List ℕ) (work : ℕ) (hits : List ℕ) → batch_verdict catalog cache motifs work (length hits) ≡ Accepted
+  pub batch_of_one : (catalog cache motifs : List ℕ) (work : ℕ) (hits : List ℕ) → batch_verdict catalog cache motifs work (length hits) ≡ Ok tt
       → block_count motifs ≡ 1 → IsQuery embeds catalog motifs work cache hits (batch_outcome embeds catalog motifs work cache hits)

@@ -3,8 +3,8 @@
 use Rattle.std.specs.Prelude.{ℕ, ◌*◌, ◌%◌, ◌≤◌, ◌<◌, ◌≡◌, Bool, ◌&&◌, true, false, not, leb, eqb, ltb, length, List, [], ◌∷◌}
 use Rattle.strand.specs.Strands.{Strand, strand_verdict, least_motif, least_molecule, key}
 use Rattle.refusals.specs.Rules.{motif_side, molecule_side, work_rule, no_side, not_whole_blocks, unsound_block, first, refuse_if, refuse_at_lowest}
+use Rattle.refusals.specs.Rules.{Verdict}
 use Rattle.block.specs.Content.{block_bases, entry_bases, block_size, is_empty, molecule_in}
-use Rattle.refusals.specs.declared.Verdict.{Verdict}
 use Rattle.std.proofs.Math.Option.{Option, none as vacant, some as holds}
 use Rattle.block.specs.Block.{block_of, sound_molecule, cleaned, block_count, each_block}
 

@@ -1,24 +1,19 @@
 -- Add, remove and query: what each answers and leaves in every buffer, for all inputs and all contents of the buffers, and what histories compare of a call.
 -- These are the definitions that the contracts of the calls cite; Batch has those of batch.
-use Rattle.std.specs.Prelude.{ℕ, ◌≤◌, ◌<◌, ◌≡◌, ◌↔◌, List, [], ◌∷◌, ◌++◌, Bool, true, false, not, ◌&&◌, length, drop, take, leb, ltb}
+use Rattle.std.specs.Prelude.{ℕ, ◌≤◌, ◌<◌, ◌≡◌, ◌↔◌, List, [], ◌∷◌, ◌++◌, Bool, true, false, not, ◌&&◌, length, drop, take, leb, ltb, Ok, Err}
 use Rattle.lists.specs.Vocabulary.{choose, select}
 use Rattle.strand.specs.declared.Fold.{Fold}
 use Rattle.strand.specs.Folds.{fold_of, IsFold}
 use Rattle.strand.specs.Strands.{Strand, Proper, least_motif, least_molecule}
-use Rattle.refusals.specs.Rules.{motif_side, molecule_side, no_side, wrong_slice, number_too_large, already_held, not_held}
+use Rattle.refusals.specs.Rules.{motif_side, molecule_side, no_side, wrong_slice, number_too_large, already_held, not_held, Verdict}
 use Rattle.refusals.specs.Rules.{first, refuse_if, by_verdict, work_size}
 use Rattle.block.specs.Block.{block_of, forgot, block_count, each_block, put_block}
 use Rattle.block.specs.Content.{empty_block, encode_molecule, encode_entry, keeps_motif, searched_in, hit_in}
-use Rattle.refusals.specs.declared.Verdict.{Verdict}
-use Rattle.refusals.specs.declared.Verdict.TheVariants.{Accepted}
-use Rattle.calls.specs.declared.Added.{Added}
-use Rattle.calls.specs.declared.Added.TheVariants.{Stored, Refused as NotAdded}
-use Rattle.calls.specs.declared.Removed.{Removed}
-use Rattle.calls.specs.declared.Removed.TheVariants.{Cleared, Refused as NotRemoved}
-use Rattle.calls.specs.declared.Queried.{Queried}
-use Rattle.calls.specs.declared.Queried.TheVariants.{Hits, Refused as NotQueried}
+use Rattle.calls.specs.Answers.{Added, Removed, Queried, hits_of}
 use Rattle.calls.specs.Buffers.{most_molecule_bases, most_motif_bases, molecule_verdict, motif_verdict, work_verdict, held, molecule_at, buffers_verdict}
 use Rattle.calls.specs.Buffers.{slot_of, clean_cache, Usable}
+use Rattle.refusals.specs.declared.Rule.{Rule}
+use Rattle.refusals.specs.declared.Side.{Side}
 use Rattle.refusals.specs.declared.Refusal.{Refusal}
 
 -- The effect of add or remove: the answer and both buffers afterwards.
@@ -50,13 +45,12 @@ add_verdict catalog cache d q = add_rules (buffers_verdict catalog cache) (block
 -- It writes block d. 02, (i): "Add hands both on in its own answer", the number of arcs and the depth. A refusal leaves both buffers as they are.
 unfoldable pub add_outcome : List ℕ → List ℕ → ℕ → Strand → Effect Added
 add_outcome catalog cache d q =
-    by_verdict (add_verdict catalog cache d q)
-    (λ r. effect (NotAdded r) catalog cache)
-    (effect (Stored (fold_of q.mates)) (put_block d (encode_molecule q) catalog) (clean_cache cache))
+    by_verdict (add_verdict catalog cache d q) (λ r. effect (Err r) catalog cache)
+    (effect (Ok (fold_of q.mates)) (put_block d (encode_molecule q) catalog) (clean_cache cache))
 
--- Its answer r is Stored with f exactly when the call is accepted and f is the fold of the molecule.
+-- Its answer r is Ok f exactly when the call is accepted and f is the fold of the molecule.
 abbrev pub AddSays : List ℕ → List ℕ → ℕ → Strand → Added → Type 0
-AddSays catalog cache d q r = (f : Fold) → (r ≡ Stored f) ↔ ((add_verdict catalog cache d q ≡ Accepted) × IsFold q.mates f)
+AddSays catalog cache d q r = (f : Fold) → (r ≡ Ok f) ↔ ((add_verdict catalog cache d q ≡ Ok tt) × IsFold q.mates f)
 
 -- Remove (d).
 unfoldable pub remove_verdict : List ℕ → List ℕ → ℕ → Verdict
@@ -65,19 +59,18 @@ remove_verdict catalog cache d = remove_rules (buffers_verdict catalog cache) (b
 -- It zeroes block d, and clears bit d in both maps of every cache entry. A refusal leaves both buffers as they are.
 unfoldable pub remove_outcome : List ℕ → List ℕ → ℕ → Effect Removed
 remove_outcome catalog cache d =
-    by_verdict (remove_verdict catalog cache d)
-    (λ r. effect (NotRemoved r) catalog cache)
-    (effect Cleared (put_block d empty_block catalog) (each_block (forgot d) (clean_cache cache)))
+    by_verdict (remove_verdict catalog cache d) (λ r. effect (Err r) catalog cache)
+    (effect (Ok tt) (put_block d empty_block catalog) (each_block (forgot d) (clean_cache cache)))
 
 -- Both are accepted exactly where no rule applies.
 abbrev pub AddAccepts : List ℕ → List ℕ → ℕ → Strand → Type 0
 AddAccepts catalog cache d q =
-    (add_verdict catalog cache d q ≡ Accepted)
+    (add_verdict catalog cache d q ≡ Ok tt)
     ↔ (Usable catalog cache × (d < block_count catalog) × (held catalog d ≡ false) × Proper molecule_side least_molecule most_molecule_bases q.bases q.mates)
 
 abbrev pub RemoveAccepts : List ℕ → List ℕ → ℕ → Type 0
 RemoveAccepts catalog cache d =
-    (remove_verdict catalog cache d ≡ Accepted) ↔ (Usable catalog cache × (d < block_count catalog) × (held catalog d ≡ true))
+    (remove_verdict catalog cache d ≡ Ok tt) ↔ (Usable catalog cache × (d < block_count catalog) × (held catalog d ≡ true))
 
 -- The effect of query: the answer, the cache and the slice of the hits afterwards. The catalog is only read.
 pub record QueryEffect : Type 0 where
@@ -95,7 +88,7 @@ query_verdict catalog cache p work room = query_rules (buffers_verdict catalog c
 -- It is accepted exactly where no rule applies.
 abbrev pub QueryAccepts : List ℕ → List ℕ → Strand → ℕ → ℕ → Type 0
 QueryAccepts catalog cache p work room =
-    (query_verdict catalog cache p work room ≡ Accepted)
+    (query_verdict catalog cache p work room ≡ Ok tt)
     ↔ (Usable catalog cache × Proper motif_side least_motif most_motif_bases p.bases p.mates × (block_count catalog ≤ room)
     × (work_size (length p.bases) most_molecule_bases ≤ work))
 
@@ -125,7 +118,7 @@ module _ (embeds : Strand → Strand → Bool) where
   query_accepted catalog cache entry slot p hits =
       let list : List ℕ = select (block_count catalog) (is_hit catalog entry p) in
       queried
-      (Hits (length list) (length (select (block_count catalog) (to_search catalog entry p))))
+      (Ok (hits_of (length list) (length (select (block_count catalog) (to_search catalog entry p)))))
       (put_block slot (encode_entry p (held catalog) (is_hit catalog entry p)) cache)
       (list ++ drop (length list) hits)
 
@@ -133,7 +126,7 @@ module _ (embeds : Strand → Strand → Bool) where
   unfoldable pub query_outcome : List ℕ → List ℕ → Strand → ℕ → List ℕ → QueryEffect
   query_outcome catalog cache p work hits =
       by_verdict (query_verdict catalog cache p work (length hits))
-      (λ r. queried (NotQueried r) cache hits)
+      (λ r. queried (Err r) cache hits)
       (query_accepted catalog (clean_cache cache) (entry_for cache p) (slot_in cache p) p hits)
 
 -- ---- what histories compare
@@ -146,8 +139,8 @@ pub record Found : Type 0 where
 
 -- What histories compare of an answer.
 pub data Result : Type 0 where
-  -- number, side and place of a refusal
-  refused : ℕ → ℕ → ℕ → Result
+  -- rule, side and place of a refusal
+  refused : Rule → Side → ℕ → Result
   -- an accepted add, whose fold is not compared, or remove
   done : Result
   -- an accepted query: the count, the hit list, the searched number
@@ -157,17 +150,17 @@ pub data Result : Type 0 where
 
 -- The result of a refusal, of an add, of a remove, and of a query.
 unfoldable pub refused_by : Refusal → Result
-refused_by r = refused r.number r.side r.place
+refused_by r = refused r.rule r.side r.place
 
 unfoldable pub add_result : Added → Result
-add_result (Stored f) = done
-add_result (NotAdded r) = refused_by r
+add_result (Ok f) = done
+add_result (Err r) = refused_by r
 
 unfoldable pub remove_result : Removed → Result
-remove_result Cleared = done
-remove_result (NotRemoved r) = refused_by r
+remove_result (Ok u) = done
+remove_result (Err r) = refused_by r
 
 -- `hits` is the slice of the hits afterwards.
 unfoldable pub query_result : Queried → List ℕ → Result
-query_result (Hits count searched) hits = found count (take count hits) searched
-query_result (NotQueried r) hits = refused_by r
+query_result (Ok h) hits = found h.count (take h.count hits) h.searched
+query_result (Err r) hits = refused_by r

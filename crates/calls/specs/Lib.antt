@@ -1,3 +1,4 @@
+pub mod Answers
 pub mod Buffers
 pub mod Calls
 pub mod Motifs

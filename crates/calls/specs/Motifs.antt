@@ -1,8 +1,7 @@
 -- The motif buffer of a batch: motifs as blocks, and what it is refused for.
 use Rattle.std.specs.Prelude.{ℕ, zero, suc, ◌*◌, ◌≤◌, ◌<◌, max, ◌≡◌, List, [], ◌∷◌, Bool, true, not, ltb, length}
 use Rattle.strand.specs.Strands.{Strand}
-use Rattle.refusals.specs.Rules.{motif_side, bad_motifs, too_long, first, refuse_if, refuse_at_lowest}
-use Rattle.refusals.specs.declared.Verdict.{Verdict}
+use Rattle.refusals.specs.Rules.{motif_side, bad_motifs, too_long, first, refuse_if, refuse_at_lowest, Verdict}
 use Rattle.block.specs.Content.{block_size}
 use Rattle.block.specs.Block.{block_of, block_count}
 use Rattle.block.specs.Motif.{motif_handed_in, holds_motif}

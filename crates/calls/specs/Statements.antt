@@ -1,5 +1,5 @@
 -- What is claimed of add, remove and query for all inputs and all contents of the buffers; `claims`, in proofs/Claims, proves it.
-use Rattle.std.specs.Prelude.{ℕ, ◌<◌, ◌≡◌, List, [], ◌∷◌, Bool, true, false, ◌&&◌, ltb, length, take, drop}
+use Rattle.std.specs.Prelude.{ℕ, ◌<◌, ◌≡◌, List, [], ◌∷◌, Bool, true, false, ◌&&◌, ltb, length, take, drop, Ok, Err}
 use Rattle.lists.specs.Vocabulary.{select}
 use Rattle.strand.specs.Folds.{fold_of}
 use Rattle.strand.specs.Strands.{Strand, empty_motif}
@@ -7,12 +7,7 @@ use Rattle.octets.specs.Octets.{Bytes, map_bits}
 use Rattle.block.specs.Block.{block_of, sound_molecule, sound_entry, cleaned, forgot, block_count}
 use Rattle.block.specs.Content.{empty_block, encode_entry, keeps_motif, searched_in, hit_in}
 use Rattle.refusals.specs.Rules.{no_side, wrong_slice, first, refuse_if, work_rule, Refuses, Keeps}
-use Rattle.refusals.specs.declared.Verdict.TheVariants.{Accepted}
-use Rattle.calls.specs.declared.Added.{Added}
-use Rattle.calls.specs.declared.Added.TheVariants.{Stored, Refused as NotAdded}
-use Rattle.calls.specs.declared.Removed.{Removed}
-use Rattle.calls.specs.declared.Removed.TheVariants.{Cleared, Refused as NotRemoved}
-use Rattle.calls.specs.declared.Queried.TheVariants.{Hits, Refused as NotQueried}
+use Rattle.calls.specs.Answers.{Added, Removed, hits_of}
 use Rattle.calls.specs.Buffers.{most_molecule_bases, buffers_verdict, held, molecule_at, slot_of, clean_cache}
 use Rattle.calls.specs.Calls.{Effect, add_verdict, add_outcome, remove_verdict, remove_outcome, QueryEffect, query_verdict, to_search}
 use Rattle.calls.specs.Calls.{is_hit, slot_in, entry_for, query_outcome, QueryAccepts, AddAccepts, AddSays, RemoveAccepts}
@@ -38,7 +33,7 @@ pub record EachIs (f : List ℕ → List ℕ) (before after : List ℕ) : Type 0
 -- What an accepted add leaves.
 pub record AddLeaves (catalog cache : List ℕ) (d : ℕ) (q : Strand) (after : Effect Added) : Type 0 where
   -- the number of arcs and the depth of the molecule
-  pub answer : after.answer ≡ Stored (fold_of q.mates)
+  pub answer : after.answer ≡ Ok (fold_of q.mates)
   -- block d is sound and holds the molecule; every other block stays
   pub block_sound : sound_molecule (block_of d after.catalog) ≡ true
   pub is_held_lem : held after.catalog d ≡ true
@@ -50,7 +45,7 @@ pub record AddLeaves (catalog cache : List ℕ) (d : ℕ) (q : Strand) (after : 
 
 -- What an accepted remove leaves.
 pub record RemoveLeaves (catalog cache : List ℕ) (d : ℕ) (after : Effect Removed) : Type 0 where
-  pub answer : after.answer ≡ Cleared
+  pub answer : after.answer ≡ Ok tt
   -- block d is empty, so the number is not held; every other block stays
   pub block_empty : block_of d after.catalog ≡ empty_block
   pub not_held_lem : held after.catalog d ≡ false
@@ -63,7 +58,7 @@ pub record RemoveLeaves (catalog cache : List ℕ) (d : ℕ) (after : Effect Rem
 -- What an accepted query leaves: s is the motif's slot, `hit` and `search` are the numbers that it lists and those that it has to search.
 pub record QueryLeaves (catalog cache : List ℕ) (s : ℕ) (p : Strand) (hits : List ℕ) (hit search : ℕ → Bool) (after : QueryEffect) : Type 0 where
   -- how many hits, how many searched
-  pub answer : after.answer ≡ Hits (length (select (block_count catalog) hit)) (length (select (block_count catalog) search))
+  pub answer : after.answer ≡ Ok (hits_of (length (select (block_count catalog) hit)) (length (select (block_count catalog) search)))
   -- the slice starts with the hits, rising; its later entries stay
   pub listed : take (length (select (block_count catalog) hit)) after.hits ≡ select (block_count catalog) hit
   pub later : drop (length (select (block_count catalog) hit)) after.hits ≡ drop (length (select (block_count catalog) hit)) hits
@@ -81,11 +76,11 @@ pub record QueryLeaves (catalog cache : List ℕ) (s : ℕ) (p : Strand) (hits :
 -- All the claims.
 pub record Claims (embeds : Strand → Strand → Bool) : Type 0 where
   -- accepted calls
-  pub add_accepted : (catalog cache : List ℕ) (d : ℕ) (q : Strand) → add_verdict catalog cache d q ≡ Accepted
+  pub add_accepted : (catalog cache : List ℕ) (d : ℕ) (q : Strand) → add_verdict catalog cache d q ≡ Ok tt
       → AddLeaves catalog cache d q (add_outcome catalog cache d q)
-  pub remove_accepted : (catalog cache : List ℕ) (d : ℕ) → remove_verdict catalog cache d ≡ Accepted
+  pub remove_accepted : (catalog cache : List ℕ) (d : ℕ) → remove_verdict catalog cache d ≡ Ok tt
       → RemoveLeaves catalog cache d (remove_outcome catalog cache d)
-  pub query_accepted_lem : (catalog cache : List ℕ) (p : Strand) (work : ℕ) (hits : List ℕ) → query_verdict catalog cache p work (length hits) ≡ Accepted
+  pub query_accepted_lem : (catalog cache : List ℕ) (p : Strand) (work : ℕ) (hits : List ℕ) → query_verdict catalog cache p work (length hits) ≡ Ok tt
       → QueryLeaves catalog cache (slot_in cache p) p hits (is_hit embeds catalog (entry_for cache p) p) (to_search catalog (entry_for cache p) p)
       (query_outcome embeds catalog cache p work hits)
   -- what add answers, as a proposition
@@ -96,17 +91,17 @@ pub record Claims (embeds : Strand → Strand → Bool) : Type 0 where
   pub query_accepts : (catalog cache : List ℕ) (p : Strand) (work room : ℕ) → QueryAccepts catalog cache p work room
   -- a call answers a refusal exactly where its rules refuse, and then changes nothing
   pub add_refuses : (catalog cache : List ℕ) (d : ℕ) (q : Strand)
-      → Refuses (add_verdict catalog cache d q) NotAdded (add_outcome catalog cache d q).answer
+      → Refuses (add_verdict catalog cache d q) Err (add_outcome catalog cache d q).answer
   pub add_keeps : (catalog cache : List ℕ) (d : ℕ) (q : Strand)
-      → Keeps NotAdded (add_outcome catalog cache d q).answer catalog cache (add_outcome catalog cache d q).catalog (add_outcome catalog cache d q).cache
+      → Keeps Err (add_outcome catalog cache d q).answer catalog cache (add_outcome catalog cache d q).catalog (add_outcome catalog cache d q).cache
   pub remove_refuses : (catalog cache : List ℕ) (d : ℕ)
-      → Refuses (remove_verdict catalog cache d) NotRemoved (remove_outcome catalog cache d).answer
+      → Refuses (remove_verdict catalog cache d) Err (remove_outcome catalog cache d).answer
   pub remove_keeps : (catalog cache : List ℕ) (d : ℕ)
-      → Keeps NotRemoved (remove_outcome catalog cache d).answer catalog cache (remove_outcome catalog cache d).catalog (remove_outcome catalog cache d).cache
+      → Keeps Err (remove_outcome catalog cache d).answer catalog cache (remove_outcome catalog cache d).catalog (remove_outcome catalog cache d).cache
   pub query_refuses : (catalog cache : List ℕ) (p : Strand) (work : ℕ) (hits : List ℕ)
-      → Refuses (query_verdict catalog cache p work (length hits)) NotQueried (query_outcome embeds catalog cache p work hits).answer
+      → Refuses (query_verdict catalog cache p work (length hits)) Err (query_outcome embeds catalog cache p work hits).answer
   pub query_keeps : (catalog cache : List ℕ) (p : Strand) (work : ℕ) (hits : List ℕ)
-      → Keeps NotQueried (query_outcome embeds catalog cache p work hits).answer cache hits
+      → Keeps Err (query_outcome embeds catalog cache p work hits).answer cache hits
       (query_outcome embeds catalog cache p work hits).cache (query_outcome embeds catalog cache p work hits).hits
   -- hits are held numbers
   pub hit_held : (catalog entry : List ℕ) (p : Strand) (d : ℕ) → is_hit embeds catalog entry p d ≡ true → held catalog d ≡ true

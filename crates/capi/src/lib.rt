@@ -13,14 +13,13 @@ ghost use Rattle.interface.specs.Interface.{check_in_c, match_in_c, window_in_c,
 ghost use Rattle.interface.specs.Interface.{effect_in_c, queried_in_c, query_effect_in_c};
 ghost use Rattle.interface.specs.Interface.{batched_in_c, batch_effect_in_c};
 
-use interface::{Answer, BatchAnswer, WindowAnswer, answers};
+use interface::{Answer, BatchAnswer, WindowAnswer};
 
 #[unsafe(no_mangle)]
 pub extern "C" fn lakhido_check(bases: &[u8], mates: &[u16]) -> Answer
     ensures { result ≡ check_in_c (check_answer bases.now mates.now) }
 {
-    let a = strand::check(bases, mates);
-    answers::tell_check(a)
+    strand::check(bases, mates).into()
 }
 
 #[unsafe(no_mangle)]
@@ -34,8 +33,7 @@ pub extern "C" fn lakhido_length(
     ensures { (result ≡ match_in_c (length_answer p.now pm.now q.now qm.now (length work.old)))
         × WorkKept (length_verdict p.now pm.now q.now qm.now (length work.old)) work.old work.new }
 {
-    let a = matcher::length(p, pm, q, qm, work);
-    answers::tell_match(a)
+    matcher::length(p, pm, q, qm, work).into()
 }
 
 #[unsafe(no_mangle)]
@@ -53,8 +51,7 @@ pub extern "C" fn lakhido_show(
         × WorkKept (show_verdict p.now pm.now q.now qm.now (length places.old) (length work.old))
         work.old work.new }
 {
-    let a = matcher::show(p, pm, q, qm, places, work);
-    answers::tell_match(a)
+    matcher::show(p, pm, q, qm, places, work).into()
 }
 
 #[unsafe(no_mangle)]
@@ -69,8 +66,7 @@ pub extern "C" fn lakhido_window(
         × WorkKept (length_verdict p.now pm.now q.now qm.now (length work.old))
         work.old work.new }
 {
-    let a = window::window(p, pm, q, qm, work);
-    answers::tell_window(a)
+    window::window(p, pm, q, qm, work).into()
 }
 
 #[unsafe(no_mangle)]
@@ -83,8 +79,7 @@ pub extern "C" fn lakhido_verify(
 ) -> Answer
     ensures { result ≡ verify_in_c (verify_answer p.now pm.now q.now qm.now places.now) }
 {
-    let a = embedding::verify(p, pm, q, qm, places);
-    answers::tell_verify(a)
+    embedding::verify(p, pm, q, qm, places).into()
 }
 
 #[unsafe(no_mangle)]
@@ -98,8 +93,7 @@ pub extern "C" fn lakhido_add(
     ensures { effect result catalog.new cache.new
         ≡ effect_in_c add_in_c (add_outcome catalog.old cache.old d (strand_of bases.now mates.now)) }
 {
-    let a = catalog::add(catalog, cache, d, bases, mates);
-    answers::tell_add(a)
+    catalog::add(catalog, cache, d, bases, mates).into()
 }
 
 #[unsafe(no_mangle)]
@@ -107,8 +101,7 @@ pub extern "C" fn lakhido_remove(catalog: &mut [u8], cache: &mut [u8], d: usize)
     ensures { effect result catalog.new cache.new
         ≡ effect_in_c remove_in_c (remove_outcome catalog.old cache.old d) }
 {
-    let a = catalog::remove(catalog, cache, d);
-    answers::tell_remove(a)
+    catalog::remove(catalog, cache, d).into()
 }
 
 #[unsafe(no_mangle)]
@@ -125,8 +118,7 @@ pub extern "C" fn lakhido_query(
         × WorkKept (query_verdict catalog.now cache.old (strand_of p.now pm.now) (length work.old) (length hits.old))
         work.old work.new }
 {
-    let a = catalog::query(catalog, cache, p, pm, work, hits);
-    answers::tell_query(a)
+    catalog::query(catalog, cache, p, pm, work, hits).into()
 }
 
 #[unsafe(no_mangle)]
@@ -143,6 +135,5 @@ pub extern "C" fn lakhido_batch(
         × WorkKept (batch_verdict catalog.now cache.old motifs.now (length work.old) (length hits.old))
         work.old work.new }
 {
-    let a = batch::batch(catalog, cache, motifs, work, hits);
-    answers::tell_batch(a)
+    batch::batch(catalog, cache, motifs, work, hits).into()
 }

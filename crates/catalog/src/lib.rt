@@ -7,34 +7,28 @@ ghost use Rattle.embedding.specs.Longest.{embeds};
 ghost use Rattle.refusals.specs.Rules.{WorkKept};
 ghost use Rattle.calls.specs.Calls.{effect, add_outcome, remove_outcome, queried, query_verdict, query_outcome};
 
-pub use calls::{Added, Queried, Removed};
+pub use calls::{Added, Hits, Queried, Removed};
 
 // The call add: writes the molecule under number d, and answers its fold.
 pub fn add(catalog: &mut [u8], cache: &mut [u8], d: usize, bases: &[u8], mates: &[u16]) -> Added
     ensures { effect result catalog.new cache.new
         ≡ add_outcome catalog.old cache.old d (strand_of bases.now mates.now) }
 {
-    let verdict = judge::judge_add(catalog, cache, d, bases, mates);
-    if let refusals::Verdict::Refused(r) = verdict {
-        return Added::Refused(r);
-    }
+    judge::judge_add(catalog, cache, d, bases, mates)?;
     buffer::clean_all(cache);
     buffer::put_molecule(catalog, d, bases, mates);
-    Added::Stored(strand::depth::fold_of(mates))
+    Ok(strand::depth::fold_of(mates))
 }
 
 // The call remove: takes number d out of the catalog and of every cache entry.
 pub fn remove(catalog: &mut [u8], cache: &mut [u8], d: usize) -> Removed
     ensures { effect result catalog.new cache.new ≡ remove_outcome catalog.old cache.old d }
 {
-    let verdict = judge::judge_remove(catalog, cache, d);
-    if let refusals::Verdict::Refused(r) = verdict {
-        return Removed::Refused(r);
-    }
+    judge::judge_remove(catalog, cache, d)?;
     buffer::clean_all(cache);
     buffer::zero_at(catalog, d);
     buffer::forget_all(cache, d);
-    Removed::Cleared
+    Ok(())
 }
 
 // The call query: the numbers of the hits, rising, at the start of `hits`. A held molecule that the slot's entry has searched for this very motif is a
@@ -53,12 +47,7 @@ pub fn query(
         × WorkKept (query_verdict catalog.now cache.old (strand_of p.now pm.now) (length work.old)
         (length hits.old)) work.old work.new }
 {
-    let entries = work.len();
-    let places = hits.len();
-    let verdict = judge::judge_query(catalog, cache, p, pm, entries, places);
-    if let refusals::Verdict::Refused(r) = verdict {
-        return Queried::Refused(r);
-    }
+    judge::judge_query(catalog, cache, p, pm, work.len(), hits.len())?;
     buffer::clean_all(cache);
     search::answer(catalog, cache, p, pm, work, hits)
 }

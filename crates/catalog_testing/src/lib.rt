@@ -9,50 +9,137 @@
 // of the bases are written, the others repeat them (two digits), 74 how many bases there are and 78 how many mates (three), 82 the sum of catalog
 // and cache, 93 that of the hits (ten). Letters: `A` add, `R` remove, `Q` query. `N` empties the buffer. `S` sets byte d of the buffer to the value of
 // column 23, `B` too, uncounted. `G` ends a group: its counts are written behind its name, which stands in column 5, its length in column 2.
-// Remarks begin with `#`. The answer is a number of `testing::answer`: a refusal; for an accepted add two numbers, the arcs of its molecule and the
-// depth; 0 for an accepted remove; for an accepted query two numbers, the count and how many molecules were searched.
+// Remarks begin with `#`. The answer is in column 35 a refusal's row, 37 its side and 38 its place; or in column 33 a 1 and behind it two numbers: for an
+// accepted add the arcs of its molecule and the depth, for an accepted query the count and how many molecules were searched; or zeros for an accepted remove.
 //
 // The buffer begins with 513 blocks of the catalog and 65 of the cache, one more than a call may have.
 #![tactic(auto)]
 
+pub mod counts;
+pub mod image;
 pub mod lines;
-pub mod requests;
-pub mod tell;
 
-use lines::Request;
+use counts::{Counts, Kind};
+use image::Image;
+use lines::{Answer, Call, Command, Sizes};
+use std::alloc::{AllocError, Global};
 use std::io;
-use testing::answer::{NOTHING, WRONG};
-use testing::input::number;
-use testing::output::say;
-use testing::slices::{clear, set_byte};
+use testing::lent::Lent;
+use testing::slices::sum;
+use testing::strands::Strand;
 
-// The answer r of the call of a line, held to the line, which is written where it is wrong.
-pub fn held<P: Print>(out: &P, c: Request, line: &[u8], s: &[u8], r: usize) -> io::Result<usize> {
-    if requests::right(c, line, s, r) {
-        return Ok(r);
+// The bytes of a line, with its end.
+pub const LINE: usize = 104;
+
+// What slices are filled with before a call.
+pub const FILL: u16 = 1799;
+
+const WORK_ROOM: usize = 12000;
+
+const HITS_ROOM: usize = 512;
+
+// What the lines act on, and the counts of a group.
+#[derive(Debug, Drop)]
+pub struct Bench {
+    pub image: Image,
+    pub work: Lent,
+    hits: Lent,
+    pub counts: Counts,
+}
+
+impl Bench {
+    // A bench with so many motif blocks behind the cache.
+    pub fn new(alloc: Global, bank: u8) -> Result<Bench, AllocError> {
+        Ok(Bench {
+            image: Image::new(alloc, bank)?,
+            work: Lent::new(alloc, FILL, WORK_ROOM)?,
+            hits: Lent::new(alloc, FILL, HITS_ROOM)?,
+            counts: Counts::default(),
+        })
     }
-    say(out, line)?;
-    Ok(WRONG)
-}
 
-fn answer<P: Print>(out: &P, line: &[u8], kind: u8, s: &mut [u8]) -> io::Result<usize> {
-    let c = lines::call(line, kind);
-    let r = requests::made(c, line, s);
-    held(out, c, line, s, r)
-}
+    // There is so much of catalog, work and hits as a call asks for.
+    fn has_room(&self, call: Call, sizes: Sizes) -> bool {
+        match call {
+            Call::Query => !self.work.is_short() && !self.hits.is_short(),
+            _ => self.image.has_catalog(sizes),
+        }
+    }
 
-// Acts on a line; the number that is counted.
-pub fn act<P: Print>(out: &P, line: &[u8], kind: u8, s: &mut [u8]) -> io::Result<usize> {
-    match kind {
-        b'A' | b'R' | b'Q' => answer(out, line, kind, s),
-        b'S' | b'B' => {
-            set_byte(s, number(line, 2, 7), number(line, 23, 5));
-            Ok(tell::byte_set(kind))
+    // Makes a call; its answer, None where its line asks for more than there is room.
+    fn made(&mut self, call: Call, sizes: Sizes, strand: &Strand) -> Option<Answer> {
+        let Strand { bases, mates } = strand;
+        if !self.has_room(call, sizes) {
+            return None;
         }
-        b'N' => {
-            clear(s);
-            Ok(NOTHING)
+        let (catalog, cache) = self.image.lend(sizes)?;
+        Some(match call {
+            Call::Add(d) => Answer::of_add(catalog::add(catalog, cache, d, bases, mates)),
+            Call::Remove(d) => Answer::of_remove(catalog::remove(catalog, cache, d)),
+            Call::Query => Answer::of_query(catalog::query(
+                catalog,
+                cache,
+                bases,
+                mates,
+                self.work.part(),
+                self.hits.part(),
+            )),
+        })
+    }
+
+    // The call of a line, held to it.
+    fn ask<R: Print + AllocGlobal>(&mut self, rt: &R, line: &[u8], call: Call) -> io::Result<()> {
+        let sizes = Sizes::of(line);
+        self.work.begin(sizes.work);
+        self.hits.begin(sizes.hits);
+        let answer = self.made(call, sizes, &lines::strand(rt.alloc(), line)?);
+        let (kind, right) = match call {
+            Call::Query => (Kind::Query, self.hold(line, answer, &self.hits)),
+            _ => (Kind::Update, true),
+        };
+        self.judge(rt, line, kind, answer, right)
+    }
+
+    // The hits are those of the model, and a refused call left the work slice alone.
+    pub fn hold(&self, line: &[u8], answer: Option<Answer>, hits: &Lent) -> bool {
+        let refused = matches!(answer, Some(Answer::Refused(_)));
+        lines::is_sum(line, 93..103, sum(hits.entries())) && (!refused || self.work.kept_behind(0))
+    }
+
+    // Counts an answer, and writes its line where it is wrong: where it or what it left in the image or in other slices is not that of the model.
+    pub fn judge<P: Print>(
+        &mut self,
+        out: &P,
+        line: &[u8],
+        kind: Kind,
+        answer: Option<Answer>,
+        slices_right: bool,
+    ) -> io::Result<()> {
+        let image_right = lines::is_sum(line, 82..92, self.image.sum(Sizes::of(line)));
+        match answer {
+            Some(answer) if slices_right && image_right && answer == Answer::of(line) => {
+                self.counts.count(kind, answer);
+                Ok(())
+            }
+            _ => {
+                self.counts.wrong += 1;
+                out.write_all(line)
+            }
         }
-        _ => Ok(NOTHING),
+    }
+
+    // Acts on a line.
+    pub fn act<R: Print + AllocGlobal>(&mut self, rt: &R, line: &[u8]) -> io::Result<()> {
+        match Command::of(line) {
+            Some(Command::Ask(call)) => self.ask(rt, line, call)?,
+            Some(Command::SetByte(i, x)) => {
+                self.counts.bytes += 1;
+                self.image.set_byte(i, x);
+            }
+            Some(Command::SetByteUncounted(i, x)) => self.image.set_byte(i, x),
+            Some(Command::Empty) => self.image.clear(),
+            None => {}
+        }
+        Ok(())
     }
 }

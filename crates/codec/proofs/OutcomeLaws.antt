@@ -6,6 +6,7 @@ use Prim.Native.Nat.{ℕ, ◌<◌, ◌≤◌}
 use native.Mathlib.Omega.{arith}
 use borrow.Author.Tests.{eq-eqb, ne_eqb, eqb-true, le-leb, lt-leb, leb-true}
 use lib.ListN.{length, drop}
+use Rattle.std.specs.Prelude.{Option, Some, None}
 use lib.Dec.{eqb, leb}
 use Rattle.lists.specs.Vocabulary.{choose}
 use Rattle.strand.specs.Strands.{Strand, strand_of}
@@ -127,15 +128,15 @@ module _ (s : List ℕ) (b m : ℕ) where
       (eqb-true (length s) 512 z.0, leb-true (length_in s) 160 z.1, leb-true (length_in s) b y.1, leb-true (length_in s) m x.1)
 
 module _ (s bases mates : List ℕ) where
-  pub decoded_not : decodes s (length bases) (length mates) ≡ false → decoded 0 bases mates ≡ molecule_decoded s bases mates
+  pub decoded_not : decodes s (length bases) (length mates) ≡ false → decoded None bases mates ≡ molecule_decoded s bases mates
   unfolding molecule_decoded
   decoded_not e = sym (choose_no _ _ _ e)
 
-  decoded_eq : {r r' : ℕ} {x x' y y' : List ℕ} → r ≡ r' → x ≡ x' → y ≡ y' → decoded r x y ≡ decoded r' x' y'
-  decoded_eq er ex ey = λ i. record { count = er i; bases = ex i; mates = ey i }
+  decoded_eq : {r r' : ℕ} {x x' y y' : List ℕ} → r ≡ r' → x ≡ x' → y ≡ y' → decoded (Some r) x y ≡ decoded (Some r') x' y'
+  decoded_eq er ex ey = λ i. record { count = Some (er i); bases = ex i; mates = ey i }
 
   pub decoded_done : (r : ℕ) (x y : List ℕ) → decodes s (length bases) (length mates) ≡ true → r ≡ length_in s
-      → x ≡ (molecule_in s).bases ++ drop r bases → y ≡ (molecule_in s).mates ++ drop r mates → decoded r x y ≡ molecule_decoded s bases mates
+      → x ≡ (molecule_in s).bases ++ drop r bases → y ≡ (molecule_in s).mates ++ drop r mates → decoded (Some r) x y ≡ molecule_decoded s bases mates
   unfolding molecule_decoded laid_over choose
   decoded_done r x y e er ex ey =
       let f = decodes_all s (length bases) (length mates) e in
@@ -143,24 +144,41 @@ module _ (s bases mates : List ℕ) where
       rw e (decoded_eq k (ex ∙ ap (λ (n : ℕ). (molecule_in s).bases ++ drop n bases) k) (ey ∙ ap (λ (n : ℕ). (molecule_in s).mates ++ drop n mates) k))
 
   -- A block of at most 160 bases is decoded into slices of 160 places.
-  pub laid_there : (r : ℕ) (x y : List ℕ) → length s ≡ 512 → length_in s ≤ 160 → 160 ≤ length bases → 160 ≤ length mates
-      → decoded r x y ≡ molecule_decoded s bases mates
-      → (r ≡ length (molecule_in s).bases) × (x ≡ (molecule_in s).bases ++ drop r bases) × (y ≡ (molecule_in s).mates ++ drop r mates)
-  unfolding molecule_decoded laid_over decodes choose
-  laid_there r x y size n hb hm q =
-      let p = rw (
+  laid_in : (r : Option ℕ) (x y : List ℕ) → length s ≡ 512 → length_in s ≤ 160 → 160 ≤ length bases → 160 ≤ length mates
+      → decoded r x y ≡ molecule_decoded s bases mates → decoded r x y ≡ laid_over (molecule_in s) bases mates
+  unfolding molecule_decoded decodes choose
+  laid_in r x y size n hb hm q =
+      rw (
         eq-eqb (length s) 512 size,
         le-leb (length_in s) 160 n,
         le-leb (length_in s) (length bases) (omega arith),
         le-leb (length_in s) (length mates) (omega arith),
-      ) at q in
-      let k : r ≡ length (molecule_in s).bases = ap (λ (w : Decoded). w.count) p in (
+      ) at q
+
+  pub laid_some : (r : Option ℕ) (x y : List ℕ) → length s ≡ 512 → length_in s ≤ 160 → 160 ≤ length bases → 160 ≤ length mates
+      → decoded r x y ≡ molecule_decoded s bases mates → r ≡ Some (length (molecule_in s).bases)
+  unfolding laid_over
+  laid_some r x y size n hb hm q = ap (λ (w : Decoded). w.count) (laid_in r x y size n hb hm q)
+
+  pub laid_there : (r : ℕ) (x y : List ℕ) → length s ≡ 512 → length_in s ≤ 160 → 160 ≤ length bases → 160 ≤ length mates
+      → decoded (Some r) x y ≡ molecule_decoded s bases mates
+      → (r ≡ length (molecule_in s).bases) × (x ≡ (molecule_in s).bases ++ drop r bases) × (y ≡ (molecule_in s).mates ++ drop r mates)
+  unfolding laid_over
+  laid_there r x y size n hb hm q =
+      let p = laid_in (Some r) x y size n hb hm q in
+      let some : Some r ≡ Some (length (molecule_in s).bases) = ap (λ (w : Decoded). w.count) p in
+      let k : r ≡ length (molecule_in s).bases = cc in (
         k,
         ap (λ (w : Decoded). w.bases) p ∙ ap (λ (n : ℕ). (molecule_in s).bases ++ drop n bases) (sym k),
         ap (λ (w : Decoded). w.mates) p ∙ ap (λ (n : ℕ). (molecule_in s).mates ++ drop n mates) (sym k),
       )
 
-  pub decoded_there : (r : ℕ) (x y : List ℕ) → sound_molecule s ≡ true → 160 ≤ length bases → 160 ≤ length mates → decoded r x y
+  -- The same of a sound block of a catalog.
+  pub decoded_some : (r : Option ℕ) (x y : List ℕ) → sound_molecule s ≡ true → 160 ≤ length bases → 160 ≤ length mates
+      → decoded r x y ≡ molecule_decoded s bases mates → r ≡ Some (length (molecule_in s).bases)
+  decoded_some r x y ok hb hm q = laid_some r x y (molecule_size s ok) (molecule_fits s ok) hb hm q
+
+  pub decoded_there : (r : ℕ) (x y : List ℕ) → sound_molecule s ≡ true → 160 ≤ length bases → 160 ≤ length mates → decoded (Some r) x y
       ≡ molecule_decoded s bases mates
       → (r ≡ length (molecule_in s).bases) × (x ≡ (molecule_in s).bases ++ drop r bases) × (y ≡ (molecule_in s).mates ++ drop r mates)
   decoded_there r x y ok hb hm q = laid_there r x y (molecule_size s ok) (molecule_fits s ok) hb hm q
@@ -173,7 +191,13 @@ module _ (s bases mates : List ℕ) where
   motif_decoded_lem = refl
 
   -- A block that holds a motif is decoded into slices of 160 places.
-  pub motif_there : (r : ℕ) (x y : List ℕ) → sound_motif s ≡ true → 160 ≤ length bases → 160 ≤ length mates → decoded r x y ≡ motif_decoded s bases mates
+  pub motif_some : (r : Option ℕ) (x y : List ℕ) → sound_motif s ≡ true → 160 ≤ length bases → 160 ≤ length mates
+      → decoded r x y ≡ motif_decoded s bases mates → r ≡ Some (length (motif_handed_in s).bases)
+  unfolding molecule_in motif_handed_in strand_in
+  motif_some r x y ok hb hm q = laid_some s bases mates r x y (motif_size s ok) (motif_fits s ok) hb hm (q ∙ sym motif_decoded_lem)
+
+  pub motif_there : (r : ℕ) (x y : List ℕ) → sound_motif s ≡ true → 160 ≤ length bases → 160 ≤ length mates
+      → decoded (Some r) x y ≡ motif_decoded s bases mates
       → (r ≡ length (motif_handed_in s).bases) × (x ≡ (motif_handed_in s).bases ++ drop r bases) × (y ≡ (motif_handed_in s).mates ++ drop r mates)
   unfolding molecule_in motif_handed_in strand_in
   motif_there r x y ok hb hm q =

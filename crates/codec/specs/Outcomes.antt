@@ -1,6 +1,5 @@
--- What the writers, the decoders and the motif test answer and leave, for any input: where something does not fit no byte changes, and the answer says so; 0
--- of `motif_decoded` has a second meaning, said there.
-use Rattle.std.specs.Prelude.{ℕ, List, [], ◌++◌, Bool, ◌&&◌, length, drop, eqb, leb}
+-- What the writers, the decoders and the motif test answer and leave, for any input: where something does not fit no byte changes, and the answer says so.
+use Rattle.std.specs.Prelude.{ℕ, List, [], ◌++◌, Bool, ◌&&◌, Option, Some, None, length, drop, eqb, leb}
 use Rattle.lists.specs.Vocabulary.{choose}
 use Rattle.strand.specs.Strands.{Strand, strand_of}
 use Rattle.block.specs.Content.{block_size, block_bases, molecule_kind, entry_kind, length_in, molecule_in, keeps_motif, entry_with, encode_molecule}
@@ -36,32 +35,32 @@ entry_wrote s bases mates searched hits =
 
 -- ---- the decoder
 
--- How many bases, and what the slices for bases and for mates hold then.
+-- How many bases, where there is a strand, and what the slices for bases and for mates hold then.
 pub record Decoded : Type 0 where
-  pub count : ℕ
+  pub count : Option ℕ
   pub bases : List ℕ
   pub mates : List ℕ
 
-abbrev pub decoded : ℕ → List ℕ → List ℕ → Decoded
+abbrev pub decoded : Option ℕ → List ℕ → List ℕ → Decoded
 decoded n bases mates = record { count = n; bases = bases; mates = mates }
 
 -- A strand laid over the start of the slices.
 unfoldable pub laid_over : Strand → List ℕ → List ℕ → Decoded
-laid_over q bases mates = decoded (length q.bases) (q.bases ++ drop (length q.bases) bases) (q.mates ++ drop (length q.bases) mates)
+laid_over q bases mates = decoded (Some (length q.bases)) (q.bases ++ drop (length q.bases) bases) (q.mates ++ drop (length q.bases) mates)
 
 -- s is of one block's length, its length byte is within the limit, and the slices have so many places.
 unfoldable pub decodes : List ℕ → ℕ → ℕ → Bool
 decodes s bases mates = eqb (length s) block_size && leb (length_in s) block_bases && leb (length_in s) bases && leb (length_in s) mates
 
--- The molecule of s; 0, and the slices as they were, where it cannot be decoded.
+-- The molecule of s; None, and the slices as they were, where it cannot be decoded.
 unfoldable pub molecule_decoded : List ℕ → List ℕ → List ℕ → Decoded
 molecule_decoded s bases mates =
-    choose (decodes s (length bases) (length mates)) (laid_over (molecule_in s) bases mates) (decoded 0 bases mates)
+    choose (decodes s (length bases) (length mates)) (laid_over (molecule_in s) bases mates) (decoded None bases mates)
 
--- The same of the motif of a block handed in as one. 0 is also the answer for the motif with no bases: callers ask `holds_motif` first.
+-- The same of the motif of a block handed in as one.
 unfoldable pub motif_decoded : List ℕ → List ℕ → List ℕ → Decoded
 motif_decoded s bases mates =
-    choose (decodes s (length bases) (length mates)) (laid_over (motif_handed_in s) bases mates) (decoded 0 bases mates)
+    choose (decodes s (length bases) (length mates)) (laid_over (motif_handed_in s) bases mates) (decoded None bases mates)
 
 -- ---- the motif test
 

@@ -5,7 +5,7 @@ ghost use Rattle.block.specs.Content.{block_size, entry_bases, length_in, motif_
 ghost use Rattle.block.specs.Block.{cleaned, forgot};
 ghost use Rattle.codec.specs.Outcomes.{entry_keeps, wrote, entry_wrote};
 
-use block::layout;
+use block::{kind, layout};
 
 // Whether the motif of an entry is this one: its bases, and its mates as they lie in the block.
 fn keeps_motif(s: &[u8], bases: &[u8], mates: &[u16]) -> bool
@@ -14,7 +14,7 @@ fn keeps_motif(s: &[u8], bases: &[u8], mates: &[u16]) -> bool
 {
     let n = s[1] as usize;
     let e = layout::ENTRY_START + n;
-    if !octets::scan::same_bytes(&s[layout::ENTRY_START..e], bases) {
+    if &s[layout::ENTRY_START..e] != bases {
         return false;
     }
     if mates.len() != n {
@@ -69,17 +69,9 @@ pub fn encode_entry(s: &mut [u8], bases: &[u8], mates: &[u16], searched: &[u8], 
     if hits.len() != layout::MAP_SIZE {
         return false;
     }
-    crate::parts::put_content(
-        s,
-        layout::ENTRY_MARK,
-        layout::ENTRY_START,
-        layout::ENTRY_BASES,
-        b"",
-        bases,
-        mates,
-    );
-    octets::scan::copy(searched, &mut s[layout::SEARCHED_AT..layout::HIT_AT]);
-    octets::scan::copy(hits, &mut s[layout::HIT_AT..layout::CHECKSUM_AT]);
+    crate::parts::put_content(s, &kind::ENTRY, bases, mates);
+    s[layout::SEARCHED_AT..layout::HIT_AT].copy_from_slice(searched);
+    s[layout::HIT_AT..layout::CHECKSUM_AT].copy_from_slice(hits);
     block::checksum::put_checksum(s);
     true
 }
@@ -89,7 +81,7 @@ pub fn clean(s: &mut [u8])
     ensures { s.new ≡ cleaned s.old }
 {
     if !block::sound::sound_entry(s) {
-        octets::scan::zero(s);
+        s.fill(0);
     }
 }
 

@@ -1,10 +1,10 @@
 // A molecule block, encoded into a borrowed block and decoded into borrowed slices; a block handed in as a motif, decoded.
-ghost use Rattle.std.specs.Prelude.{◌≡◌, ◌+◌, ◌*◌, ◌≤◌, ◌++◌, length, drop};
-ghost use Rattle.lists.specs.Vocabulary.{between};
-ghost use Rattle.octets.specs.Octets.{words};
-ghost use Rattle.block.specs.Content.{block_size, checksum_at, length_in};
+ghost use Rattle.std.specs.Prelude.{◌≡◌, ◌≤◌, ◌++◌, length, drop};
+ghost use Rattle.block.specs.Content.{block_size, length_in, strand_in};
+ghost use Rattle.block.specs.Inner.{kind_of};
 ghost use Rattle.codec.specs.Outcomes.{wrote, molecule_wrote, decoded, decodes, molecule_decoded, motif_decoded};
 
+use block::kind::{self, Kind};
 use block::layout;
 
 // Write the block of a molecule of at most 160 bases. False, and nothing written, where s is not one block or the molecule does not fit.
@@ -14,30 +14,23 @@ pub fn encode_molecule(s: &mut [u8], bases: &[u8], mates: &[u16]) -> bool
     if !crate::parts::strand_fits(s.len(), layout::BLOCK_BASES, bases.len(), mates.len()) {
         return false;
     }
-    crate::parts::put_content(
-        s,
-        layout::MOLECULE_MARK,
-        layout::MOLECULE_START,
-        layout::BLOCK_BASES,
-        b"",
-        bases,
-        mates,
-    );
+    crate::parts::put_content(s, &kind::MOLECULE, bases, mates);
     block::checksum::put_checksum(s);
     true
 }
 
-// The bases and mates of a block into the start of the borrowed slices; how many there are. `decode_molecule` meets the requires.
-fn decode(s: &[u8], start: usize, most: usize, bases: &mut [u8], mates: &mut [u16]) -> usize
-    requires { (length s.now ≡ block_size) × (start + 3 * most ≤ checksum_at) × (length_in s.now ≤ most) × (length_in s.now ≤ length bases.old)
+// The bases and mates of a block of the kind into the start of the borrowed slices; how many there are. `decode_molecule` meets the requires.
+#[tactic(auto, unfolding(block::specs::Content::strand_in))]
+fn decode(s: &[u8], kind: &Kind, bases: &mut [u8], mates: &mut [u16]) -> usize
+    requires { (length s.now ≡ block_size) × (length_in s.now ≤ kind.now.most) × (length_in s.now ≤ length bases.old)
         × (length_in s.now ≤ length mates.old) }
-    ensures { (result ≡ length_in s.now) × (bases.new ≡ between start (start + length_in s.now) s.now ++ drop result bases.old)
-        × (mates.new ≡ words (length_in s.now) (drop (start + most) s.now) ++ drop result mates.old) }
+    ensures { (result ≡ length_in s.now) × (bases.new ≡ (strand_in (kind_of kind.now) s.now).bases ++ drop result bases.old)
+        × (mates.new ≡ (strand_in (kind_of kind.now) s.now).mates ++ drop result mates.old) }
 {
     let n = s[1] as usize;
-    let e = start + n;
-    let f = start + most;
-    octets::scan::copy(&s[start..e], &mut bases[..n]);
+    let e = kind.start + n;
+    let f = kind.start + kind.most;
+    bases[..n].copy_from_slice(&s[kind.start..e]);
     octets::scan::read_words(&s[f..], &mut mates[..n]);
     n
 }
@@ -60,19 +53,19 @@ fn can_decode(s: &[u8], bases: usize, mates: usize) -> bool
     n <= mates
 }
 
-// The molecule of a block into the start of the borrowed slices; how many bases it has. 0, and nothing written, where s can be no block or
+// The molecule of a block into the start of the borrowed slices; how many bases it has. None, and nothing written, where s can be no block or
 // a slice is too short. Soundness is not tested again: query decodes a block after the soundness pass.
-pub fn decode_molecule(s: &[u8], bases: &mut [u8], mates: &mut [u16]) -> usize
+pub fn decode_molecule(s: &[u8], bases: &mut [u8], mates: &mut [u16]) -> Option<usize>
     ensures { decoded result bases.new mates.new ≡ molecule_decoded s.now bases.old mates.old }
 {
     if !can_decode(s, bases.len(), mates.len()) {
-        return 0;
+        return None;
     }
-    decode(s, layout::MOLECULE_START, layout::BLOCK_BASES, bases, mates)
+    Some(decode(s, &kind::MOLECULE, bases, mates))
 }
 
-// The same for the motif of a block handed in as one, which is laid out alike (of the answer 0 see `motif_decoded`).
-pub fn decode_motif(s: &[u8], bases: &mut [u8], mates: &mut [u16]) -> usize
+// The same for the motif of a block handed in as one, which is laid out alike.
+pub fn decode_motif(s: &[u8], bases: &mut [u8], mates: &mut [u16]) -> Option<usize>
     ensures { decoded result bases.new mates.new ≡ motif_decoded s.now bases.old mates.old }
 {
     decode_molecule(s, bases, mates)

@@ -4,17 +4,11 @@ use mathlib.Core.Path.{◌≡◌, sym, ap, ◌∙◌}
 use mathlib.Core.List.{List}
 use lib.ListN.{length as len}
 use Rattle.refusals.specs.Rules.{WorkKept}
-use Rattle.strand.specs.Strands.{Strand, check_answer}
-use Rattle.strand.specs.declared.Checked.{Checked}
-use Rattle.embedding.specs.Longest.{verify_answer, embeds}
-use Rattle.embedding.specs.declared.Verified.{Verified}
-use Rattle.matcher.specs.Answers.{length_verdict, length_answer, show_verdict, show_answer, PlacesShown}
-use Rattle.matcher.specs.declared.Matched.{Matched}
-use Rattle.window.specs.Answers.{window_answer}
-use Rattle.window.specs.declared.Windowed.{Windowed}
-use Rattle.calls.specs.declared.Added.{Added}
-use Rattle.calls.specs.declared.Removed.{Removed}
-use Rattle.calls.specs.declared.Queried.{Queried}
+use Rattle.strand.specs.Strands.{Strand, Checked, check_answer}
+use Rattle.embedding.specs.Longest.{VerifyAnswer, verify_answer, embeds}
+use Rattle.matcher.specs.Answers.{Matched, length_verdict, length_answer, show_verdict, show_answer, PlacesShown}
+use Rattle.window.specs.Answers.{Windowed, window_answer}
+use Rattle.calls.specs.Answers.{Added, Removed, Queried}
 use Rattle.calls.specs.declared.Batched.{Batched}
 use Rattle.calls.specs.Calls.{Effect, effect, add_outcome, remove_outcome, QueryEffect, queried, query_verdict, query_outcome}
 use Rattle.calls.specs.Batch.{BatchEffect, batched, batch_verdict, batch_outcome}
@@ -47,7 +41,7 @@ show_tied p pm q qm places work r places' work' e shown kept =
       work_kept = kept;
     }
 
-pub verify_tied : (p pm q qm v : List ℕ) (r : Verified) → r ≡ verify_answer p pm q qm v → VerifyMeets p pm q qm v r
+pub verify_tied : (p pm q qm v : List ℕ) (r : VerifyAnswer) → r ≡ verify_answer p pm q qm v → VerifyMeets p pm q qm v r
 verify_tied p pm q qm v r e =
     record { refuses = rw e (demands.any_input.verify p pm q qm v); says = rw e (demands.right_answer.verify p pm q qm v) }
 

@@ -3,28 +3,20 @@
 -- definition gives: the places that show writes, and the work slices (1.10, 2.5). p, pm are the bases and mates of the motif P, q, qm those of the molecule Q;
 -- in add and query q and p are whole strands, and a batch has its motifs as blocks of `motifs`. Blocks have their own statements (crate block), so have the
 -- screen program (screening) and the examples (examples).
-use Rattle.std.specs.Prelude.{ℕ, ◌≡◌, true, List, length as len}
+use Rattle.std.specs.Prelude.{ℕ, ◌≡◌, true, List, length as len, Ok, Err}
 use Rattle.lists.specs.Vocabulary.{nth}
 use Rattle.refusals.specs.Rules.{Refuses, RefusesBy, BatchNumbered, Keeps}
-use Rattle.refusals.specs.declared.Verdict.TheVariants.{Accepted}
+use Rattle.refusals.specs.declared.Side.{Side}
 use Rattle.letters.specs.Letters.{letters_match, ReadAlike}
 use Rattle.letters.specs.Statements.{LetterSays, MatchSays}
 use Rattle.strand.specs.Strands.{Strand, Inside, check_verdict, check_answer, CheckAccepts, CheckSays}
-use Rattle.strand.specs.declared.Checked.TheVariants as checks
 use Rattle.embedding.specs.Embedding.{EmbedsIn}
 use Rattle.embedding.specs.Windows.{WindowsSay}
 use Rattle.embedding.specs.Longest.{verify_verdict, verify_answer, VerifySays, VerifyAccepts, EmptyMotifVerified, embeds}
-use Rattle.embedding.specs.declared.Verified.TheVariants as verifies
 use Rattle.matcher.specs.Answers.{length_verdict, length_answer, show_verdict, show_answer, PrefixSays, WholeSays, LengthAccepts, ShowAccepts}
 use Rattle.matcher.specs.Answers.{EmptyMotifMatched}
-use Rattle.matcher.specs.declared.Matched.TheVariants as matches
 use Rattle.window.specs.Answers.{window_answer, WindowSays, EmptyMotifWindowed}
-use Rattle.window.specs.declared.Windowed.TheVariants as windows
 use Rattle.block.specs.Block.{block_count}
-use Rattle.calls.specs.declared.Added.TheVariants as adds
-use Rattle.calls.specs.declared.Removed.TheVariants as removes
-use Rattle.calls.specs.declared.Queried.TheVariants as queries
-use Rattle.calls.specs.declared.BatchRead.TheVariants as batches
 use Rattle.calls.specs.Calls.{add_verdict, add_outcome, remove_verdict, remove_outcome, query_verdict, query_outcome, AddAccepts, RemoveAccepts}
 use Rattle.calls.specs.Calls.{AddSays, QueryAccepts}
 use Rattle.calls.specs.Batch.{batch_verdict, batch_outcome}
@@ -35,16 +27,16 @@ use Rattle.history.specs.Statements.{EmptyMotifListsHeld, SpellingsHitAlike}
 
 -- Demand 1, any input: whichever buffers a caller hands over, a call gives an answer or a numbered refusal, and a refusal changes no byte.
 pub record AnyInput : Type 0 where
-  -- 1.1 to 1.4: the call answers Refused r exactly where its rules come to r, and r is a refusal of the table
-  pub check : (bases mates : List ℕ) → Refuses (check_verdict bases mates) checks.Refused (check_answer bases mates)
-  pub length : (p pm q qm : List ℕ) (work : ℕ) → Refuses (length_verdict p pm q qm work) matches.Refused (length_answer p pm q qm work)
-  pub show : (p pm q qm : List ℕ) (places work : ℕ) → Refuses (show_verdict p pm q qm places work) matches.Refused (show_answer p pm q qm places work)
-  pub verify : (p pm q qm v : List ℕ) → Refuses (verify_verdict p pm q qm v) verifies.Refused (verify_answer p pm q qm v)
+  -- 1.1 to 1.4: the call answers Err r exactly where its rules come to r, and r is a refusal of the table
+  pub check : (bases mates : List ℕ) → Refuses (check_verdict bases mates) Err (check_answer bases mates)
+  pub length : (p pm q qm : List ℕ) (work : ℕ) → Refuses (length_verdict p pm q qm work) Err (length_answer p pm q qm work)
+  pub show : (p pm q qm : List ℕ) (places work : ℕ) → Refuses (show_verdict p pm q qm places work) Err (show_answer p pm q qm places work)
+  pub verify : (p pm q qm v : List ℕ) → Refuses (verify_verdict p pm q qm v) Err (verify_answer p pm q qm v)
   -- 1.5 to 1.7: the same of add, remove and query; the reference model of demand 3 has the same rules
-  pub add : (catalog cache : List ℕ) (d : ℕ) (q : Strand) → Refuses (add_verdict catalog cache d q) adds.Refused (add_outcome catalog cache d q).answer
-  pub remove : (catalog cache : List ℕ) (d : ℕ) → Refuses (remove_verdict catalog cache d) removes.Refused (remove_outcome catalog cache d).answer
+  pub add : (catalog cache : List ℕ) (d : ℕ) (q : Strand) → Refuses (add_verdict catalog cache d q) Err (add_outcome catalog cache d q).answer
+  pub remove : (catalog cache : List ℕ) (d : ℕ) → Refuses (remove_verdict catalog cache d) Err (remove_outcome catalog cache d).answer
   pub query : (catalog cache : List ℕ) (p : Strand) (work : ℕ) (hits : List ℕ)
-      → Refuses (query_verdict catalog cache p work (len hits)) queries.Refused (query_outcome embeds catalog cache p work hits).answer
+      → Refuses (query_verdict catalog cache p work (len hits)) Err (query_outcome embeds catalog cache p work hits).answer
   -- 1.8: a call is accepted exactly where no row of the table applies
   pub check_accepts : (bases mates : List ℕ) → CheckAccepts bases mates
   pub length_accepts : (p pm q qm : List ℕ) (work : ℕ) → LengthAccepts p pm q qm work
@@ -56,21 +48,21 @@ pub record AnyInput : Type 0 where
   pub batch_accepts : (catalog cache motifs : List ℕ) (work room : ℕ) → BatchAccepts catalog cache motifs work room
   -- 1.9: a refusing add or remove leaves catalog and cache as they were, a refusing query or batch cache and hits (it only reads the catalog, and the motifs)
   pub add_keeps : (catalog cache : List ℕ) (d : ℕ) (q : Strand)
-      → Keeps adds.Refused (add_outcome catalog cache d q).answer catalog cache (add_outcome catalog cache d q).catalog (add_outcome catalog cache d q).cache
+      → Keeps Err (add_outcome catalog cache d q).answer catalog cache (add_outcome catalog cache d q).catalog (add_outcome catalog cache d q).cache
   pub remove_keeps : (catalog cache : List ℕ) (d : ℕ)
-      → Keeps removes.Refused (remove_outcome catalog cache d).answer catalog cache
+      → Keeps Err (remove_outcome catalog cache d).answer catalog cache
       (remove_outcome catalog cache d).catalog (remove_outcome catalog cache d).cache
   pub query_keeps : (catalog cache : List ℕ) (p : Strand) (work : ℕ) (hits : List ℕ)
-      → Keeps queries.Refused (query_outcome embeds catalog cache p work hits).answer cache hits
+      → Keeps Err (query_outcome embeds catalog cache p work hits).answer cache hits
       (query_outcome embeds catalog cache p work hits).cache (query_outcome embeds catalog cache p work hits).hits
   pub batch_keeps : (catalog cache motifs : List ℕ) (work : ℕ) (hits : List ℕ)
-      → Keeps batches.Refused (batch_outcome embeds catalog motifs work cache hits).answer.read cache hits
+      → Keeps Err (batch_outcome embeds catalog motifs work cache hits).answer.read cache hits
       (batch_outcome embeds catalog motifs work cache hits).cache (batch_outcome embeds catalog motifs work cache hits).hits
   -- 1.11: window refuses just what length refuses, with the same refusal; so `length_accepts` says when it is accepted
-  pub window : (p pm q qm : List ℕ) (work : ℕ) → Refuses (length_verdict p pm q qm work) windows.Refused (window_answer p pm q qm work)
+  pub window : (p pm q qm : List ℕ) (work : ℕ) → Refuses (length_verdict p pm q qm work) Err (window_answer p pm q qm work)
   -- 1.12: the same of batch; beside the refusals of the other calls it has two of its motif buffer: 15, and 3 with the place of a motif
   pub batch : (catalog cache motifs : List ℕ) (work : ℕ) (hits : List ℕ)
-      → RefusesBy BatchNumbered (batch_verdict catalog cache motifs work (len hits)) batches.Refused
+      → RefusesBy BatchNumbered (batch_verdict catalog cache motifs work (len hits)) Err
       (batch_outcome embeds catalog motifs work cache hits).answer.read
   -- which of them it is: the order of its rules, and the place in the motif buffer
   pub motifs_refuse : (motifs : List ℕ) → MotifsRefuse motifs
@@ -103,14 +95,14 @@ pub record RightAnswer : Type 0 where
   -- searched number and its list, and the cache is as the last leaves it. The number read is that of the molecules that at least one of these queries
   -- would search. A batch of one motif is a query. The first motif of a slot finds there what the cache has; of two motifs in one slot, with no other of that
   -- slot between, the later searches nothing where it is the same motif, else all that is held
-  pub batch : (catalog cache motifs : List ℕ) (work : ℕ) (hits : List ℕ) → batch_verdict catalog cache motifs work (len hits) ≡ Accepted
+  pub batch : (catalog cache motifs : List ℕ) (work : ℕ) (hits : List ℕ) → batch_verdict catalog cache motifs work (len hits) ≡ Ok tt
       → BatchLeaves embeds catalog motifs work cache hits (batch_outcome embeds catalog motifs work cache hits)
-  pub batch_of_one : (catalog cache motifs : List ℕ) (work : ℕ) (hits : List ℕ) → batch_verdict catalog cache motifs work (len hits) ≡ Accepted
+  pub batch_of_one : (catalog cache motifs : List ℕ) (work : ℕ) (hits : List ℕ) → batch_verdict catalog cache motifs work (len hits) ≡ Ok tt
       → block_count motifs ≡ 1 → IsQuery embeds catalog motifs work cache hits (batch_outcome embeds catalog motifs work cache hits)
-  pub batch_shares : (catalog cache motifs : List ℕ) (work : ℕ) (hits : List ℕ) → batch_verdict catalog cache motifs work (len hits) ≡ Accepted
+  pub batch_shares : (catalog cache motifs : List ℕ) (work : ℕ) (hits : List ℕ) → batch_verdict catalog cache motifs work (len hits) ≡ Ok tt
       → SlotsShared embeds catalog motifs work cache hits
   -- 2.11: what a letter is, and when two bases match; two spellings of a motif, and two of a molecule, get the same answers of check and of the direct calls
-  pub letter : (side b : ℕ) → LetterSays side b
+  pub letter : (side : Side) (b : ℕ) → LetterSays side b
   pub match : (x y : ℕ) → MatchSays x y
   pub check_respelled : (q q' qm : List ℕ) → ReadAlike q q' → check_answer q qm ≡ check_answer q' qm
   pub length_respelled : (p pm q qm p' q' : List ℕ) (work : ℕ) → ReadAlike p p' → ReadAlike q q' → length_answer p pm q qm work ≡ length_answer p' pm q' qm work

@@ -5,6 +5,9 @@
 ghost use Rattle.strand.specs.Strands.{strand_of};
 ghost use Rattle.demands.specs.Meets.{CheckMeets, LengthMeets, ShowMeets, VerifyMeets, WindowMeets, AddMeets, RemoveMeets, QueryMeets, BatchMeets};
 
+use embedding::Verified;
+use refusals::Refusal;
+
 pub fn check(bases: &[u8], mates: &[u16]) -> strand::Checked
     ensures { CheckMeets bases.now mates.now result }
 {
@@ -31,7 +34,13 @@ pub fn show(
     matcher::show(p, pm, q, qm, places, work)
 }
 
-pub fn verify(p: &[u8], pm: &[u16], q: &[u8], qm: &[u16], places: &[u16]) -> embedding::Verified
+pub fn verify(
+    p: &[u8],
+    pm: &[u16],
+    q: &[u8],
+    qm: &[u16],
+    places: &[u16],
+) -> Result<Verified, Refusal>
     ensures { VerifyMeets p.now pm.now q.now qm.now places.now result }
 {
     embedding::verify(p, pm, q, qm, places)

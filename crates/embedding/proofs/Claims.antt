@@ -11,9 +11,8 @@ use lib.ListN.{length}
 use borrow.Author.Tests.{eqb-true}
 use Rattle.lists.specs.Vocabulary.{nth, every, largest}
 use Rattle.lists.proofs.ListLaws.{and_left}
-use Rattle.refusals.specs.declared.Verdict.{Verdict}
-use Rattle.refusals.specs.declared.Verdict.TheVariants as verdict
-use Rattle.refusals.specs.Rules.{no_side, wrong_slice, refuse_if, first}
+use Rattle.std.specs.Prelude.{Ok, Err}
+use Rattle.refusals.specs.Rules.{Verdict, no_side, wrong_slice, refuse_if, first}
 use Rattle.refusals.proofs.RuleLaws.{by_accepted, by_refused}
 use Rattle.letters.specs.Letters.{letters_match}
 use Rattle.strand.specs.Strands.{Strand, empty_motif, check_verdict, Inside}
@@ -22,8 +21,8 @@ use Rattle.embedding.specs.Embedding.{ClosedPrefix, IsLongest}
 use Rattle.embedding.specs.Longest.{closed_to, places_ok, longest, verified, verify_verdict, EmptyMotifVerified, embeds}
 use Rattle.embedding.specs.Row.{Closed}
 use Rattle.embedding.specs.Statements.{VerifiedSays, EmptyMotifEmbeds, Claims}
-use Rattle.embedding.proofs.Answers.{not_true_is}
-use Rattle.embedding.proofs.VerifyLaws.{answer_refused, answer_yes, verify_says, verify_accepts, verify_refuses}
+use Rattle.embedding.proofs.Answers.{not_true_is, tells_yes}
+use Rattle.embedding.proofs.VerifyLaws.{answer_refused, answer_accepted, tells_verified, verify_says, verify_accepts, verify_refuses}
 use Rattle.embedding.proofs.Computed.{closed_iff, longest_best, verified_iff}
 use Rattle.embedding.proofs.Tightest.{windows_say}
 use Rattle.embedding.proofs.Spellings.{same_found, not_told_apart, embed_alike, verify_alike}
@@ -100,8 +99,10 @@ empty_motif_verified q qm v = go (verify_verdict [] [] q qm v) refl
     rules = rw ((strand.claims).empty_motif_says.pair q qm)
 
     go : (w : Verdict) → verify_verdict [] [] q qm v ≡ w → EmptyMotifVerified q qm v
-    go (verdict.Refused x) e = sym (answer_refused [] [] q qm v x e) ∙ sym (by_refused _ _ _ x (sym rules ∙ e))
-    go verdict.Accepted e = sym (answer_yes [] [] q qm v e refl ((empty_motif_lem letters_match q qm).embeds (nth v))) ∙ sym (by_accepted _ _ _ (sym rules ∙ e))
+    go (Err x) e = sym (answer_refused [] [] q qm v x e) ∙ sym (by_refused _ _ _ x (sym rules ∙ e))
+    go (Ok u) e =
+        sym (answer_accepted [] [] q qm v e true _ (tells_verified [] [] q qm v e true (tells_yes ((empty_motif_lem letters_match q qm).embeds (nth v)))) refl)
+        ∙ sym (by_accepted _ _ _ (sym rules ∙ e))
 
 empty_motif_test : (q : Strand) → embeds empty_motif q ≡ true
 unfolding embeds longest largest

@@ -12,7 +12,8 @@ use Rattle.lists.specs.Vocabulary.{nth}
 use Rattle.lists.proofs.ListLaws.{Tells}
 use Rattle.embedding.specs.Embedding.{Emb, letters_fit}
 use Rattle.embedding.specs.Places.{Ordered, Lettered, Has, ArcKept, ArcsKept}
-use Rattle.embedding.proofs.Answers.{tells_not}
+use Rattle.std.proofs.Common.{Result, Ok, Err, MatchResult, is_ok}
+use Rattle.embedding.proofs.Answers.{tells_yes, tells_no, tells_not}
 
 -- The first i places rise and are below n.
 pub record OrderedTo (v : List ℕ) (n i : ℕ) : Type 0 where
@@ -99,10 +100,13 @@ module _ (p pm q qm v : List ℕ) (e : length v ≡ length p) where
     pub embed_arcs : ArcsKept pm qm v
     embed_arcs = record { all = λ x a. record { with = λ y b d. E.arcs x y (omega arith) b (omega arith) } }
 
--- A binary search that has come to its end.
-pub has_none : (v : List ℕ) (u lo hi : ℕ) → hi ≤ lo → ((y : ℕ) → y < lo → nth v y < u) → ((y : ℕ) → hi ≤ y → y < length v → u < nth v y)
-    → Has v u → ⊥
-has_none v u lo hi h a b H = elim (dec_lt H.position lo) [
-  | yes l ↦ omega (arith, a H.position l, H.here)
-  | no l ↦ omega (arith, b H.position (omega arith) H.inside, H.here)
-]
+-- What a binary search for the place u answers.
+pub searched_has : (v : List ℕ) (u : ℕ) (r : Result ℕ ℕ)
+    → MatchResult r (λ i. (i < length v) × (nth v i ≡ u))
+    (λ i. (i ≤ length v) × ((k : ℕ) → k < i → nth v k < u) × ((k : ℕ) → i ≤ k → k < length v → u < nth v k))
+    → Tells (is_ok r) (Has v u)
+searched_has v u (Ok i) h = tells_yes (record { position = i; inside = h.0; here = h.1 })
+searched_has v u (Err i) h = tells_no (λ H. elim (dec_lt H.position i) [
+  | yes a ↦ omega (arith, h.1 H.position a, H.here)
+  | no a ↦ omega (arith, h.2 H.position (omega arith) H.inside, H.here)
+])

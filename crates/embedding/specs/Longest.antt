@@ -1,17 +1,15 @@
 -- The length L as brute force, every list of places being tried; the test of given places, and the call verify.
-use Rattle.std.specs.Prelude.{ℕ, Bool, ◌&&◌, not, ◌≡◌, ◌↔◌, List, [], ◌∷◌, ltb, eqb, length}
+use Rattle.std.specs.Prelude.{ℕ, Bool, true, false, Result, Ok, Err, ◌&&◌, not, ◌≡◌, ◌↔◌, List, [], ◌∷◌, ltb, eqb, length}
 use Rattle.std.specs.Bool.{beq}
-use Rattle.lists.specs.Vocabulary.{nth, every, some_list, largest, choose}
+use Rattle.lists.specs.Vocabulary.{nth, every, some_list, largest}
 use Rattle.embedding.specs.Embedding.{fits, letters_fit, Emb}
-use Rattle.refusals.specs.declared.Verdict.{Verdict}
-use Rattle.refusals.specs.declared.Verdict.TheVariants.{Accepted}
-use Rattle.refusals.specs.Rules.{no_side, wrong_slice, refuse_if, first, by_verdict}
+use Rattle.refusals.specs.declared.Refusal.{Refusal}
+use Rattle.refusals.specs.Rules.{Verdict, no_side, wrong_slice, refuse_if, first, by_verdict}
 use Rattle.strand.specs.declared.Fold.{Fold}
 use Rattle.strand.specs.Folds.{fold_of, IsFold}
 use Rattle.letters.specs.Letters.{letters_match}
 use Rattle.strand.specs.Strands.{Strand, check_verdict, pair_verdict, Pair}
 use Rattle.embedding.specs.declared.Verified.{Verified}
-use Rattle.embedding.specs.declared.Verified.TheVariants.{Yes, No, Refused}
 
 -- 01, Embedding: the places v embed the first k bases of P in a Q of n bases. Each y below k: its place is in Q, its letter fits, and for
 -- each x below y the places rise, and x and y are an arc exactly when their places are.
@@ -43,11 +41,21 @@ verified rule pb pm qb qm v = eqb (length v) (length pb) && places_ok (fits rule
 unfoldable pub verify_verdict : List ℕ → List ℕ → List ℕ → List ℕ → List ℕ → Verdict
 verify_verdict p pm q qm v = first (pair_verdict p pm q qm ∷ refuse_if wrong_slice no_side (not (eqb (length v) (length p))) ∷ [])
 
+-- An answer of verify: a refusal, or a yes or no with a fold.
+abbrev pub VerifyAnswer : Type 0
+VerifyAnswer = Result Verified Refusal
+
+abbrev pub says_yes : Fold → VerifyAnswer
+says_yes f = Ok (record { embeds = true; fold = f })
+
+abbrev pub says_no : Fold → VerifyAnswer
+says_no f = Ok (record { embeds = false; fold = f })
+
 -- 01, Verify: unless it is refused, yes exactly when the places are an embedding of the whole P. 02, (i): "the direct calls hand on those of Q", the number of
 -- arcs and the depth, with yes and with no.
-abbrev pub verify_answer : List ℕ → List ℕ → List ℕ → List ℕ → List ℕ → Verified
+abbrev pub verify_answer : List ℕ → List ℕ → List ℕ → List ℕ → List ℕ → VerifyAnswer
 verify_answer p pm q qm v =
-    by_verdict (verify_verdict p pm q qm v) Refused (choose (verified letters_match p pm q qm v) (Yes (fold_of qm)) (No (fold_of qm)))
+    by_verdict (verify_verdict p pm q qm v) Err (Ok (record { embeds = verified letters_match p pm q qm v; fold = fold_of qm }))
 
 -- The lent places are an embedding of the whole P.
 abbrev pub EmbedsAt : List ℕ → List ℕ → List ℕ → List ℕ → List ℕ → Type 0
@@ -55,20 +63,20 @@ EmbedsAt p pm q qm v = Emb (letters_fit p q) (nth pm) (nth qm) 0 (length p) 0 (l
 
 -- 01, Verify: the answer r is yes with f exactly when the call is accepted, "the lent places are an embedding of the whole P" and f is the fold of Q; it is no
 -- with f exactly when the call is accepted, they are none, and f is the fold of Q.
-pub record VerifySays (p pm q qm v : List ℕ) (r : Verified) : Type 0 where
-  pub yes : (f : Fold) → (r ≡ Yes f) ↔ ((verify_verdict p pm q qm v ≡ Accepted) × EmbedsAt p pm q qm v × IsFold qm f)
-  pub no : (f : Fold) → (r ≡ No f) ↔ ((verify_verdict p pm q qm v ≡ Accepted) × (EmbedsAt p pm q qm v → ⊥) × IsFold qm f)
+pub record VerifySays (p pm q qm v : List ℕ) (r : VerifyAnswer) : Type 0 where
+  pub yes : (f : Fold) → (r ≡ says_yes f) ↔ ((verify_verdict p pm q qm v ≡ Ok tt) × EmbedsAt p pm q qm v × IsFold qm f)
+  pub no : (f : Fold) → (r ≡ says_no f) ↔ ((verify_verdict p pm q qm v ≡ Ok tt) × (EmbedsAt p pm q qm v → ⊥) × IsFold qm f)
 
 -- It is accepted exactly where no rule applies.
 abbrev pub VerifyAccepts : List ℕ → List ℕ → List ℕ → List ℕ → List ℕ → Type 0
-VerifyAccepts p pm q qm v = (verify_verdict p pm q qm v ≡ Accepted) ↔ (Pair p pm q qm × (length v ≡ length p))
+VerifyAccepts p pm q qm v = (verify_verdict p pm q qm v ≡ Ok tt) ↔ (Pair p pm q qm × (length v ≡ length p))
 
 -- 02, (iii): "an empty motif embeds in every molecule, with L = 0 and no places". The whole answer of verify for it: it refuses what check refuses of
 -- the molecule, then by 9 any list of places but the empty one; else it says yes.
 abbrev pub EmptyMotifVerified : List ℕ → List ℕ → List ℕ → Type 0
 EmptyMotifVerified q qm v =
     verify_answer [] [] q qm v
-    ≡ by_verdict (first (check_verdict q qm ∷ refuse_if wrong_slice no_side (not (eqb (length v) 0)) ∷ [])) Refused (Yes (fold_of qm))
+    ≡ by_verdict (first (check_verdict q qm ∷ refuse_if wrong_slice no_side (not (eqb (length v) 0)) ∷ [])) Err (says_yes (fold_of qm))
 
 -- 01: L = m exactly when P embeds. This is the test of a query; `EmbedsIn` is the relation that it decides (`Decides`, in history).
 unfoldable pub embeds : Strand → Strand → Bool

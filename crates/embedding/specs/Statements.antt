@@ -1,5 +1,5 @@
 -- What is claimed of these definitions, for every letter rule and all lists; `claims`, in proofs/Claims, proves it.
-use Rattle.std.specs.Prelude.{ℕ, ◌≤◌, ◌<◌, ◌≡◌, Bool, true, false, ◌↔◌, List, [], length}
+use Rattle.std.specs.Prelude.{ℕ, ◌≤◌, ◌<◌, ◌≡◌, Bool, true, false, ◌↔◌, List, [], length, Err}
 use Rattle.lists.specs.Vocabulary.{nth}
 use Rattle.refusals.specs.Rules.{Refuses}
 use Rattle.letters.specs.Letters.{letters_match, ReadAlike}
@@ -7,7 +7,6 @@ use Rattle.strand.specs.Strands.{Strand, empty_motif, Respelled, Inside}
 use Rattle.embedding.specs.Embedding.{fits, Emb, ClosedPrefix, IsLongest, EmbedsIn}
 use Rattle.embedding.specs.Longest.{closed_to, longest, verified, verify_verdict, verify_answer, VerifySays, VerifyAccepts, EmptyMotifVerified, embeds}
 use Rattle.embedding.specs.Windows.{WindowsSay, tightest_length, first_start}
-use Rattle.embedding.specs.declared.Verified.TheVariants as verified
 
 -- The test of a prefix says what 01 says: it is closed when no arc of P has one end in it and one outside. Here and below the mates are in
 -- range, as they are in every accepted strand.
@@ -64,7 +63,7 @@ pub record Claims : Type 0 where
   pub verified_says : (rule : ℕ → ℕ → Bool) (pb pm qb qm v : List ℕ) → VerifiedSays rule pb pm qb qm v
   pub verify_says : (p pm q qm v : List ℕ) → VerifySays p pm q qm v (verify_answer p pm q qm v)
   pub verify_accepts : (p pm q qm v : List ℕ) → VerifyAccepts p pm q qm v
-  pub verify_refuses : (p pm q qm v : List ℕ) → Refuses (verify_verdict p pm q qm v) verified.Refused (verify_answer p pm q qm v)
+  pub verify_refuses : (p pm q qm v : List ℕ) → Refuses (verify_verdict p pm q qm v) Err (verify_answer p pm q qm v)
   pub empty_motif_lem : (rule : ℕ → ℕ → Bool) (qb qm : List ℕ) → EmptyMotifEmbeds rule qb qm
   pub empty_motif_verified : (q qm v : List ℕ) → EmptyMotifVerified q qm v
   -- the test of a query says yes to it

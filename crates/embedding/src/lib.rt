@@ -6,42 +6,39 @@ mod places;
 ghost use Rattle.std.specs.Prelude.{◌≡◌};
 ghost use Rattle.embedding.specs.Longest.{verify_verdict, verify_answer};
 
-use refusals::{Refusal, Verdict, numbers};
+use refusals::{Refusal, Rule, Side, Verdict};
 use strand::Fold;
 
-// The answer of verify: yes or no, each with the fold of the molecule.
-#[derive(Drop)]
-pub enum Verified {
-    Yes(Fold),
-    No(Fold),
-    Refused(Refusal),
+// The answer of verify: whether the places are an embedding, and the fold of the molecule, which a no has too.
+#[derive(Clone, Copy, Debug, PartialEq, Eq)]
+pub struct Verified {
+    pub embeds: bool,
+    pub fold: Fold,
 }
 
 // The refusals of verify: the motif, the molecule, then the number of places.
 fn judge(p: &[u8], pm: &[u16], q: &[u8], qm: &[u16], places: &[u16]) -> Verdict
     ensures { result ≡ verify_verdict p.now pm.now q.now qm.now places.now }
 {
-    let pair = strand::check_pair(p, pm, q, qm);
-    if let Verdict::Refused(x) = pair {
-        return Verdict::Refused(x);
-    }
+    strand::check_pair(p, pm, q, qm)?;
     if places.len() != p.len() {
-        return refusals::refuse(numbers::WRONG_SLICE, numbers::NEITHER, 0);
+        return refusals::refuse(Rule::WrongSlice, Side::Neither, 0);
     }
-    Verdict::Accepted
+    Ok(())
 }
 
 // The call verify: whether the places are an embedding of the whole motif, and the fold of the molecule. O(m log m) after the check of the strands.
-pub fn verify(p: &[u8], pm: &[u16], q: &[u8], qm: &[u16], places: &[u16]) -> Verified
+pub fn verify(
+    p: &[u8],
+    pm: &[u16],
+    q: &[u8],
+    qm: &[u16],
+    places: &[u16],
+) -> Result<Verified, Refusal>
     ensures { result ≡ verify_answer p.now pm.now q.now qm.now places.now }
 {
-    let verdict = judge(p, pm, q, qm, places);
-    if let Verdict::Refused(x) = verdict {
-        return Verified::Refused(x);
-    }
+    judge(p, pm, q, qm, places)?;
+    let embeds = places::is_embedding(p, pm, q, qm, places);
     let fold = strand::depth::fold_of(qm);
-    if places::is_embedding(p, pm, q, qm, places) {
-        return Verified::Yes(fold);
-    }
-    Verified::No(fold)
+    Ok(Verified { embeds, fold })
 }

@@ -10,18 +10,14 @@ ghost use Rattle.embedding.specs.Places.{Ordered, Lettered, Has, ArcKept, ArcsKe
 fn in_order(places: &[u16], n: usize) -> bool
     ensures { Tells result (Ordered places.now n) }
 {
-    let mut i = 0;
-    while i < places.len() {
-        let x = places[i] as usize;
+    for (i, place) in places.iter().enumerate() {
+        let x = usize::from(*place);
         if n <= x {
             return false;
         }
-        if 0 < i {
-            if x <= places[i - 1] as usize {
-                return false;
-            }
+        if 0 < i && x <= usize::from(places[i - 1]) {
+            return false;
         }
-        i += 1;
     }
     true
 }
@@ -32,37 +28,20 @@ fn same_letters(p: &[u8], q: &[u8], places: &[u16]) -> bool
     requires ordered { Ordered places.now (length q.now) }
     ensures { Tells result (Lettered p.now q.now places.now) }
 {
-    let mut i = 0;
-    while i < places.len() {
-        let x = places[i] as usize;
-        if !letters::letters_match(p[i], q[x]) {
+    for (i, place) in places.iter().enumerate() {
+        if !letters::letters_match(p[i], q[usize::from(*place)]) {
             return false;
         }
-        i += 1;
     }
     true
 }
 
-// Whether a position has the place x, by binary search.
+// Whether a position has the place x, by binary search. The number n of bases is for the contract alone.
 fn has_place(places: &[u16], n: usize, x: u16) -> bool
     requires { Ordered places.now n }
     ensures { Tells result (Has places.now x) }
 {
-    let mut lo = 0;
-    let mut hi = places.len();
-    while lo < hi {
-        let mid = lo + (hi - lo) / 2;
-        let y = places[mid];
-        if y == x {
-            return true;
-        }
-        if y < x {
-            lo = mid + 1;
-        } else {
-            hi = mid;
-        }
-    }
-    false
+    places.binary_search(&x).is_ok()
 }
 
 // Whether the arc that begins at position i, if any, and no other, goes to an arc that begins at its place.
@@ -91,12 +70,10 @@ fn same_arcs(pm: &[u16], qm: &[u16], places: &[u16]) -> bool
     requires inside { Inside (nth pm.now) (length pm.now) }
     ensures { Tells result (ArcsKept pm.now qm.now places.now) }
 {
-    let mut i = 0;
-    while i < places.len() {
+    for i in 0..places.len() {
         if !arc_kept(pm, qm, places, i) {
             return false;
         }
-        i += 1;
     }
     true
 }

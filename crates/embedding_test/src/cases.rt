@@ -1,74 +1,71 @@
 // The cases of the input. Each line has the bases and mates of a motif, those of a molecule, and places, four bytes wide each and parted by
 // blanks (a mate or a place is a digit, and `z` there means 65535), and what the case is about: the table's places, places that break one
 // condition, refused inputs. Each is printed with the answer. Then strands of 4,097 bases.
-use super::tell::answer;
+use super::ask::verify;
 use std::io;
 use std::io::Read;
-use testing::input::{digits, filled};
-use testing::output::say;
-use testing::slices::{first, part};
+use testing::answer::{Fold, Refusal};
+use testing::input::{digits, field, word};
+use testing::pairs::Pair;
+use testing::strands::Strand;
 
-// Asks verify of one line: its bases, and the numbers of its mates and places.
-fn ask<P: Print>(out: &P, line: &[u8], pm: &[u16], qm: &[u16], at: &[u16]) -> io::Result<()> {
-    answer(
-        out,
-        embedding::verify(
-            part(line, 0, filled(line, 0, 4)),
-            first(pm, filled(line, 5, 4)),
-            part(line, 10, filled(line, 10, 4)),
-            first(qm, filled(line, 15, 4)),
-            first(at, filled(line, 20, 4)),
-        ),
-    )
-}
+// The bytes of a line, with its end and without.
+const LINE: usize = 48;
 
-fn case<P: Print>(out: &P, line: &[u8]) -> io::Result<()> {
-    let mut pm = [0u16; 4];
-    let mut qm = [0u16; 4];
-    let mut at = [0u16; 4];
-    digits(line, 5, &mut pm);
-    digits(line, 15, &mut qm);
-    digits(line, 20, &mut at);
-    ask(out, line, &pm, &qm, &at)
-}
+const TEXT: usize = 47;
 
-fn told<P: Print>(out: &P, line: &[u8]) -> io::Result<()> {
-    say(out, line)?;
-    case(out, line)?;
-    say(out, b"\n")
-}
+// How many lines are read; behind them the first come again.
+const MOST_LINES: usize = 65536;
 
-fn cases<P: Print>(out: &P, text: &[u8]) -> io::Result<()> {
-    let mut i = 0;
-    while i < text.len() / 48 {
-        told(out, part(text, i % 65536 * 48, 47))?;
-        i += 1;
+fn say<P: Print>(out: &P, told: Result<(bool, Fold), Refusal>) -> io::Result<()> {
+    match told {
+        Ok((true, fold)) => print!(out; " yes {fold}"),
+        Ok((false, fold)) => print!(out; " no {fold}"),
+        Err(refusal) => print!(out; " {refusal}"),
     }
-    Ok(())
 }
 
-fn read<R: Input + Print + AllocGlobal>(rt: &R) -> io::Result<()> {
-    let mut text = Vec::new(rt.alloc());
-    rt.reader().read_to_end(&mut text)?;
-    cases(rt, &text)
+fn case<R: Print + AllocGlobal>(rt: &R, line: &[u8]) -> io::Result<()> {
+    let alloc = rt.alloc();
+    let pm = digits(alloc, word(line, 5..9))?;
+    let qm = digits(alloc, word(line, 15..19))?;
+    let pair = Pair {
+        motif: Strand::new(alloc, word(line, 0..4), &pm)?,
+        molecule: Strand::new(alloc, word(line, 10..14), &qm)?,
+    };
+    let places = digits(alloc, word(line, 20..24))?;
+    say(rt, verify(&pair, &places))
+}
+
+// A motif and a molecule, without places.
+fn ask<P: Print>(out: &P, motif: Strand, molecule: Strand) -> io::Result<()> {
+    say(out, verify(&Pair { motif, molecule }, &[]))
 }
 
 // 4,097 bases, as a motif and as a molecule, for a motif of one base and for one of none.
-fn too_long<P: Print>(out: &P, bases: &[u8], mates: &[u16]) -> io::Result<()> {
-    say(out, b"4,097 bases:")?;
-    answer(out, embedding::verify(bases, mates, b"X", &[0], &[]))?;
-    answer(out, embedding::verify(b"A", &[0], bases, mates, &[]))?;
-    answer(out, embedding::verify(b"", &[], bases, mates, &[]))?;
-    say(out, b"\n")
-}
-
-fn long_cases<P: Print>(out: &P) -> io::Result<()> {
-    let bases = [65u8; 4097];
-    let mates = [0u16; 4097];
-    too_long(out, &bases, &mates)
+fn too_long<R: Print + AllocGlobal>(rt: &R) -> io::Result<()> {
+    let alloc = rt.alloc();
+    let n = 4097;
+    print!(rt; "4,097 bases:")?;
+    ask(
+        rt,
+        Strand::equal(alloc, n)?,
+        Strand::new(alloc, b"X", &[0])?,
+    )?;
+    ask(rt, Strand::equal(alloc, 1)?, Strand::equal(alloc, n)?)?;
+    ask(rt, Strand::equal(alloc, 0)?, Strand::equal(alloc, n)?)?;
+    println!(rt)
 }
 
 pub fn run<R: Input + Print + AllocGlobal>(rt: &R) -> io::Result<()> {
-    read(rt)?;
-    long_cases(rt)
+    let mut text = Vec::new(rt.alloc());
+    rt.reader().read_to_end(&mut text)?;
+    for i in 0..text.len() / LINE {
+        let at = i % MOST_LINES * LINE;
+        let line = field(&text, at..at + TEXT);
+        rt.write_all(line)?;
+        case(rt, line)?;
+        println!(rt)?;
+    }
+    too_long(rt)
 }

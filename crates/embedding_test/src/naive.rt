@@ -1,61 +1,37 @@
 // The definition of an embedding, written out.
 use testing::brute::bases_match;
-use testing::slices::{byte_at, entry_at};
+use testing::pairs::Pair;
+use testing::slices::position_at;
 
-// The definition at the positions x and y: the place of y lies in the molecule and its base matches; and where x lies before y, the
-// places rise, and x and y are an arc exactly when their places are.
-fn pair_fits(
-    p: &[u8],
-    pm: &[u16],
-    q: &[u8],
-    qm: &[u16],
-    places: &[u16],
-    x: usize,
-    y: usize,
-) -> bool {
-    let u = entry_at(places, x);
-    let v = entry_at(places, y);
-    if p.len() <= y {
-        return false;
+// Position y may lie at v: v lies in the molecule, and its base matches.
+fn base_fits(pair: &Pair, y: usize, v: usize) -> bool {
+    match (pair.motif.bases.get(y), pair.molecule.bases.get(v)) {
+        (Some(a), Some(b)) => bases_match(*a, *b),
+        _ => false,
     }
-    if q.len() <= v {
-        return false;
-    }
-    if !bases_match(byte_at(p, y), byte_at(q, v)) {
-        return false;
-    }
-    if y <= x {
-        return true;
-    }
-    if v <= u {
-        return false;
-    }
-    if entry_at(pm, x) == y {
-        return entry_at(qm, u) == v;
-    }
-    entry_at(qm, u) != v
 }
 
-// Position x fits with every position.
-fn fits_at(p: &[u8], pm: &[u16], q: &[u8], qm: &[u16], places: &[u16], x: usize) -> bool {
-    let mut y = 0;
-    while y < p.len() {
-        if !pair_fits(p, pm, q, qm, places, x, y) {
-            return false;
-        }
-        y += 1;
-    }
-    true
+// x before y at the places u and v: the places rise, and x and y are an arc exactly when their places are.
+fn pair_fits(pair: &Pair, x: usize, u: usize, y: usize, v: usize) -> bool {
+    let bonded = position_at(&pair.motif.mates, x) == Some(y);
+    let places_bonded = position_at(&pair.molecule.mates, u) == Some(v);
+    u < v && bonded == places_bonded
+}
+
+// Position y at v fits with every position before it.
+fn fits_at(pair: &Pair, places: &[u16], y: usize, v: usize) -> bool {
+    base_fits(pair, y, v)
+        && places
+            .iter()
+            .enumerate()
+            .take(y)
+            .all(|(x, u)| pair_fits(pair, x, usize::from(*u), y, v))
 }
 
 // Every two positions fit.
-pub fn fits(p: &[u8], pm: &[u16], q: &[u8], qm: &[u16], places: &[u16]) -> bool {
-    let mut x = 0;
-    while x < p.len() {
-        if !fits_at(p, pm, q, qm, places, x) {
-            return false;
-        }
-        x += 1;
-    }
-    true
+pub fn fits(pair: &Pair, places: &[u16]) -> bool {
+    places
+        .iter()
+        .enumerate()
+        .all(|(y, v)| fits_at(pair, places, y, usize::from(*v)))
 }

@@ -1,190 +1,103 @@
 // All lists of places for random nested pairs, one of twenty with a motif that has no bases, against the definition written out: how many answers are
 // wrong, how many are yes, and the arcs and depths that they say.
-use super::make::nested;
+use super::ask::verify;
 use super::naive::fits;
-use embedding::Verified;
+use std::alloc::{AllocError, Global};
 use std::io;
-use strand::Fold;
-use testing::output::{number, say};
-use testing::slices::set_entry;
+use std::num::Saturating;
+use testing::pairs::Pair;
+use testing::random::next;
+use testing::strands::{Bond, Strand, nest};
 
-// The next random number, how many answers are wrong and how many are yes, and the sums of the arcs and of the depths that they say.
-#[derive(Clone, Copy)]
-struct Tally {
-    seed: usize,
-    wrong: usize,
-    yes: usize,
-    arcs: usize,
-    depths: usize,
+// How many answers are wrong and how many are yes, and the sums of the arcs and of the depths that they say.
+#[derive(Clone, Copy, Debug, Default)]
+struct Counts {
+    wrong: Saturating<usize>,
+    yes: Saturating<usize>,
+    arcs: Saturating<usize>,
+    depths: Saturating<usize>,
 }
 
-fn add(a: usize, b: usize) -> usize {
-    if 1000000000 < a {
-        return a;
+impl Counts {
+    // The answer for these places, and the definition's.
+    fn compare(&mut self, pair: &Pair, places: &[u16]) {
+        let Ok((embeds, fold)) = verify(pair, places) else {
+            self.wrong += 1;
+            return;
+        };
+        self.wrong += usize::from(embeds != fits(pair, places));
+        self.yes += usize::from(embeds);
+        self.arcs += fold.arcs;
+        self.depths += fold.depth;
     }
-    if 1000000000 < b {
-        return b;
-    }
-    a + b
-}
 
-fn added(a: Tally, b: Tally) -> Tally {
-    Tally {
-        seed: b.seed,
-        wrong: add(a.wrong, b.wrong),
-        yes: add(a.yes, b.yes),
-        arcs: add(a.arcs, b.arcs),
-        depths: add(a.depths, b.depths),
-    }
-}
-
-fn none(seed: usize) -> Tally {
-    Tally {
-        seed,
-        wrong: 0,
-        yes: 0,
-        arcs: 0,
-        depths: 0,
+    // All lists of 4 places below 8: the digits of a number in base 8.
+    fn compare_lists(&mut self, pair: &Pair) {
+        for code in 0..4096u16 {
+            self.compare(pair, &[code % 8, code / 8 % 8, code / 64 % 8, code / 512]);
+        }
     }
 }
 
-// One answer: whether it is wrong, whether it is yes, and what it says of the molecule.
-fn one(seed: usize, wrong: bool, yes: bool, fold: Fold) -> Tally {
-    Tally {
-        seed,
-        wrong: wrong as usize,
-        yes: yes as usize,
-        arcs: fold.arcs,
-        depths: fold.depth,
+// The letter that a random number names; A where there is no letter.
+fn named(letters: &[u8], number: usize) -> u8 {
+    letters
+        .get(number % letters.len().max(1))
+        .copied()
+        .unwrap_or(b'A')
+}
+
+// A random nested strand of n of the letters.
+fn nested(alloc: Global, seed: &mut usize, letters: &[u8], n: usize) -> Result<Strand, AllocError> {
+    let mut strand = Strand::equal(alloc, n)?;
+    let mut open = Vec::new(alloc);
+    for (i, base) in strand.bases.iter_mut().enumerate() {
+        *seed = next(*seed);
+        *base = named(letters, *seed / 7);
+        *seed = next(*seed);
+        let step = match *seed / 5 % 4 {
+            0 => Bond::Open,
+            1 => Bond::Close,
+            _ => Bond::Neither,
+        };
+        nest(&mut strand.mates, &mut open, i, step)?;
     }
+    Ok(strand)
 }
 
-// The answer, where the definition says `want`.
-fn judged(seed: usize, a: Verified, want: bool) -> Tally {
-    match a {
-        Verified::Yes(fold) => one(seed, !want, true, fold),
-        Verified::No(fold) => one(seed, want, false, fold),
-        Verified::Refused(_) => one(seed, true, false, Fold { arcs: 0, depth: 0 }),
+// So many pairs; of a random pair the motif has 4 bases and the molecule 7, and in one of twenty the motif has none.
+fn pairs(alloc: Global, count: usize, letters: &[u8]) -> Result<Counts, AllocError> {
+    let mut counts = Counts::default();
+    let mut seed = 12345;
+    for i in 0..count {
+        let bases = if i % 20 == 0 { 0 } else { 4 };
+        let pair = Pair {
+            motif: nested(alloc, &mut seed, letters, bases)?,
+            molecule: nested(alloc, &mut seed, letters, 7)?,
+        };
+        if bases == 0 {
+            counts.compare(&pair, &[]);
+        } else {
+            counts.compare_lists(&pair);
+        }
     }
+    Ok(counts)
 }
 
-fn compared(seed: usize, p: &[u8], pm: &[u16], q: &[u8], qm: &[u16], places: &[u16]) -> Tally {
-    let want = fits(p, pm, q, qm, places);
-    judged(seed, embedding::verify(p, pm, q, qm, places), want)
-}
-
-// Writes list number `code`: its digits in base 8.
-fn write_list(code: usize, places: &mut [u16]) {
-    let mut rest = code;
-    let mut i = 0;
-    while i < places.len() {
-        set_entry(places, i, rest % 8);
-        rest = rest / 8;
-        i += 1;
-    }
-}
-
-// Compares the lists below `count`, and hands the seed on.
-fn lists(
-    count: usize,
-    seed: usize,
-    p: &[u8],
-    pm: &[u16],
-    q: &[u8],
-    qm: &[u16],
-    places: &mut [u16],
-) -> Tally {
-    let mut sum = none(seed);
-    let mut code = 0;
-    while code < count {
-        write_list(code, places);
-        sum = added(sum, compared(seed, p, pm, q, qm, places));
-        code += 1;
-    }
-    sum
-}
-
-// Makes a random pair and compares all lists of 4 places below 8.
-fn trial(
-    seed: usize,
-    kinds: usize,
-    p: &mut [u8],
-    pm: &mut [u16],
-    q: &mut [u8],
-    qm: &mut [u16],
-    stack: &mut [u16],
-    places: &mut [u16],
-) -> Tally {
-    let x = nested(seed, kinds, p, pm, stack);
-    let y = nested(x, kinds, q, qm, stack);
-    lists(4096, y, p, pm, q, qm, places)
-}
-
-// A random pair of 4 and 7 bases.
-fn one_pair(seed: usize, kinds: usize) -> Tally {
-    let mut p = [0u8; 4];
-    let mut pm = [0u16; 4];
-    let mut q = [0u8; 7];
-    let mut qm = [0u16; 7];
-    let mut stack = [0u16; 7];
-    let mut places = [0u16; 4];
-    trial(
-        seed,
-        kinds,
-        &mut p,
-        &mut pm,
-        &mut q,
-        &mut qm,
-        &mut stack,
-        &mut places,
-    )
-}
-
-// The one list of no places for the motif that has no bases.
-fn no_places(seed: usize, kinds: usize, q: &mut [u8], qm: &mut [u16], stack: &mut [u16]) -> Tally {
-    let x = nested(seed, kinds, q, qm, stack);
-    compared(x, b"", &[], q, qm, &[])
-}
-
-// The motif that has no bases, and a random molecule of 7.
-fn no_bases(seed: usize, kinds: usize) -> Tally {
-    let mut q = [0u8; 7];
-    let mut qm = [0u16; 7];
-    let mut stack = [0u16; 7];
-    no_places(seed, kinds, &mut q, &mut qm, &mut stack)
-}
-
-// In one pair of twenty the motif has no bases.
-fn pair(i: usize, seed: usize, kinds: usize) -> Tally {
-    if i % 20 == 0 {
-        return no_bases(seed, kinds);
-    }
-    one_pair(seed, kinds)
-}
-
-fn pairs(count: usize, kinds: usize) -> Tally {
-    let mut sum = none(12345);
-    let mut i = 0;
-    while i < count {
-        sum = added(sum, pair(i, sum.seed, kinds));
-        i += 1;
-    }
-    sum
-}
-
-fn tell<P: Print>(out: &P, name: &[u8], t: Tally) -> io::Result<()> {
-    say(out, name)?;
-    number(out, b" ", t.wrong)?;
-    number(out, b" yes ", t.yes)?;
-    number(out, b" arcs ", t.arcs)?;
-    number(out, b" depths ", t.depths)?;
-    say(out, b"\n")
+fn tell<R: Print + AllocGlobal>(rt: &R, name: &str, letters: &[u8]) -> io::Result<()> {
+    let Counts {
+        wrong,
+        yes,
+        arcs,
+        depths,
+    } = pairs(rt.alloc(), 50, letters)?;
+    println!(rt; "all lists, {name}: wrong {wrong} yes {yes} arcs {arcs} depths {depths}")
 }
 
 // Of 1, 2 and 5 letters, and of three of which two match each other.
-pub fn run<P: Print>(out: &P) -> io::Result<()> {
-    tell(out, b"all lists, 1 letter: wrong", pairs(50, 0))?;
-    tell(out, b"all lists, 2 letters: wrong", pairs(50, 1))?;
-    tell(out, b"all lists, 5 letters: wrong", pairs(50, 4))?;
-    tell(out, b"all lists, G, U and T: wrong", pairs(50, 5))
+pub fn run<R: Print + AllocGlobal>(rt: &R) -> io::Result<()> {
+    tell(rt, "1 letter", b"A")?;
+    tell(rt, "2 letters", b"AC")?;
+    tell(rt, "5 letters", b"ACGUT")?;
+    tell(rt, "G, U and T", b"GUT")
 }

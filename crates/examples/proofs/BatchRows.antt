@@ -1,4 +1,5 @@
 -- The rows of batches. What is read of their motif buffers follows from what one block gives back, so that no checksum is computed.
+use Rattle.std.specs.Prelude.{Ok}
 use Prim.Native.Nat.{ℕ, ◌+◌, ◌*◌, ◌-◌, ◌%◌, ◌<◌, ◌≤◌}
 use native.Mathlib.Omega.{arith}
 use native.Mathlib.Decide.{dec_lt}
@@ -14,9 +15,11 @@ use Rattle.lists.proofs.Stretches.{length_stretch, nth_stretch}
 use Rattle.lists.proofs.ListLaws.{lowest_all, lowest_found}
 use Rattle.letters.specs.Letters.{letters_match, is_letter, not_letter}
 use Rattle.strand.specs.Strands.{Strand, same_strand, key, mate_outside, not_mutual, crosses, crossed_at, strand_verdict}
-use Rattle.refusals.specs.Rules.{motif_side, no_side, bad_motifs, wrong_slice, refusal, first, refuse_if, refuse_at_lowest, by_verdict, work_rule}
+use Rattle.refusals.specs.declared.Rule.{Rule}
+use Rattle.refusals.specs.declared.Side.{Side}
+use Rattle.refusals.specs.Rules.{motif_side, no_side, bad_motifs, too_long, wrong_slice, work_too_short, refusal}
+use Rattle.refusals.specs.Rules.{first, refuse_if, refuse_at_lowest, by_verdict, work_rule}
 use Rattle.refusals.proofs.RuleLaws.{first_skip, first_stop}
-use Rattle.refusals.specs.declared.Verdict.TheVariants.{Accepted}
 use Rattle.embedding.specs.Longest.{longest, prefix_ok, closed_to, places_ok, embeds}
 use Rattle.octets.specs.Octets.{without}
 use Rattle.block.specs.Content.{block_size, empty_block, content_of, with_checksum, strand_block}
@@ -160,40 +163,40 @@ module _ (a b : List ℕ) (m n : ℕ) (x : Counted a m) (lb : length b ≡ block
 
 -- ---- a batch that is refused
 
-range : range_rule embeds 2 1 ≡ Accepted
+range : range_rule embeds 2 1 ≡ Ok tt
 unfolding in_range refuse_if choose
 range = refl
 
-module _ (motifs : List ℕ) (work room number side place : ℕ) where
-  refused_story : model_verdict embeds 2 1 start (batch motifs work (replicate room 0)) ≡ refusal number side place
-      → ByModel (refused_batch motifs work room number side place)
+module _ (motifs : List ℕ) (work room : ℕ) (rule : Rule) (side : Side) (place : ℕ) where
+  refused_story : model_verdict embeds 2 1 start (batch motifs work (replicate room 0)) ≡ refusal rule side place
+      → ByModel (refused_batch motifs work room rule side place)
   unfolding refused_batch admitted admitted_from model_log results_of model_result model_after by_verdict refused_by ends_period choose
   refused_story e = rw e (refl, refl)
 
   -- by the rules of the motif buffer
-  by_motifs : motifs_verdict motifs ≡ refusal number side place → ByModel (refused_batch motifs work room number side place)
+  by_motifs : motifs_verdict motifs ≡ refusal rule side place → ByModel (refused_batch motifs work room rule side place)
   unfolding model_verdict
   by_motifs e = refused_story (first_skip _ _ range ∙ first_stop _ _ _ e)
 
   -- by the rules behind them
-  by_slices : motifs_verdict motifs ≡ Accepted
+  by_slices : motifs_verdict motifs ≡ Ok tt
       → first
       (refuse_if wrong_slice no_side (ltb (length (replicate {A = ℕ} room 0)) (block_count motifs * 2))
       ∷ work_rule (longest_motif motifs) most_molecule_bases work
       ∷ [])
-      ≡ refusal number side place
-      → ByModel (refused_batch motifs work room number side place)
+      ≡ refusal rule side place
+      → ByModel (refused_batch motifs work room rule side place)
   unfolding model_verdict
   by_slices pass e = refused_story (first_skip _ _ range ∙ first_skip _ _ pass ∙ e)
 
 -- ---- the motifs of the rows
 
-motifs_ok : (motif_verdict a ≡ Accepted) × (motif_verdict bonded ≡ Accepted) × (motif_verdict unbonded ≡ Accepted)
+motifs_ok : (motif_verdict a ≡ Ok tt) × (motif_verdict bonded ≡ Ok tt) × (motif_verdict unbonded ≡ Ok tt)
 unfolding motif_verdict strand_verdict first refuse_if refuse_at_lowest choose some lowest_from lowest is_letter not_letter mate_outside not_mutual crosses
     crossed_at
 motifs_ok = (refl, refl, refl)
 
-two_counted : (p q : Strand) → motif_verdict p ≡ Accepted → motif_verdict q ≡ Accepted → Counted (handed_in p q) 2
+two_counted : (p q : Strand) → motif_verdict p ≡ Ok tt → motif_verdict q ≡ Ok tt → Counted (handed_in p q) 2
 two_counted p q okp okq = record { usable = motifs_usable (handed_in p q) (handed_pass p q okp okq); count = handed_two p q okp okq }
 
 two_a : Counted (handed_in a a) 2
@@ -223,27 +226,27 @@ altered_unsound = rw (motif_changed (encode_motif a) 0 9 (motif_sound a a_motif)
 
 -- ---- the rows of refusals
 
-pub no_block : ByModel (refused_batch [] 0 0 15 motif_side 0)
-no_block = by_motifs [] 0 0 15 motif_side 0 (sym (motifs_not_whole [] (unfold is_whole in refl)))
+pub no_block : ByModel (refused_batch [] 0 0 bad_motifs motif_side 0)
+no_block = by_motifs [] 0 0 bad_motifs motif_side 0 (sym (motifs_not_whole [] (unfold is_whole in refl)))
 
-pub seventeen_blocks : ByModel (refused_batch (sixteen ++ encode_motif a) 0 0 15 motif_side 0)
-seventeen_blocks = by_motifs _ 0 0 15 motif_side 0 (sym (motifs_not_whole _ (whole_is most_motifs 17 _ all)))
+pub seventeen_blocks : ByModel (refused_batch (sixteen ++ encode_motif a) 0 0 bad_motifs motif_side 0)
+seventeen_blocks = by_motifs _ 0 0 bad_motifs motif_side 0 (sym (motifs_not_whole _ (whole_is most_motifs 17 _ all)))
   where
     all : length (sixteen ++ encode_motif a) ≡ block_size * 17
     all = size sixteen (encode_motif a) 16 1 (counted_length sixteen 16 sixteen_counted) (motif_length a a_motif)
 
-pub byte_more : ByModel (refused_batch (encode_motif a ++ (0 ∷ [])) 0 0 15 motif_side 0)
-byte_more = by_motifs _ 0 0 15 motif_side 0 (sym (motifs_not_whole _ (not_whole most_motifs _ odd)))
+pub byte_more : ByModel (refused_batch (encode_motif a ++ (0 ∷ [])) 0 0 bad_motifs motif_side 0)
+byte_more = by_motifs _ 0 0 bad_motifs motif_side 0 (sym (motifs_not_whole _ (not_whole most_motifs _ odd)))
   where
     odd : length (encode_motif a ++ (0 ∷ [])) % block_size ≡ 0 → ⊥
     odd e = omega (arith, length-append (encode_motif a) (0 ∷ []), motif_length a a_motif)
 
-pub empty_second : ByModel (refused_batch (one_handed_in bonded) 0 0 15 motif_side 1)
-empty_second = by_motifs _ 0 0 15 motif_side 1 (empty_behind bonded motifs_ok.1)
+pub empty_second : ByModel (refused_batch (one_handed_in bonded) 0 0 bad_motifs motif_side 1)
+empty_second = by_motifs _ 0 0 bad_motifs motif_side 1 (empty_behind bonded motifs_ok.1)
 
-pub unsound_third : ByModel (refused_batch (handed_in a a ++ not_motifs) 0 0 15 motif_side 2)
+pub unsound_third : ByModel (refused_batch (handed_in a a ++ not_motifs) 0 0 bad_motifs motif_side 2)
 unfolding altered
-unsound_third = by_motifs _ 0 0 15 motif_side 2 (none_behind (handed_in a a) not_motifs 2 2 two_a all (omega arith) (omega arith) none)
+unsound_third = by_motifs _ 0 0 bad_motifs motif_side 2 (none_behind (handed_in a a) not_motifs 2 2 two_a all (omega arith) (omega arith) none)
   where
     all : length not_motifs ≡ block_size * 2
     all = size altered empty_block 1 1 altered_length empty_length
@@ -251,19 +254,19 @@ unsound_third = by_motifs _ 0 0 15 motif_side 2 (none_behind (handed_in a a) not
     none : holds_motif (block_of 0 not_motifs) ≡ false
     none = ap holds_motif (take_at altered empty_block block_size altered_length) ∙ altered_unsound
 
-pub long_second : ByModel (refused_batch (handed_in bonded long) 0 0 3 motif_side 1)
+pub long_second : ByModel (refused_batch (handed_in bonded long) 0 0 too_long motif_side 1)
 unfolding strand_verdict first refuse_if refuse_at_lowest choose some lowest_from lowest tab is_letter not_letter mate_outside not_mutual crosses crossed_at
     long
-long_second = by_motifs _ 0 0 3 motif_side 1 (long_behind bonded motifs_ok.1 long refl (omega arith))
+long_second = by_motifs _ 0 0 too_long motif_side 1 (long_behind bonded motifs_ok.1 long refl (omega arith))
 
-pub few_hits_lem : ByModel (refused_batch sixteen 0 31 9 no_side 0)
+pub few_hits_lem : ByModel (refused_batch sixteen 0 31 wrong_slice no_side 0)
 unfolding refuse_if choose first
-few_hits_lem = by_slices sixteen 0 31 9 no_side 0 (usable_motifs sixteen sixteen_counted.usable) (rw sixteen_counted.count)
+few_hits_lem = by_slices sixteen 0 31 wrong_slice no_side 0 (usable_motifs sixteen sixteen_counted.usable) (rw sixteen_counted.count)
 
-pub little_work : ByModel (refused_batch (handed_in bonded a) 1471 4 8 no_side 0)
+pub little_work : ByModel (refused_batch (handed_in bonded a) 1471 4 work_too_short no_side 0)
 unfolding refuse_if choose first longest_to
 little_work =
-    by_slices _ 1471 4 8 no_side 0 (handed_pass bonded a motifs_ok.1 motifs_ok.0)
+    by_slices _ 1471 4 work_too_short no_side 0 (handed_pass bonded a motifs_ok.1 motifs_ok.0)
     (rw (
       handed_two bonded a motifs_ok.1 motifs_ok.0,
       handed_0 bonded a motifs_ok.1 motifs_ok.0,

@@ -1,4 +1,5 @@
 -- Rows 10 and 11: a cache of 513 bytes, and a catalog with unsound blocks, refuse every call.
+use Rattle.std.specs.Prelude.{Ok}
 use Prim.Native.Nat.{ℕ, ◌*◌, ◌%◌, ◌<◌}
 use native.Mathlib.Omega.{arith}
 use mathlib.Core.Path.{◌≡◌, refl, sym, ap, ◌∙◌}
@@ -8,10 +9,9 @@ use mathlib.Core.List.{List, [], ◌∷◌}
 use lib.ListN.{length, replicate, set, length-replicate, length-set}
 use lib.Seq.{length-sets, get_or-set_same}
 use Rattle.lists.specs.Vocabulary.{nth, choose, some, lowest_from, lowest}
-use Rattle.refusals.specs.Rules.{no_side, refusal, first, refuse_if, refuse_at_lowest}
+use Rattle.refusals.specs.Rules.{no_side, not_whole_blocks, unsound_block, refusal, first, refuse_if, refuse_at_lowest}
 use Rattle.letters.specs.Letters.{is_letter, not_letter}
 use Rattle.strand.specs.Strands.{mate_outside, not_mutual, crosses, crossed_at, strand_verdict}
-use Rattle.refusals.specs.declared.Verdict.TheVariants.{Accepted}
 use Rattle.lists.proofs.ListLaws.{lowest_all, lowest_found}
 use Rattle.octets.specs.Octets.{bytes32}
 use Rattle.block.specs.Content.{block_size, checksum_at, checksum_of, rechecked, empty_block, encode_molecule}
@@ -37,14 +37,14 @@ by_run : (β : Buffers) (c : Call) (r : Result) → bytes_result embeds β c ≡
 unfolding bytes_log
 by_run β c r e log ran = ran_log embeds ran ∙ ap (λ (x : Result). gave c x ∷ []) e
 
-pub uneven_refused : (c : Call) (log : List Line) → Ran embeds uneven (call c ∷ []) log → log ≡ gave c (refused 10 no_side 0) ∷ []
+pub uneven_refused : (c : Call) (log : List Line) → Ran embeds uneven (call c ∷ []) log → log ≡ gave c (refused not_whole_blocks no_side 0) ∷ []
 unfolding bytes_log AllRefused
 uneven_refused c = by_run uneven c _ (not_whole (call c ∷ []) uneven _ (inr odd) (bytes_run embeds uneven (call c ∷ []))).0
   where
     odd : length (replicate {A = ℕ} 513 0) % block_size ≡ 0 → ⊥
     odd e = omega (arith, length-replicate {A = ℕ} 513 0)
 
-pub a_accepted : molecule_verdict a ≡ Accepted
+pub a_accepted : molecule_verdict a ≡ Ok tt
 unfolding molecule_verdict strand_verdict first refuse_if refuse_at_lowest choose some lowest_from lowest is_letter not_letter mate_outside not_mutual crosses
     crossed_at
 a_accepted = refl
@@ -114,17 +114,17 @@ place = sym (lowest_found (unsound_at two) (block_count two) 1 (lowest_all (unso
     below : (i : ℕ) → i < 1 → unsound_at two i ≡ false
     below i l = let z : i ≡ 0 = omega arith in ap (unsound_at two) z ∙ sound_0
 
-buffers : buffers_verdict two (replicate block_size 0) ≡ refusal 11 no_side 1
+buffers : buffers_verdict two (replicate block_size 0) ≡ refusal unsound_block no_side 1
 buffers =
     sym (block_unsound two (replicate block_size 0) (whole_is 512 3 two two_length)
     (whole_is 64 1 (replicate block_size 0) (length-replicate {A = ℕ} block_size 0)) 1 place
     (omega (arith, count_is two 3 two_length)))
 
-pub unsound_refused : (c : Call) (log : List Line) → Ran embeds unsound (call c ∷ []) log → log ≡ gave c (refused 11 no_side 1) ∷ []
+pub unsound_refused : (c : Call) (log : List Line) → Ran embeds unsound (call c ∷ []) log → log ≡ gave c (refused unsound_block no_side 1) ∷ []
 unfolding refused_by
 unsound_refused c = by_run unsound c _ (bytes_refused embeds unsound c _ (verdict c)).0
   where
-    verdict : (c : Call) → bytes_verdict unsound c ≡ refusal 11 no_side 1
+    verdict : (c : Call) → bytes_verdict unsound c ≡ refusal unsound_block no_side 1
     verdict (add d q) = unfold bytes_verdict zeroed two one zeros in (sym (add_buffers_refused two (replicate block_size 0) d q _ buffers))
     verdict (remove d) = unfold bytes_verdict zeroed two one zeros in (sym (remove_buffers_refused two (replicate block_size 0) d _ buffers))
     verdict (query p work hits) = unfold bytes_verdict zeroed two one zeros in

@@ -1,5 +1,6 @@
 -- The rows of the screen program: any motif, then a block with A, then an empty block. The catalog is what add leaves in zeroed blocks, and the query is that
 -- of a story.
+use Rattle.std.specs.Prelude.{Ok, Err}
 use Prim.Native.Nat.{ℕ}
 use native.Mathlib.Omega.{arith}
 use mathlib.Core.Path.{◌≡◌, refl, sym, ap, ap₂, ◌∙◌}
@@ -15,16 +16,13 @@ use Rattle.letters.specs.Letters.{letters_match, is_letter, not_letter}
 use Rattle.strand.specs.Strands.{Strand, empty_motif, Proper, same_strand, key, mate_outside, not_mutual, crosses, crossed_at}
 use Rattle.strand.specs.Strands.{strand_verdict, least_motif}
 use Rattle.refusals.specs.Rules.{motif_side, no_side, not_whole_blocks, number_too_large, already_held, first, refuse_if, refuse_at_lowest, by_verdict}
-use Rattle.refusals.specs.declared.Verdict.TheVariants.{Accepted}
 use Rattle.embedding.specs.Longest.{longest, prefix_ok, closed_to, places_ok, embeds}
 use Rattle.block.specs.Content.{block_size, block_bases, empty_block, encode_molecule}
 use Rattle.block.specs.Motif.{holds_motif, motif_handed_in, encode_motif}
 use Rattle.block.specs.Block.{cleaned, block_count, put_block}
+use Rattle.calls.specs.Answers.{Added, Queried}
 use Rattle.calls.specs.Buffers.{in_range, molecule_verdict, motif_verdict, work_verdict, is_held, slot_of, clean_cache}
 use Rattle.calls.specs.Calls.{Effect, QueryEffect, add_verdict, query_outcome, Result, done, found, refused_by, query_result}
-use Rattle.calls.specs.declared.Added.{Added}
-use Rattle.calls.specs.declared.Queried.{Queried}
-use Rattle.calls.specs.declared.Queried.TheVariants.{Hits, Refused}
 use Rattle.calls.proofs.BlockUse.{empty_length, empty_entry, molecule_length, sound_clean}
 use Rattle.block.proofs.Claims as block
 use Rattle.block.proofs.ContentLaws.{motif_bytes, motif_length, motif_sound, motif_full, motif_back, sound_held}
@@ -94,12 +92,12 @@ rest = refl
 passed : first
     (refuse_if not_whole_blocks no_side (not (in_range 2 1)) ∷ refuse_if number_too_large no_side (leb 2 0) ∷ refuse_if already_held no_side (is_held vacant)
     ∷ molecule_verdict a ∷ [])
-    ≡ Accepted
+    ≡ Ok tt
 unfolding is_held in_range molecule_verdict strand_verdict first refuse_if refuse_at_lowest choose some lowest_from lowest is_letter not_letter mate_outside
     not_mutual crosses crossed_at
 passed = refl
 
-added : add_verdict (zeroed 2 1).catalog (zeroed 2 1).cache 0 a ≡ Accepted
+added : add_verdict (zeroed 2 1).catalog (zeroed 2 1).cache 0 a ≡ Ok tt
 unfolding zeroed
 added = add_judged (stores_zeroed 2) 1 (replicate 512 0) (length-replicate {A = ℕ} 512 0) 0 a ∙ passed
 
@@ -135,12 +133,12 @@ second (r ∷ s ∷ rs) = s
 text_of : (answer : Queried) (h : List ℕ) (count searched : ℕ) (list : List ℕ) → query_result answer h ≡ found count list searched
     → answer_text answer h ≡ hits_text count searched list
 unfolding query_result answer_text refused_by
-text_of (Hits c s) h count searched list e =
-    let x : c ≡ count = cc in
-    let y : take c h ≡ list = cc in
-    let z : s ≡ searched = cc in
+text_of (Ok f) h count searched list e =
+    let x : f.count ≡ count = cc in
+    let y : take f.count h ≡ list = cc in
+    let z : f.searched ≡ searched = cc in
     rw (← x, y, z)
-text_of (Refused r) h count searched list e = let z : ◌≡◌ {A = ℕ} 0 1 = cc in absurd (omega arith)
+text_of (Err r) h count searched list e = let z : ◌≡◌ {A = ℕ} 0 1 = cc in absurd (omega arith)
 
 printed : hits_text 1 1 (0 ∷ []) ≡ screen_prints
 unfolding hits_text line spaced lines digits digits_in choose
@@ -198,7 +196,7 @@ stories_ok = ((refl, refl), (refl, refl))
 pub a_motif : Proper motif_side least_motif block_bases a.bases a.mates
 a_motif = accepted_proper motif_side least_motif block_bases a.bases a.mates passes
   where
-    passes : strand_verdict motif_side least_motif block_bases a.bases a.mates ≡ Accepted
+    passes : strand_verdict motif_side least_motif block_bases a.bases a.mates ≡ Ok tt
     passes = unfold strand_verdict first refuse_if refuse_at_lowest choose some lowest_from lowest is_letter not_letter mate_outside not_mutual crosses
         crossed_at in refl
 

@@ -3,24 +3,20 @@
 -- B = 2 and S = 1, the last of the plausible and false ways, a number used again (the others are in rows 6, 3, 7 and in the story), and a
 -- story with S = 2. Behind them rows for 02, (i) to (iii), (v) and (vi). Each is a row of `table`; that they all hold is `TableHolds`, and `holds`, in
 -- proofs/Holds, proves it by the definitions that the contracts of the calls cite.
-use Rattle.std.specs.Prelude.{ℕ, ◌≡◌, Bool, true, ◌||◌, List, [], ◌∷◌, ◌++◌, eqb, length, replicate, set}
+use Rattle.std.specs.Prelude.{ℕ, ◌≡◌, Bool, true, ◌||◌, List, [], ◌∷◌, ◌++◌, eqb, length, replicate, set, Ok, Err}
 use Rattle.refusals.specs.declared.Refusal.{Refusal}
-use Rattle.refusals.specs.declared.Verdict.TheVariants.{Accepted}
+use Rattle.refusals.specs.declared.Rule.{Rule}
+use Rattle.refusals.specs.declared.Side.{Side}
 use Rattle.strand.specs.declared.Fold.{Fold}
 use Rattle.strand.specs.Folds.{fold_of}
 use Rattle.strand.specs.Strands.{Strand, strand_of, empty_motif, key, check_answer}
+use Rattle.refusals.specs.Rules.{unequal_lengths, no_bases, too_long, bad_letter, bad_mate, mates_not_mutual, arcs_cross, work_too_short, wrong_slice}
+use Rattle.refusals.specs.Rules.{not_whole_blocks, unsound_block, number_too_large, already_held, not_held, bad_motifs}
 use Rattle.refusals.specs.Rules.{motif_side, molecule_side, no_side, refusal, work_size}
-use Rattle.strand.specs.declared.Checked.TheVariants as checked
-use Rattle.embedding.specs.declared.Verified.{Verified}
-use Rattle.embedding.specs.declared.Verified.TheVariants as verified
-use Rattle.embedding.specs.Longest.{verify_answer, embeds}
+use Rattle.embedding.specs.Longest.{VerifyAnswer, says_yes, says_no, verify_answer, embeds}
 use Rattle.embedding.specs.Examples.{Example, example_ok, examples}
-use Rattle.matcher.specs.declared.Matched.{Matched}
-use Rattle.matcher.specs.declared.Matched.TheVariants as matched
-use Rattle.matcher.specs.Answers.{length_answer, show_answer}
-use Rattle.window.specs.declared.Windowed.{Windowed}
-use Rattle.window.specs.declared.Windowed.TheVariants as windowed
-use Rattle.window.specs.Answers.{window_answer}
+use Rattle.matcher.specs.Answers.{Matched, matched_prefix, length_answer, show_answer}
+use Rattle.window.specs.Answers.{Windowed, window_at, window_nowhere, window_answer}
 use Rattle.octets.specs.Octets.{word32}
 use Rattle.block.specs.Content.{block_size, checksum_at, rechecked, empty_block, encode_molecule, encode_entry}
 use Rattle.block.specs.Motif.{encode_motif}
@@ -36,14 +32,14 @@ use Rattle.screening.specs.Screen.{screen_output}
 
 -- The kinds of example, each with what it should come to.
 pub data Row : Type 0 where
-  -- a strand that is refused, with the number and the place
-  refused_strand : Strand → (number place : ℕ) → Row
+  -- a strand that is refused, with the rule and the place
+  refused_strand : Strand → Rule → (place : ℕ) → Row
   -- the same of a strand that is refused as a molecule alone
-  refused_molecule : Strand → (number place : ℕ) → Row
+  refused_molecule : Strand → Rule → (place : ℕ) → Row
   -- the calls length, show and verify on P and Q; `work` and `places` are lengths of slices
   length_call : (p q : Strand) (work : ℕ) → Matched → Row
   show_call : (p q : Strand) (places work : ℕ) → Matched → Row
-  verify_call : (p q : Strand) (places : List ℕ) → Verified → Row
+  verify_call : (p q : Strand) (places : List ℕ) → VerifyAnswer → Row
   -- the call window on P and Q, with a work slice of so many entries
   window_call : (p q : Strand) (work : ℕ) → Windowed → Row
   -- add, remove, query or batch on given bytes
@@ -70,17 +66,17 @@ fold arcs depth = record { arcs = arcs; depth = depth }
 -- Verify says yes to the places that a row of the table of settled examples names, if it names any.
 unfoldable pub VerifiedAt : Example → List ℕ → Type 0
 VerifiedAt e [] = Unit
-VerifiedAt e (v ∷ places) = verify_answer e.pb e.pm e.qb e.qm (v ∷ places) ≡ verified.Yes (fold_of e.qm)
+VerifiedAt e (v ∷ places) = verify_answer e.pb e.pm e.qb e.qm (v ∷ places) ≡ says_yes (fold_of e.qm)
 
 -- The row says what the definitions say.
 unfoldable pub Holds : Row → Type 0
 -- as the molecule of check, and as the motif of a query
-Holds (refused_strand q number place) =
-    (check_answer q.bases q.mates ≡ checked.Refused (record { number = number; side = molecule_side; place = place }))
-    × (motif_verdict q ≡ refusal number motif_side place)
+Holds (refused_strand q rule place) =
+    (check_answer q.bases q.mates ≡ Err (record { rule = rule; side = molecule_side; place = place }))
+    × (motif_verdict q ≡ refusal rule motif_side place)
 -- as the molecule of check; as the motif of a query it passes
-Holds (refused_molecule q number place) =
-    (check_answer q.bases q.mates ≡ checked.Refused (record { number = number; side = molecule_side; place = place })) × (motif_verdict q ≡ Accepted)
+Holds (refused_molecule q rule place) =
+    (check_answer q.bases q.mates ≡ Err (record { rule = rule; side = molecule_side; place = place })) × (motif_verdict q ≡ Ok tt)
 Holds (length_call p q work answer) = length_answer p.bases p.mates q.bases q.mates work ≡ answer
 Holds (show_call p q places work answer) = show_answer p.bases p.mates q.bases q.mates places work ≡ answer
 Holds (verify_call p q places answer) = verify_answer p.bases p.mates q.bases q.mates places ≡ answer
@@ -93,13 +89,13 @@ Holds (screen_text input text) = screen_output embeds input ≡ text
 -- by longest and verified, and by the calls length and show, with the least slices, and verify
 Holds (settled_row e) =
     (example_ok e ≡ true)
-    × (length_answer e.pb e.pm e.qb e.qm (work_size (length e.pb) (length e.qb)) ≡ matched.Prefix e.best (fold_of e.qm))
-    × (show_answer e.pb e.pm e.qb e.qm (length e.pb) (work_size (length e.pb) (length e.qb)) ≡ matched.Prefix e.best (fold_of e.qm))
+    × (length_answer e.pb e.pm e.qb e.qm (work_size (length e.pb) (length e.qb)) ≡ matched_prefix e.best (fold_of e.qm))
+    × (show_answer e.pb e.pm e.qb e.qm (length e.pb) (work_size (length e.pb) (length e.qb)) ≡ matched_prefix e.best (fold_of e.qm))
     × VerifiedAt e e.places
 Holds (checksum_row q n) = word32 (encode_molecule q) checksum_at ≡ n
 Holds (block_bytes block bytes) = block ≡ bytes
 Holds (key_row p n) = key p ≡ n
-Holds (fold_row q arcs depth) = check_answer q.bases q.mates ≡ checked.Nested (fold arcs depth)
+Holds (fold_row q arcs depth) = check_answer q.bases q.mates ≡ Ok (fold arcs depth)
 
 -- Every row of a list.
 unfoldable pub AllHold : List Row → Type 0
@@ -107,11 +103,11 @@ AllHold [] = Unit
 AllHold (r ∷ rs) = Holds r × AllHold rs
 
 -- Refusal 8 or 9 of a direct call: side 2, place 0.
-abbrev pub direct_refusal : ℕ → Refusal
-direct_refusal number = record { number = number; side = no_side; place = 0 }
+abbrev pub direct_refusal : Rule → Refusal
+direct_refusal rule = record { rule = rule; side = no_side; place = 0 }
 
-abbrev pub not_matched : ℕ → Matched
-not_matched number = matched.Refused (direct_refusal number)
+abbrev pub not_matched : Rule → Matched
+not_matched rule = Err (direct_refusal rule)
 
 -- A 65, C 67, G 71, T 84, U 85, X 88, small t 116
 abbrev pub a : Strand
@@ -122,22 +118,22 @@ abbrev tale : List Event → List Result → Story
 tale events results = record { blocks = 2; slots = 1; events = events; results = results }
 
 unfoldable pub long_motif : Story
-long_motif = tale (call (query long 9088 (0 ∷ 0 ∷ [])) ∷ []) (refused 3 motif_side 0 ∷ [])
+long_motif = tale (call (query long 9088 (0 ∷ 0 ∷ [])) ∷ []) (refused too_long motif_side 0 ∷ [])
 
 unfoldable pub few_hits : Story
-few_hits = tale (call (query bonded 1472 (0 ∷ [])) ∷ []) (refused 9 no_side 0 ∷ [])
+few_hits = tale (call (query bonded 1472 (0 ∷ [])) ∷ []) (refused wrong_slice no_side 0 ∷ [])
 
 unfoldable pub number_two : Story
-number_two = tale (call (add 2 a) ∷ call (remove 2) ∷ []) (refused 12 no_side 0 ∷ refused 12 no_side 0 ∷ [])
+number_two = tale (call (add 2 a) ∷ call (remove 2) ∷ []) (refused number_too_large no_side 0 ∷ refused number_too_large no_side 0 ∷ [])
 
 unfoldable pub added_twice : Story
-added_twice = tale (call (add 0 a) ∷ call (add 0 a) ∷ []) (done ∷ refused 13 no_side 0 ∷ [])
+added_twice = tale (call (add 0 a) ∷ call (add 0 a) ∷ []) (done ∷ refused already_held no_side 0 ∷ [])
 
 unfoldable pub empty_added : Story
-empty_added = tale (call (add 0 (strand_of [] [])) ∷ []) (refused 2 molecule_side 0 ∷ [])
+empty_added = tale (call (add 0 (strand_of [] [])) ∷ []) (refused no_bases molecule_side 0 ∷ [])
 
 unfoldable pub removed_empty : Story
-removed_empty = tale (call (remove 0) ∷ []) (refused 14 no_side 0 ∷ [])
+removed_empty = tale (call (remove 0) ∷ []) (refused not_held no_side 0 ∷ [])
 
 -- One catalog block, and a cache of 513 bytes.
 abbrev pub uneven : Buffers
@@ -214,34 +210,34 @@ bytes_of_entry =
 unfoldable pub refusals : List Row
 refusals =
     -- 1: AC, mates 0
-    refused_strand (strand_of (65 ∷ 67 ∷ []) (0 ∷ [])) 1 0
+    refused_strand (strand_of (65 ∷ 67 ∷ []) (0 ∷ [])) unequal_lengths 0
     -- 2: both empty; 02, (iii): "Refusal 2 remains for molecules only"
-    ∷ refused_molecule (strand_of [] []) 2 0
+    ∷ refused_molecule (strand_of [] []) no_bases 0
     -- 3: query motif of 121
     ∷ story long_motif
     -- 4: AXC
-    ∷ refused_strand (strand_of (65 ∷ 88 ∷ 67 ∷ []) (0 ∷ 1 ∷ 2 ∷ [])) 4 1
+    ∷ refused_strand (strand_of (65 ∷ 88 ∷ 67 ∷ []) (0 ∷ 1 ∷ 2 ∷ [])) bad_letter 1
     -- 5: A, mate 1
-    ∷ refused_strand (strand_of (65 ∷ []) (1 ∷ [])) 5 0
+    ∷ refused_strand (strand_of (65 ∷ []) (1 ∷ [])) bad_mate 0
     -- 6: AC, mates 1 1
-    ∷ refused_strand (strand_of (65 ∷ 67 ∷ []) (1 ∷ 1 ∷ [])) 6 0
+    ∷ refused_strand (strand_of (65 ∷ 67 ∷ []) (1 ∷ 1 ∷ [])) mates_not_mutual 0
     -- 7: ACGU, mates 2 3 0 1; here 1
-    ∷ refused_strand (strand_of (65 ∷ 67 ∷ 71 ∷ 85 ∷ []) (2 ∷ 3 ∷ 0 ∷ 1 ∷ [])) 7 1
+    ∷ refused_strand (strand_of (65 ∷ 67 ∷ 71 ∷ 85 ∷ []) (2 ∷ 3 ∷ 0 ∷ 1 ∷ [])) arcs_cross 1
     -- 8: m = 1, n = 1, 135 entries
-    ∷ length_call a a 135 (not_matched 8)
-    ∷ show_call a a 1 135 (not_matched 8)
+    ∷ length_call a a 135 (not_matched work_too_short)
+    ∷ show_call a a 1 135 (not_matched work_too_short)
     -- 9: m = 2, 1 entry
-    ∷ show_call bonded gac 1 216 (not_matched 9)
-    ∷ verify_call bonded gac (0 ∷ []) (verified.Refused (direct_refusal 9))
+    ∷ show_call bonded gac 1 216 (not_matched wrong_slice)
+    ∷ verify_call bonded gac (0 ∷ []) (Err (direct_refusal wrong_slice))
     ∷ story few_hits
     -- 10: shelf of 513 bytes
-    ∷ buffer_call uneven (add 0 a) (refused 10 no_side 0)
-    ∷ buffer_call uneven (remove 0) (refused 10 no_side 0)
-    ∷ buffer_call uneven (ask bonded) (refused 10 no_side 0)
+    ∷ buffer_call uneven (add 0 a) (refused not_whole_blocks no_side 0)
+    ∷ buffer_call uneven (remove 0) (refused not_whole_blocks no_side 0)
+    ∷ buffer_call uneven (ask bonded) (refused not_whole_blocks no_side 0)
     -- 11: one with byte 0 = 9, lowest
-    ∷ buffer_call unsound (add 0 a) (refused 11 no_side 1)
-    ∷ buffer_call unsound (remove 0) (refused 11 no_side 1)
-    ∷ buffer_call unsound (ask bonded) (refused 11 no_side 1)
+    ∷ buffer_call unsound (add 0 a) (refused unsound_block no_side 1)
+    ∷ buffer_call unsound (remove 0) (refused unsound_block no_side 1)
+    ∷ buffer_call unsound (ask bonded) (refused unsound_block no_side 1)
     -- 12: d = 2, B = 2
     ∷ story number_two
     -- 13: add 0 twice
@@ -249,8 +245,8 @@ refusals =
     -- 14: remove 0, zeroed
     ∷ story removed_empty
     -- with 136 entries in row 8's example the call goes on
-    ∷ length_call a a 136 (matched.Prefix 1 (fold 0 0))
-    ∷ show_call a a 1 136 (matched.Prefix 1 (fold 0 0))
+    ∷ length_call a a 136 (matched_prefix 1 (fold 0 0))
+    ∷ show_call a a 1 136 (matched_prefix 1 (fold 0 0))
     ∷ []
 
 -- 01, Table of settled examples: its rows, taken over from crate embedding.
@@ -295,34 +291,34 @@ folds =
     -- GAC, 0 1 2: no arc
     ∷ fold_row (strand_of (71 ∷ 65 ∷ 67 ∷ []) (0 ∷ 1 ∷ 2 ∷ [])) 0 0
     -- "the direct calls hand on those of Q", with yes and with no: P has one arc
-    ∷ length_call bonded beside 224 (matched.Prefix 2 (fold 2 1))
-    ∷ show_call bonded beside 2 224 (matched.Prefix 2 (fold 2 1))
-    ∷ verify_call bonded beside (2 ∷ 3 ∷ []) (verified.Yes (fold 2 1))
-    ∷ verify_call bonded beside (1 ∷ 2 ∷ []) (verified.No (fold 2 1))
+    ∷ length_call bonded beside 224 (matched_prefix 2 (fold 2 1))
+    ∷ show_call bonded beside 2 224 (matched_prefix 2 (fold 2 1))
+    ∷ verify_call bonded beside (2 ∷ 3 ∷ []) (says_yes (fold 2 1))
+    ∷ verify_call bonded beside (1 ∷ 2 ∷ []) (says_no (fold 2 1))
     ∷ []
 
 -- 02, (ii), which has no examples of its own: "the start and length of a window of Q that carries an embedding of P", and none.
 unfoldable pub windows : List Row
 windows =
     -- GC, 1 0, in GAC, 2 1 0: the whole arc
-    window_call bonded gac 216 (windowed.At 0 3 (fold 1 1))
+    window_call bonded gac 216 (window_at 0 3 (fold 1 1))
     -- GC, 0 1, in GGC, 2 1 0: "A window has the arcs with both ends in it", and in this one C is unbonded
-    ∷ window_call unbonded ggc 216 (windowed.At 1 2 (fold 1 1))
+    ∷ window_call unbonded ggc 216 (window_at 1 2 (fold 1 1))
     -- GC, 0 1, in GCC, 2 1 0: the window ends inside the arc of Q, and G is unbonded in it
-    ∷ window_call unbonded (strand_of (71 ∷ 67 ∷ 67 ∷ []) (2 ∷ 1 ∷ 0 ∷ [])) 216 (windowed.At 0 2 (fold 1 1))
+    ∷ window_call unbonded (strand_of (71 ∷ 67 ∷ 67 ∷ []) (2 ∷ 1 ∷ 0 ∷ [])) 216 (window_at 0 2 (fold 1 1))
     -- GC, 1 0, in GGC, 2 1 0: the shorter window from 1 has the letters and not the arc
-    ∷ window_call bonded ggc 216 (windowed.At 0 3 (fold 1 1))
+    ∷ window_call bonded ggc 216 (window_at 0 3 (fold 1 1))
     -- A, 0, in AA, 0 1: "none of that length starts earlier"
-    ∷ window_call a (strand_of (65 ∷ 65 ∷ []) (0 ∷ 1 ∷ [])) 144 (windowed.At 0 1 (fold 0 0))
+    ∷ window_call a (strand_of (65 ∷ 65 ∷ []) (0 ∷ 1 ∷ [])) 144 (window_at 0 1 (fold 0 0))
     -- GC, 1 0, in GACGC, 2 1 0 4 3: "No shorter window of Q carries an embedding of P"
-    ∷ window_call bonded (strand_of (71 ∷ 65 ∷ 67 ∷ 71 ∷ 67 ∷ []) (2 ∷ 1 ∷ 0 ∷ 4 ∷ 3 ∷ [])) 232 (windowed.At 3 2 (fold 2 1))
+    ∷ window_call bonded (strand_of (71 ∷ 65 ∷ 67 ∷ 71 ∷ 67 ∷ []) (2 ∷ 1 ∷ 0 ∷ 4 ∷ 3 ∷ [])) 232 (window_at 3 2 (fold 2 1))
     -- GC, 1 0, in GC, 0 1: P does not embed
-    ∷ window_call bonded unbonded 208 (windowed.Nowhere (fold 0 0))
+    ∷ window_call bonded unbonded 208 (window_nowhere (fold 0 0))
     -- "Inputs, limits, refusals and their order are those of length": 8 with 135 entries, and with 136 the call goes on
-    ∷ window_call a a 135 (windowed.Refused (direct_refusal 8))
-    ∷ window_call a a 136 (windowed.At 0 1 (fold 0 0))
+    ∷ window_call a a 135 (Err (direct_refusal work_too_short))
+    ∷ window_call a a 136 (window_at 0 1 (fold 0 0))
     -- a refusal of the motif, before one of the molecule
-    ∷ window_call (strand_of (88 ∷ []) (0 ∷ [])) (strand_of (65 ∷ []) (1 ∷ [])) 136 (windowed.Refused (record { number = 4; side = motif_side; place = 0 }))
+    ∷ window_call (strand_of (88 ∷ []) (0 ∷ [])) (strand_of (65 ∷ []) (1 ∷ [])) 136 (Err (record { rule = bad_letter; side = motif_side; place = 0 }))
     ∷ []
 
 -- The block that hands in the motif with no bases. Its checksum is 1.
@@ -356,21 +352,21 @@ bad_motif_prints = 98 ∷ 97 ∷ 100 ∷ 32 ∷ 109 ∷ 111 ∷ 116 ∷ 105 ∷ 
 unfoldable pub empty_motifs : List Row
 empty_motifs =
     -- an empty motif "embeds in every molecule, with L = 0 and no places": in GAC, 2 1 0, with 64 + 8 × 3 entries of work; any slice of places will do
-    length_call empty_motif gac 88 (matched.Prefix 0 (fold 1 1))
-    ∷ show_call empty_motif gac 0 88 (matched.Prefix 0 (fold 1 1))
-    ∷ show_call empty_motif gac 2 88 (matched.Prefix 0 (fold 1 1))
-    ∷ verify_call empty_motif gac [] (verified.Yes (fold 1 1))
+    length_call empty_motif gac 88 (matched_prefix 0 (fold 1 1))
+    ∷ show_call empty_motif gac 0 88 (matched_prefix 0 (fold 1 1))
+    ∷ show_call empty_motif gac 2 88 (matched_prefix 0 (fold 1 1))
+    ∷ verify_call empty_motif gac [] (says_yes (fold 1 1))
     -- "Its tightest window has start 0 and length 0."
-    ∷ window_call empty_motif gac 88 (windowed.At 0 0 (fold 1 1))
+    ∷ window_call empty_motif gac 88 (window_at 0 0 (fold 1 1))
     -- 8 with an entry less, 9 with a place, 1 where bases and mates differ in length
-    ∷ length_call empty_motif gac 87 (not_matched 8)
-    ∷ verify_call empty_motif gac (0 ∷ []) (verified.Refused (direct_refusal 9))
-    ∷ length_call (strand_of [] (0 ∷ [])) gac 88 (matched.Refused (record { number = 1; side = motif_side; place = 0 }))
+    ∷ length_call empty_motif gac 87 (not_matched work_too_short)
+    ∷ verify_call empty_motif gac (0 ∷ []) (Err (direct_refusal wrong_slice))
+    ∷ length_call (strand_of [] (0 ∷ [])) gac 88 (Err (record { rule = unequal_lengths; side = motif_side; place = 0 }))
     -- the molecule is refused as ever
-    ∷ window_call empty_motif (strand_of (65 ∷ []) (1 ∷ [])) 136 (windowed.Refused (record { number = 5; side = molecule_side; place = 0 }))
+    ∷ window_call empty_motif (strand_of (65 ∷ []) (1 ∷ [])) 136 (Err (record { rule = bad_mate; side = molecule_side; place = 0 }))
     -- "Refusal 2 remains for molecules only": for Q, and for the molecule of add
     ∷ story empty_added
-    ∷ length_call empty_motif (strand_of [] []) 88 (matched.Refused (record { number = 2; side = molecule_side; place = 0 }))
+    ∷ length_call empty_motif (strand_of [] []) 88 (Err (record { rule = no_bases; side = molecule_side; place = 0 }))
     -- "It is kept with length 0 and key 0, and a motif block may have length 0."
     ∷ key_row empty_motif 0
     ∷ block_bytes (encode_entry empty_motif was_searched was_searched) bytes_of_empty_motif_entry
@@ -383,8 +379,8 @@ empty_motifs =
     ∷ []
 
 -- A batch that is refused; `room` is the length of the hit slice.
-unfoldable pub refused_batch : (motifs : List ℕ) (work room number side place : ℕ) → Story
-refused_batch motifs work room number side place = tale (call (batch motifs work (replicate room 0)) ∷ []) (refused number side place ∷ [])
+unfoldable pub refused_batch : (motifs : List ℕ) (work room : ℕ) (rule : Rule) (side : Side) (place : ℕ) → Story
+refused_batch motifs work room rule side place = tale (call (batch motifs work (replicate room 0)) ∷ []) (refused rule side place ∷ [])
 
 -- Sixteen motifs A.
 unfoldable pub twice : List ℕ → List ℕ
@@ -416,20 +412,20 @@ together_story =
 unfoldable pub batches : List Row
 batches =
     -- "It refuses with 15 a motif buffer that isn't 1 to 16 whole blocks .., place 0 for its size": none, 17, and a byte more than one
-    story (refused_batch [] 0 0 15 motif_side 0)
-    ∷ story (refused_batch (sixteen ++ encode_motif a) 0 0 15 motif_side 0)
-    ∷ story (refused_batch (encode_motif a ++ (0 ∷ [])) 0 0 15 motif_side 0)
+    story (refused_batch [] 0 0 bad_motifs motif_side 0)
+    ∷ story (refused_batch (sixteen ++ encode_motif a) 0 0 bad_motifs motif_side 0)
+    ∷ story (refused_batch (encode_motif a ++ (0 ∷ [])) 0 0 bad_motifs motif_side 0)
     -- "or has an unsound or empty block, .. the lowest such block"
-    ∷ story (refused_batch (one_handed_in bonded) 0 0 15 motif_side 1)
-    ∷ story (refused_batch (handed_in a a ++ not_motifs) 0 0 15 motif_side 2)
+    ∷ story (refused_batch (one_handed_in bonded) 0 0 bad_motifs motif_side 1)
+    ∷ story (refused_batch (handed_in a a ++ not_motifs) 0 0 bad_motifs motif_side 2)
     -- "after 11", and 11 after 10
-    ∷ buffer_call uneven (batch [] 0 []) (refused 10 no_side 0)
-    ∷ buffer_call unsound (batch [] 0 []) (refused 11 no_side 1)
+    ∷ buffer_call uneven (batch [] 0 []) (refused not_whole_blocks no_side 0)
+    ∷ buffer_call unsound (batch [] 0 []) (refused unsound_block no_side 1)
     -- "then 3, place the lowest such motif's index"
-    ∷ story (refused_batch (handed_in bonded long) 0 0 3 motif_side 1)
+    ∷ story (refused_batch (handed_in bonded long) 0 0 too_long motif_side 1)
     -- "then 9 and 8": the hit slice "needs B entries for each motif", "the work slice is that of the longest motif"
-    ∷ story (refused_batch sixteen 0 31 9 no_side 0)
-    ∷ story (refused_batch (handed_in bonded a) 1471 4 8 no_side 0)
+    ∷ story (refused_batch sixteen 0 31 wrong_slice no_side 0)
+    ∷ story (refused_batch (handed_in bonded a) 1471 4 work_too_short no_side 0)
     -- "Counts, hits, searched numbers and the shelf afterwards equal those of single queries in that order", and the number read is no sum
     ∷ story together_story
     -- "The history statement's lists may contain batches"
@@ -454,11 +450,11 @@ spellings =
     ∷ spelling (strand_of (67 ∷ []) (0 ∷ [])) (strand_of (84 ∷ []) (0 ∷ [])) 0 []
     -- the tightest window of AGAUA, 0 3 2 1 4, for GT 1 0
     ∷ window_call (strand_of (71 ∷ 84 ∷ []) (1 ∷ 0 ∷ [])) (strand_of (65 ∷ 71 ∷ 65 ∷ 85 ∷ 65 ∷ []) (0 ∷ 3 ∷ 2 ∷ 1 ∷ 4 ∷ [])) 400
-    (windowed.At 1 3 (fold 1 1))
+    (window_at 1 3 (fold 1 1))
     -- "T (byte 84) becomes a letter.": X and small letters are none
     ∷ fold_row (strand_of (65 ∷ 84 ∷ []) (1 ∷ 0 ∷ [])) 1 1
-    ∷ refused_strand (strand_of (65 ∷ 88 ∷ 67 ∷ []) (0 ∷ 1 ∷ 2 ∷ [])) 4 1
-    ∷ refused_strand (strand_of (65 ∷ 84 ∷ 116 ∷ []) (0 ∷ 1 ∷ 2 ∷ [])) 4 2
+    ∷ refused_strand (strand_of (65 ∷ 88 ∷ 67 ∷ []) (0 ∷ 1 ∷ 2 ∷ [])) bad_letter 1
+    ∷ refused_strand (strand_of (65 ∷ 84 ∷ 116 ∷ []) (0 ∷ 1 ∷ 2 ∷ [])) bad_letter 2
     -- "the shelf still compares motifs byte by byte": two keys, two entries, the same hits
     ∷ key_row (strand_of (71 ∷ 84 ∷ []) (1 ∷ 0 ∷ [])) 156
     ∷ key_row (strand_of (71 ∷ 85 ∷ []) (1 ∷ 0 ∷ [])) 157

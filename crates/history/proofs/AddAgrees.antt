@@ -1,10 +1,10 @@
 -- Add: the bytes and the model come to the same, and the bytes go on following.
+use Rattle.std.specs.Prelude.{Ok}
 use Prim.Native.Nat.{ℕ}
 use native.Mathlib.Omega.{arith}
 use mathlib.Core.Path.{◌≡◌, refl, ap, ◌∙◌}
 use mathlib.Core.Bool.{Bool, true}
 use Rattle.strand.specs.Strands.{Strand}
-use Rattle.refusals.specs.declared.Verdict.TheVariants.{Accepted}
 use Rattle.calls.specs.Calls.{add_result}
 use Rattle.calls.proofs.ReadingLaws.{count_is}
 use Rattle.calls.proofs.Claims.{add_accepted}
@@ -18,7 +18,7 @@ use Rattle.history.proofs.Follows.{Few, Follows, fresh, CallAgrees, by_verdict_l
 
 module _ (embeds : Strand → Strand → Bool) (B S : ℕ) (d : ℕ) (q : Strand) where
   module _ (β : Buffers) (σ : State) (times : ℕ → ℕ) (f : Follows embeds B S β σ times) where
-    accepted : model_verdict embeds B S σ (add d q) ≡ Accepted → bytes_verdict β (add d q) ≡ Accepted → Few S times
+    accepted : model_verdict embeds B S σ (add d q) ≡ Ok tt → bytes_verdict β (add d q) ≡ Ok tt → Few S times
         → (bytes_result embeds β (add d q) ≡ model_answer embeds B S σ (add d q))
         × Follows embeds B S (bytes_next embeds β (add d q)) (model_next embeds B S σ (add d q)) (λ s. 0)
     unfolding bytes_verdict bytes_result bytes_next model_answer model_next add_result

@@ -1,6 +1,7 @@
 -- Batch: the bytes and the model come to the same, and the bytes go on following. Both run it as single queries, one after the other, so that after each of
 -- them the bytes follow the model, and the next one agrees as a query by itself does: its count, its list, its searched number, and whether it searches a
 -- number. The number read is that of the numbers that one of them searches.
+use Rattle.std.specs.Prelude.{Ok, Err}
 use Prim.Native.Nat.{ℕ, zero, suc, ◌<◌, ◌≤◌}
 use native.Mathlib.Omega.{arith}
 use mathlib.Core.Path.{◌≡◌, refl, ap₂, ◌∙◌}
@@ -10,10 +11,8 @@ use lib.ListN.{length, take}
 use Rattle.lists.specs.Vocabulary.{some, tab}
 use Rattle.lists.proofs.Ranges.{select_ext}
 use Rattle.strand.specs.Strands.{Strand}
-use Rattle.refusals.specs.declared.Verdict.TheVariants.{Accepted}
 use Rattle.block.specs.Block.{block_count}
-use Rattle.calls.specs.declared.Queried.{Queried}
-use Rattle.calls.specs.declared.Queried.TheVariants.{Hits, Refused as NotQueried}
+use Rattle.calls.specs.Answers.{Queried}
 use Rattle.calls.specs.Buffers.{in_range}
 use Rattle.calls.specs.Calls.{QueryEffect, Found, refused_by, found, found_all, query_result}
 use Rattle.calls.specs.Motifs.{motif_of, UsableMotifs}
@@ -41,12 +40,12 @@ found_in r hits = record { count = count_of r; hits = take (count_of r) hits; se
 
 found_of_lem : (r : Queried) (hits : List ℕ) (x : Found) → query_result r hits ≡ found x.count x.hits x.searched → found_in r hits ≡ x
 unfolding query_result count_of searched_of refused_by
-found_of_lem (Hits n k) hits x e =
-    let c : n ≡ x.count = cc in
-    let l : take n hits ≡ x.hits = cc in
-    let s : k ≡ x.searched = cc in
+found_of_lem (Ok h) hits x e =
+    let c : h.count ≡ x.count = cc in
+    let l : take h.count hits ≡ x.hits = cc in
+    let s : h.searched ≡ x.searched = cc in
     λ i. record { count = c i; hits = l i; searched = s i }
-found_of_lem (NotQueried r) hits x e = let z : ◌≡◌ {A = ℕ} 0 1 = cc in absurd (omega arith)
+found_of_lem (Err r) hits x e = let z : ◌≡◌ {A = ℕ} 0 1 = cc in absurd (omega arith)
 
 -- The alterations counted when query t begins: none after the first query.
 unfoldable times_at : (ℕ → ℕ) → ℕ → ℕ → ℕ
@@ -57,7 +56,7 @@ times_at times (suc t) = λ s. 0
 
 module _ (embeds : Strand → Strand → Bool) (B S : ℕ) (motifs : List ℕ) (work : ℕ) (hits : List ℕ) where
   module _ (β : Buffers) (σ : State) (times : ℕ → ℕ) (f : Follows embeds B S β σ times) (few : Few S times) (range : in_range B S ≡ true)
-      (usable : UsableMotifs motifs) (a : batch_verdict β.catalog β.cache motifs work (length hits) ≡ Accepted) where
+      (usable : UsableMotifs motifs) (a : batch_verdict β.catalog β.cache motifs work (length hits) ≡ Ok tt) where
     -- the buffers and the state when query t begins; what that query answers and leaves
     abbrev begin : BatchState
     begin = batch_state β.cache hits
@@ -113,7 +112,7 @@ module _ (embeds : Strand → Strand → Bool) (B S : ℕ) (motifs : List ℕ) (
     batch_same = ap₂ (λ (each : List Found) (l : List ℕ). found_all each (length l)) (tab_ext _ _ (block_count motifs) found_at_lem) read_agrees
 
   module _ (β : Buffers) (σ : State) (times : ℕ → ℕ) (f : Follows embeds B S β σ times) where
-    accepted : model_verdict embeds B S σ (batch motifs work hits) ≡ Accepted → bytes_verdict β (batch motifs work hits) ≡ Accepted → Few S times
+    accepted : model_verdict embeds B S σ (batch motifs work hits) ≡ Ok tt → bytes_verdict β (batch motifs work hits) ≡ Ok tt → Few S times
         → (bytes_result embeds β (batch motifs work hits) ≡ model_answer embeds B S σ (batch motifs work hits))
         × Follows embeds B S (bytes_next embeds β (batch motifs work hits)) (model_next embeds B S σ (batch motifs work hits)) (λ s. 0)
     unfolding bytes_verdict bytes_result bytes_next model_answer model_next

@@ -1,4 +1,5 @@
 -- The story with batches, one event after the other. Its motif buffers are read by the laws of HandedIn, so that no checksum is computed; all else is.
+use Rattle.std.specs.Prelude.{Ok}
 use Prim.Native.Nat.{ℕ, ◌+◌, ◌*◌, max}
 use native.Mathlib.Omega.{arith}
 use mathlib.Core.Path.{◌≡◌, refl, sym, ap₂, ◌∙◌}
@@ -11,10 +12,11 @@ use Rattle.lists.proofs.ListLaws.{choose_yes, choose_no}
 use Rattle.letters.specs.Letters.{letters_match, is_letter, not_letter}
 use Rattle.strand.specs.Strands.{Strand, empty_motif, same_strand, key, mate_outside, not_mutual, crosses, crossed_at}
 use Rattle.strand.specs.Strands.{strand_verdict}
+use Rattle.refusals.specs.declared.Rule.{Rule}
+use Rattle.refusals.specs.declared.Side.{Side}
 use Rattle.refusals.specs.Rules.{motif_side, no_side, too_long, wrong_slice, bad_motifs, refusal, first, refuse_if, refuse_at_lowest, by_verdict, work_rule}
+use Rattle.refusals.specs.Rules.{Verdict}
 use Rattle.refusals.proofs.RuleLaws.{first_skip, first_stop, first_without}
-use Rattle.refusals.specs.declared.Verdict.{Verdict}
-use Rattle.refusals.specs.declared.Verdict.TheVariants.{Accepted}
 use Rattle.embedding.specs.Longest.{longest, prefix_ok, closed_to, places_ok, embeds}
 use Rattle.octets.specs.Octets.{bytes_of, without, map_bytes, bit_sum}
 use Rattle.block.specs.Content.{block_size, with_checksum, empty_block, content_of, entry_with, encode_entry}
@@ -52,7 +54,7 @@ module _ (B S : ℕ) where
       ∷ work_rule (max (max 0 (length p.bases)) (length q.bases)) most_molecule_bases work
       ∷ [])
 
-  module _ (σ : State) (p q : Strand) (okp : motif_verdict p ≡ Accepted) (okq : motif_verdict q ≡ Accepted) (work : ℕ) (hits : List ℕ) where
+  module _ (σ : State) (p q : Strand) (okp : motif_verdict p ≡ Ok tt) (okq : motif_verdict q ≡ Ok tt) (work : ℕ) (hits : List ℕ) where
     two_verdict : model_verdict embeds B S σ (batch (handed_in p q) work hits) ≡ two_rules p q work hits
     unfolding model_verdict longest_to
     two_verdict = rw (handed_pass p q okp okq, handed_two p q okp okq, handed_0 p q okp okq, handed_1 p q okp okq) (first_without _ _)
@@ -78,7 +80,7 @@ module _ (B S : ℕ) where
   abbrev one_found : State → Strand → Result
   one_found σ p = found_all (found_now σ p ∷ []) (length (select B (λ d. searches embeds B S σ p d || false)))
 
-  module _ (σ : State) (p : Strand) (ok : motif_verdict p ≡ Accepted) (work : ℕ) (hits : List ℕ) where
+  module _ (σ : State) (p : Strand) (ok : motif_verdict p ≡ Ok tt) (work : ℕ) (hits : List ℕ) where
     one_verdict : model_verdict embeds B S σ (batch (encode_motif p) work hits) ≡ one_rules p work hits
     unfolding model_verdict longest_to
     one_verdict = rw (alone_pass p ok, alone_count p ok, alone_0 p ok) (first_without _ _)
@@ -105,7 +107,7 @@ module _ {B S : ℕ} {σ : State} {times : ℕ → ℕ} {es : List Event} {resul
   alter_step s i v e x = record { admits = rw e x.admits; comes = x.comes }
 
   -- a call that is accepted, and one that is refused
-  accepted_step : (c : Call) {r : Result} {τ : State} → model_verdict embeds B S σ c ≡ Accepted → model_answer embeds B S σ c ≡ r
+  accepted_step : (c : Call) {r : Result} {τ : State} → model_verdict embeds B S σ c ≡ Ok tt → model_answer embeds B S σ c ≡ r
       → model_next embeds B S σ c ≡ τ → ends_period r ≡ true → at_most_once embeds B S times ≡ true
       → Comes B S τ (λ s. 0) es results → Comes B S σ times (call c ∷ es) (r ∷ results)
   unfolding admitted_from model_log results_of
@@ -117,10 +119,10 @@ module _ {B S : ℕ} {σ : State} {times : ℕ → ℕ} {es : List Event} {resul
         comes = ap₂ (λ (r : Result) (l : List Result). r ∷ l) result (rw after x.comes);
       }
 
-  refused_step : (c : Call) (number side place : ℕ) → model_verdict embeds B S σ c ≡ refusal number side place
-      → Comes B S σ times es results → Comes B S σ times (call c ∷ es) (refused number side place ∷ results)
+  refused_step : (c : Call) (rule : Rule) (side : Side) (place : ℕ) → model_verdict embeds B S σ c ≡ refusal rule side place
+      → Comes B S σ times es results → Comes B S σ times (call c ∷ es) (refused rule side place ∷ results)
   unfolding admitted_from model_log results_of ends_period refused_by
-  refused_step c number side place e x =
+  refused_step c rule side place e x =
       let result = result_refused embeds B S σ c _ e in
       let after = after_refused embeds B S σ c _ e in
       record {
@@ -129,31 +131,31 @@ module _ {B S : ℕ} {σ : State} {times : ℕ → ℕ} {es : List Event} {resul
       }
 
   -- a batch of two motifs that is accepted, and one that is refused
-  two_step : (p q : Strand) {work : ℕ} {hits : List ℕ} {r : Result} → motif_verdict p ≡ Accepted → motif_verdict q ≡ Accepted
-      → two_rules B S p q work hits ≡ Accepted → two_found B S σ p q ≡ r → ends_period r ≡ true → at_most_once embeds B S times ≡ true
+  two_step : (p q : Strand) {work : ℕ} {hits : List ℕ} {r : Result} → motif_verdict p ≡ Ok tt → motif_verdict q ≡ Ok tt
+      → two_rules B S p q work hits ≡ Ok tt → two_found B S σ p q ≡ r → ends_period r ≡ true → at_most_once embeds B S times ≡ true
       → Comes B S (asked embeds B S (asked embeds B S σ p) q) (λ s. 0) es results
       → Comes B S σ times (call (batch (handed_in p q) work hits) ∷ es) (r ∷ results)
   two_step p q {work} {hits} okp okq pass same =
       accepted_step (batch (handed_in p q) work hits) (two_verdict B S σ p q okp okq work hits ∙ pass) (two_answer B S σ p q okp okq work hits ∙ same)
       (two_next B S σ p q okp okq work hits)
 
-  two_refused : (p q : Strand) {work : ℕ} {hits : List ℕ} {number side place : ℕ} → motif_verdict p ≡ Accepted → motif_verdict q ≡ Accepted
-      → two_rules B S p q work hits ≡ refusal number side place
-      → Comes B S σ times es results → Comes B S σ times (call (batch (handed_in p q) work hits) ∷ es) (refused number side place ∷ results)
+  two_refused : (p q : Strand) {work : ℕ} {hits : List ℕ} {rule : Rule} {side : Side} {place : ℕ} → motif_verdict p ≡ Ok tt → motif_verdict q ≡ Ok tt
+      → two_rules B S p q work hits ≡ refusal rule side place
+      → Comes B S σ times es results → Comes B S σ times (call (batch (handed_in p q) work hits) ∷ es) (refused rule side place ∷ results)
   two_refused p q {work} {hits} okp okq e = refused_step _ _ _ _ (two_verdict B S σ p q okp okq work hits ∙ e)
 
   -- a batch of one motif that is accepted
-  one_step : (p : Strand) {work : ℕ} {hits : List ℕ} {r : Result} → motif_verdict p ≡ Accepted
-      → one_rules B S p work hits ≡ Accepted → one_found B S σ p ≡ r → ends_period r ≡ true → at_most_once embeds B S times ≡ true
+  one_step : (p : Strand) {work : ℕ} {hits : List ℕ} {r : Result} → motif_verdict p ≡ Ok tt
+      → one_rules B S p work hits ≡ Ok tt → one_found B S σ p ≡ r → ends_period r ≡ true → at_most_once embeds B S times ≡ true
       → Comes B S (asked embeds B S σ p) (λ s. 0) es results → Comes B S σ times (call (batch (encode_motif p) work hits) ∷ es) (r ∷ results)
   one_step p {work} {hits} ok pass same =
       accepted_step (batch (encode_motif p) work hits) (one_verdict B S σ p ok work hits ∙ pass) (one_answer B S σ p ok work hits ∙ same)
       (one_next B S σ p ok work hits)
 
   -- a batch that is refused for its motif buffer
-  motifs_refused : (motifs : List ℕ) {work : ℕ} {hits : List ℕ} {number side place : ℕ} → range_rule embeds B S ≡ Accepted
-      → motifs_verdict motifs ≡ refusal number side place
-      → Comes B S σ times es results → Comes B S σ times (call (batch motifs work hits) ∷ es) (refused number side place ∷ results)
+  motifs_refused : (motifs : List ℕ) {work : ℕ} {hits : List ℕ} {rule : Rule} {side : Side} {place : ℕ} → range_rule embeds B S ≡ Ok tt
+      → motifs_verdict motifs ≡ refusal rule side place
+      → Comes B S σ times es results → Comes B S σ times (call (batch motifs work hits) ∷ es) (refused rule side place ∷ results)
   unfolding model_verdict
   motifs_refused motifs range e = refused_step _ _ _ _ (first_skip _ _ range ∙ first_stop _ _ _ e)
 
@@ -161,7 +163,7 @@ module _ {B S : ℕ} {σ : State} {times : ℕ → ℕ} {es : List Event} {resul
 no_blocks : motifs_verdict [] ≡ refusal bad_motifs motif_side 0
 no_blocks = sym (motifs_not_whole [] (unfold is_whole in refl))
 
-too_long_lem : motif_verdict bonded ≡ Accepted → motifs_verdict (handed_in bonded long_motif) ≡ refusal too_long motif_side 1
+too_long_lem : motif_verdict bonded ≡ Ok tt → motifs_verdict (handed_in bonded long_motif) ≡ refusal too_long motif_side 1
 unfolding strand_verdict first refuse_if refuse_at_lowest choose some lowest_from lowest tab is_letter not_letter mate_outside not_mutual crosses crossed_at
     long_motif
 too_long_lem ok = long_behind bonded ok long_motif refl (omega arith)

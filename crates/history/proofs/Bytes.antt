@@ -1,13 +1,13 @@
 -- Histories on the bytes, by the definitions that the contracts of add, remove, query and batch cite: the one log that every run has (proofs/Runs).
+use Rattle.std.specs.Prelude.{Err}
 use Prim.Native.Nat.{ℕ}
 use mathlib.Core.Path.{◌≡◌}
 use mathlib.Core.Bool.{Bool, true}
 use mathlib.Core.List.{List, [], ◌∷◌}
 use lib.ListN.{length}
 use Rattle.strand.specs.Strands.{Strand}
+use Rattle.refusals.specs.Rules.{Verdict}
 use Rattle.refusals.specs.declared.Refusal.{Refusal}
-use Rattle.refusals.specs.declared.Verdict.{Verdict}
-use Rattle.refusals.specs.declared.Verdict.TheVariants.{Refused}
 use Rattle.block.specs.Block.{block_count}
 use Rattle.calls.specs.Calls.{add_verdict, add_outcome, remove_verdict, remove_outcome, query_verdict, query_outcome}
 use Rattle.calls.specs.Calls.{Result, refused_by, add_result, remove_result}
@@ -54,7 +54,7 @@ module _ (embeds : Strand → Strand → Bool) where
       (B S : ℕ) (es : List Event) → admitted embeds B S es ≡ true → RightLog Relation embeds B S es (bytes_log (zeroed B S) es)
 
   -- a refused call changes nothing
-  pub bytes_refused : (β : Buffers) (c : Call) (r : Refusal) → bytes_verdict β c ≡ Refused r → (bytes_result β c ≡ refused_by r) × (bytes_next β c ≡ β)
+  pub bytes_refused : (β : Buffers) (c : Call) (r : Refusal) → bytes_verdict β c ≡ Err r → (bytes_result β c ≡ refused_by r) × (bytes_next β c ≡ β)
   unfolding bytes_verdict bytes_result bytes_next add_result remove_result query_result batch_result batch_result_by not_batched
   bytes_refused β (add d q) r e = let x = add_refused β.catalog β.cache d q r e in (rw x, rw x)
   bytes_refused β (remove d) r e = let x = remove_refused β.catalog β.cache d r e in (rw x, rw x)

@@ -1,12 +1,12 @@
 -- The bytes follow the model, and what it is for a call to agree: the same result, and the bytes follow afterwards.
+use Rattle.std.specs.Prelude.{Ok, Err}
 use Prim.Native.Nat.{ℕ, ◌*◌, ◌<◌, ◌≤◌}
 use mathlib.Core.Path.{◌≡◌, refl, sym, ap, ◌∙◌}
 use mathlib.Core.Bool.{Bool, true, false}
 use lib.ListN.{length}
 use Rattle.strand.specs.Strands.{Strand}
+use Rattle.refusals.specs.Rules.{Verdict}
 use Rattle.refusals.specs.declared.Refusal.{Refusal}
-use Rattle.refusals.specs.declared.Verdict.{Verdict}
-use Rattle.refusals.specs.declared.Verdict.TheVariants.{Accepted, Refused}
 use Rattle.block.specs.Content.{block_size}
 use Rattle.block.specs.Block.{block_of, cleaned}
 use Rattle.calls.specs.Calls.{refused_by}
@@ -60,7 +60,7 @@ module _ (embeds : Strand → Strand → Bool) (B S : ℕ) where
       (β : Buffers) (σ : State) (times : ℕ → ℕ) → Follows β σ times → (ends_period (model_result embeds B S σ c) ≡ true → Few S times) → Agrees β σ times c
 
   module _ (β : Buffers) (σ : State) (times : ℕ → ℕ) (c : Call) where
-    accepted_agrees : model_verdict embeds B S σ c ≡ Accepted → ends_period (model_answer embeds B S σ c) ≡ true
+    accepted_agrees : model_verdict embeds B S σ c ≡ Ok tt → ends_period (model_answer embeds B S σ c) ≡ true
         → bytes_result embeds β c ≡ model_answer embeds B S σ c → Follows (bytes_next embeds β c) (model_next embeds B S σ c) (λ s. 0)
         → Agrees β σ times c
     unfolding times_after
@@ -70,7 +70,7 @@ module _ (embeds : Strand → Strand → Bool) (B S : ℕ) where
           follows = rw (result_accepted embeds B S σ c e, after_accepted embeds B S σ c e, ends) f;
         }
 
-    refused_agrees : (r : Refusal) → model_verdict embeds B S σ c ≡ Refused r → bytes_verdict β c ≡ Refused r → Follows β σ times → Agrees β σ times c
+    refused_agrees : (r : Refusal) → model_verdict embeds B S σ c ≡ Err r → bytes_verdict β c ≡ Err r → Follows β σ times → Agrees β σ times c
     unfolding times_after ends_period refused_by
     refused_agrees r e b f =
         let y = bytes_refused embeds β c r b in
@@ -81,7 +81,7 @@ module _ (embeds : Strand → Strand → Bool) (B S : ℕ) where
 
     -- a call that agrees where the rules accept it
     pub by_verdict_lem : ends_period (model_answer embeds B S σ c) ≡ true
-        → (model_verdict embeds B S σ c ≡ Accepted → bytes_verdict β c ≡ Accepted → Few S times
+        → (model_verdict embeds B S σ c ≡ Ok tt → bytes_verdict β c ≡ Ok tt → Few S times
         → (bytes_result embeds β c ≡ model_answer embeds B S σ c) × Follows (bytes_next embeds β c) (model_next embeds B S σ c) (λ s. 0))
         → Follows β σ times → (ends_period (model_result embeds B S σ c) ≡ true → Few S times) → Agrees β σ times c
     by_verdict_lem ends accepted f few = go (model_verdict embeds B S σ c) refl
@@ -90,7 +90,7 @@ module _ (embeds : Strand → Strand → Bool) (B S : ℕ) where
         v = same_verdict embeds B S β σ (record { stored = f.stored; sized = f.sized }) c
 
         go : (w : Verdict) → model_verdict embeds B S σ c ≡ w → Agrees β σ times c
-        go Accepted e =
+        go (Ok u) e =
             let x = accepted e (v ∙ e) (few (ap ends_period (result_accepted embeds B S σ c e) ∙ ends)) in
             accepted_agrees e ends x.0 x.1
-        go (Refused r) e = refused_agrees r e (v ∙ e) f
+        go (Err r) e = refused_agrees r e (v ∙ e) f

@@ -1,5 +1,6 @@
 -- The motif buffers of the example histories: one block or two, each with a motif or empty. What a batch reads of them, from what one block gives back, so
 -- that no checksum is computed.
+use Rattle.std.specs.Prelude.{Ok}
 use Prim.Native.Nat.{ℕ, ◌*◌, ◌<◌, ◌≤◌}
 use native.Mathlib.Omega.{arith}
 use mathlib.Core.Path.{◌≡◌, refl, sym, ap, ◌∙◌}
@@ -11,7 +12,6 @@ use Rattle.lists.proofs.Stretches.{stretch_at}
 use Rattle.strand.specs.Strands.{Strand, Proper, least_motif, strand_verdict}
 use Rattle.strand.proofs.VerdictLaws.{accepted_proper}
 use Rattle.refusals.specs.Rules.{motif_side, bad_motifs, too_long, refusal}
-use Rattle.refusals.specs.declared.Verdict.TheVariants.{Accepted}
 use Rattle.block.specs.Content.{block_size, block_bases, empty_block}
 use Rattle.block.specs.Block.{block_of, block_count}
 use Rattle.block.specs.Motif.{motif_handed_in, encode_motif, holds_motif}
@@ -75,7 +75,7 @@ module _ (a b : List ℕ) (la : length a ≡ block_size) (lb : length b ≡ bloc
       short_0 : long_motif_at both 0 ≡ false
       short_0 = short_at both 0 (rw motif_0 short)
 
-      both_pass : length (motif_handed_in b).bases ≤ most_motif_bases → motifs_verdict both ≡ Accepted
+      both_pass : length (motif_handed_in b).bases ≤ most_motif_bases → motifs_verdict both ≡ Ok tt
       both_pass h =
           let none = lowest_none (long_motif_at both) short_0 (short_at both 1 (rw motif_1 h)) in
           sym (motifs_pass both whole (block_count both) (sym all_there) (omega arith) (block_count both) (sym none) (omega arith))
@@ -90,7 +90,7 @@ module _ (a b : List ℕ) (la : length a ≡ block_size) (lb : length b ≡ bloc
 abbrev Fits : Strand → Type 0
 Fits p = Proper motif_side least_motif block_bases p.bases p.mates
 
-module _ (p : Strand) (ok : motif_verdict p ≡ Accepted) where
+module _ (p : Strand) (ok : motif_verdict p ≡ Ok tt) where
   proper : Proper motif_side least_motif most_motif_bases p.bases p.mates
   unfolding motif_verdict
   proper = accepted_proper motif_side least_motif most_motif_bases p.bases p.mates ok
@@ -107,13 +107,13 @@ held_one : (p : Strand) → Fits p → holds_motif (encode_motif p) ≡ true
 held_one p ok = sound_held (encode_motif p) (motif_sound p ok) (motif_full p ok)
 
 -- an empty block behind a motif; a motif that is too long
-module _ (p : Strand) (ok : motif_verdict p ≡ Accepted) where
+module _ (p : Strand) (ok : motif_verdict p ≡ Ok tt) where
   pub empty_behind : motifs_verdict (one_handed_in p) ≡ refusal bad_motifs motif_side 1
   unfolding one_handed_in
   empty_behind =
       second_empty (encode_motif p) empty_block (motif_length p (fits p ok)) empty_length (held_one p (fits p ok)) (block.claims).empty_motif_lem.not_handed_in
 
-  pub long_behind : (q : Strand) → strand_verdict motif_side least_motif block_bases q.bases q.mates ≡ Accepted → most_motif_bases < length q.bases
+  pub long_behind : (q : Strand) → strand_verdict motif_side least_motif block_bases q.bases q.mates ≡ Ok tt → most_motif_bases < length q.bases
       → motifs_verdict (handed_in p q) ≡ refusal too_long motif_side 1
   unfolding handed_in
   long_behind q e h =
@@ -122,7 +122,7 @@ module _ (p : Strand) (ok : motif_verdict p ≡ Accepted) where
       (short_motif p ok) (rw (motif_back q room) h)
 
 -- one motif that a query takes
-module _ (p : Strand) (ok : motif_verdict p ≡ Accepted) where
+module _ (p : Strand) (ok : motif_verdict p ≡ Ok tt) where
   pub alone_count : block_count (encode_motif p) ≡ 1
   alone_count = count_is (encode_motif p) 1 (motif_length p (fits p ok))
 
@@ -137,7 +137,7 @@ module _ (p : Strand) (ok : motif_verdict p ≡ Accepted) where
   pub alone_0 : motif_of (encode_motif p) 0 ≡ p
   alone_0 = alone_at 0 (omega arith)
 
-  pub alone_pass : motifs_verdict (encode_motif p) ≡ Accepted
+  pub alone_pass : motifs_verdict (encode_motif p) ≡ Ok tt
   alone_pass =
       let one = alone_count in
       usable_motifs (encode_motif p) (record {
@@ -149,7 +149,7 @@ module _ (p : Strand) (ok : motif_verdict p ≡ Accepted) where
       })
 
 -- two motifs that a query takes
-module _ (p q : Strand) (okp : motif_verdict p ≡ Accepted) (okq : motif_verdict q ≡ Accepted) where
+module _ (p q : Strand) (okp : motif_verdict p ≡ Ok tt) (okq : motif_verdict q ≡ Ok tt) where
   pub handed_two : block_count (handed_in p q) ≡ 2
   unfolding handed_in
   handed_two = two (encode_motif p) (encode_motif q) (motif_length p (fits p okp)) (motif_length q (fits q okq))
@@ -162,7 +162,7 @@ module _ (p q : Strand) (okp : motif_verdict p ≡ Accepted) (okq : motif_verdic
   unfolding handed_in
   handed_1 = motif_1 (encode_motif p) (encode_motif q) (motif_length p (fits p okp)) (motif_length q (fits q okq)) ∙ motif_back q (fits q okq)
 
-  pub handed_pass : motifs_verdict (handed_in p q) ≡ Accepted
+  pub handed_pass : motifs_verdict (handed_in p q) ≡ Ok tt
   unfolding handed_in
   handed_pass =
       both_pass (encode_motif p) (encode_motif q) (motif_length p (fits p okp)) (motif_length q (fits q okq)) (held_one p (fits p okp)) (held_one q (fits q

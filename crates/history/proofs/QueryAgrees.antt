@@ -1,4 +1,5 @@
 -- Query: the bytes and the model come to the same, and the bytes go on following.
+use Rattle.std.specs.Prelude.{Ok}
 use Prim.Native.Nat.{ℕ, ◌<◌, ◌≤◌}
 use native.Mathlib.Omega.{arith}
 use native.Mathlib.Nat.{mod-lt}
@@ -13,7 +14,6 @@ use Rattle.lists.specs.Vocabulary.{select, put_at}
 use Rattle.lists.proofs.ListLaws.{by_bool}
 use Rattle.lists.proofs.Ranges.{select_ext}
 use Rattle.strand.specs.Strands.{Strand, key}
-use Rattle.refusals.specs.declared.Verdict.TheVariants.{Accepted}
 use Rattle.block.specs.Block.{block_of, block_count}
 use Rattle.block.specs.Content.{encode_entry}
 use Rattle.calls.specs.Buffers.{most_catalog_blocks, in_range, motif_verdict, Holding, is_held, held, molecule_at, slot_of, clean_cache}
@@ -124,7 +124,7 @@ module _ (embeds : Strand → Strand → Bool) (B S : ℕ) (β : Buffers) (σ : 
   new_entry = ap₂ (encode_entry p) (fun_ext held_is) (fun_ext hit_is)
 
   -- One accepted query of this motif, whatever its work slice and its hit slice
-  module _ (work : ℕ) (hits : List ℕ) (a : query_verdict β.catalog β.cache p work (length hits) ≡ Accepted) where
+  module _ (work : ℕ) (hits : List ℕ) (a : query_verdict β.catalog β.cache p work (length hits) ≡ Ok tt) where
     pub query_same : query_result (query_outcome embeds β.catalog β.cache p work hits).answer
         (query_outcome embeds β.catalog β.cache p work hits).hits
         ≡ found (length (hit_list embeds B S σ p)) (hit_list embeds B S σ p) (length (search_list embeds B S σ p))
@@ -147,7 +147,7 @@ module _ (embeds : Strand → Strand → Bool) (B S : ℕ) (β : Buffers) (σ : 
         new.only.others s (omega (arith, count_is (clean_cache β.cache) S (clean_length β.cache S f.sized))) ne
         ∙ clean_is s l)
 
-    pub query_follows : motif_verdict p ≡ Accepted
+    pub query_follows : motif_verdict p ≡ Ok tt
         → Follows embeds B S (buffers_of β.catalog (query_outcome embeds β.catalog β.cache p work hits).cache)
         (asked embeds B S σ p) (λ s. 0)
     unfolding asked
@@ -157,7 +157,7 @@ module _ (embeds : Strand → Strand → Bool) (B S : ℕ) (β : Buffers) (σ : 
 
 module _ (embeds : Strand → Strand → Bool) (B S : ℕ) (p : Strand) (work : ℕ) (hits : List ℕ) where
   module _ (β : Buffers) (σ : State) (times : ℕ → ℕ) (f : Follows embeds B S β σ times) where
-    accepted : model_verdict embeds B S σ (query p work hits) ≡ Accepted → bytes_verdict β (query p work hits) ≡ Accepted → Few S times
+    accepted : model_verdict embeds B S σ (query p work hits) ≡ Ok tt → bytes_verdict β (query p work hits) ≡ Ok tt → Few S times
         → (bytes_result embeds β (query p work hits) ≡ model_answer embeds B S σ (query p work hits))
         × Follows embeds B S (bytes_next embeds β (query p work hits)) (model_next embeds B S σ (query p work hits)) (λ s. 0)
     unfolding bytes_verdict bytes_result bytes_next model_answer model_next

@@ -1,10 +1,10 @@
 -- Remove: the bytes and the model come to the same, and the bytes go on following.
+use Rattle.std.specs.Prelude.{Ok}
 use Prim.Native.Nat.{ℕ, ◌<◌, ◌≤◌}
 use native.Mathlib.Omega.{arith}
 use mathlib.Core.Path.{◌≡◌, refl, ap, ◌∙◌}
 use mathlib.Core.Bool.{Bool, true}
 use Rattle.strand.specs.Strands.{Strand}
-use Rattle.refusals.specs.declared.Verdict.TheVariants.{Accepted}
 use Rattle.block.specs.Block.{forgot}
 use Rattle.calls.specs.Buffers.{most_catalog_blocks}
 use Rattle.calls.specs.Calls.{remove_result}
@@ -20,7 +20,7 @@ use Rattle.history.proofs.Follows.{Few, Follows, fresh, CallAgrees, by_verdict_l
 
 module _ (embeds : Strand → Strand → Bool) (B S : ℕ) (d : ℕ) where
   module _ (β : Buffers) (σ : State) (times : ℕ → ℕ) (f : Follows embeds B S β σ times) where
-    accepted : model_verdict embeds B S σ (remove d) ≡ Accepted → bytes_verdict β (remove d) ≡ Accepted → Few S times
+    accepted : model_verdict embeds B S σ (remove d) ≡ Ok tt → bytes_verdict β (remove d) ≡ Ok tt → Few S times
         → (bytes_result embeds β (remove d) ≡ model_answer embeds B S σ (remove d))
         × Follows embeds B S (bytes_next embeds β (remove d)) (model_next embeds B S σ (remove d)) (λ s. 0)
     unfolding bytes_verdict bytes_result bytes_next model_answer model_next remove_result

@@ -1,4 +1,5 @@
 -- Every query of the model's log is right, in the words of the demand.
+use Rattle.std.specs.Prelude.{Ok, Err}
 use Prim.Native.Nat.{ℕ, zero, suc, ◌+◌, ◌<◌, ◌≤◌}
 use native.Mathlib.Omega.{arith}
 use native.Mathlib.Decide.{dec_lt}
@@ -13,9 +14,7 @@ use Rattle.lists.proofs.ListLaws.{never}
 use Rattle.lists.proofs.Ranges.{Selected, selected}
 use Rattle.strand.specs.Strands.{Strand}
 use Rattle.refusals.specs.declared.Refusal.{Refusal}
-use Rattle.refusals.specs.declared.Verdict.{Verdict}
-use Rattle.refusals.specs.declared.Verdict.TheVariants.{Accepted, Refused}
-use Rattle.refusals.specs.Rules.{by_verdict}
+use Rattle.refusals.specs.Rules.{by_verdict, Verdict}
 use Rattle.refusals.proofs.RuleLaws.{by_accepted, by_refused}
 use Rattle.block.specs.Block.{block_count}
 use Rattle.calls.specs.Buffers.{motif_verdict, Holding}
@@ -149,8 +148,8 @@ module _ (embeds : Strand → Strand → Bool) (Relation : Strand → Strand →
     where
       go : (v : Verdict) → holding_after d (σ.molecules d) c (by_verdict v refused_by (model_answer embeds B S σ c))
           ≡ (by_verdict v (λ r. σ) (model_next embeds B S σ c)).molecules d
-      go Accepted = unfold by_verdict in (holding_accepted σ d c)
-      go (Refused r) = unfold by_verdict holding_after refused_by in refl
+      go (Ok u) = unfold by_verdict in (holding_accepted σ d c)
+      go (Err r) = unfold by_verdict holding_after refused_by in refl
 
   right_after : (holdings holdings' : ℕ → Holding) (y : Line) (before : List Line) (a : Ask)
       → ((d : ℕ) → holding_after d (holdings d) y.of y.result ≡ holdings' d)
@@ -161,7 +160,7 @@ module _ (embeds : Strand → Strand → Bool) (Relation : Strand → Strand →
 
   module _ (decides : Decides Relation embeds) where
     -- an accepted query of a motif, now
-    right_query : (σ : State) → StateOk B σ → (p : Strand) → motif_verdict p ≡ Accepted
+    right_query : (σ : State) → StateOk B σ → (p : Strand) → motif_verdict p ≡ Ok tt
         → RightFrom σ.molecules []
         (record { motif = p; count = length (hit_list embeds B S σ p); hits = hit_list embeds B S σ p })
     unfolding hit_list holding_since Decides
@@ -193,7 +192,7 @@ module _ (embeds : Strand → Strand → Bool) (Relation : Strand → Strand →
         u t l))
 
     -- the queries of a call that is accepted now
-    asks_accepted : (σ : State) → StateOk B σ → (c : Call) → model_verdict embeds B S σ c ≡ Accepted
+    asks_accepted : (σ : State) → StateOk B σ → (c : Call) → model_verdict embeds B S σ c ≡ Ok tt
         → Each (RightFrom σ.molecules []) (asks_of c (model_answer embeds B S σ c))
     unfolding Each asks_of model_answer
     asks_accepted σ ok (add d q) e = tt
@@ -207,8 +206,8 @@ module _ (embeds : Strand → Strand → Bool) (Relation : Strand → Strand →
     asks_right σ ok c = go (model_verdict embeds B S σ c) refl
       where
         go : (v : Verdict) → model_verdict embeds B S σ c ≡ v → Each (RightFrom σ.molecules []) (asks_of c (model_result embeds B S σ c))
-        go Accepted e = rw (by_accepted (model_verdict embeds B S σ c) refused_by (model_answer embeds B S σ c) e) (asks_accepted σ ok c e)
-        go (Refused r) e = rw (by_refused (model_verdict embeds B S σ c) refused_by (model_answer embeds B S σ c) r e) (each_refused _ c r)
+        go (Ok u) e = rw (by_accepted (model_verdict embeds B S σ c) refused_by (model_answer embeds B S σ c) e) (asks_accepted σ ok c e)
+        go (Err r) e = rw (by_refused (model_verdict embeds B S σ c) refused_by (model_answer embeds B S σ c) r e) (each_refused _ c r)
 
     -- `before` is the log in front of the query's line from here
     right_log : (es : List Event) (σ : State) → StateOk B σ → (before after : List Line) (line : Line) (a : Ask) (front back : List Ask)
@@ -257,11 +256,11 @@ module _ (embeds : Strand → Strand → Bool) (B S : ℕ) where
   many_found σ motifs work slice each read e = go (model_verdict embeds B S σ (batch motifs work slice)) refl
     where
       go : (v : Verdict) → model_verdict embeds B S σ (batch motifs work slice) ≡ v → length each ≡ block_count motifs
-      go Accepted a =
+      go (Ok u) a =
           let h : found_all each read ≡ model_answer embeds B S σ (batch motifs work slice) = e ∙ by_accepted _ refused_by _ a in
           let l : each ≡ tab (block_count motifs) (found_by embeds B S σ motifs) = cc in
           ap length l ∙ tab_size (found_by embeds B S σ motifs) (block_count motifs)
-      go (Refused r) a =
+      go (Err r) a =
           let h : found_all each read ≡ refused_by r = e ∙ by_refused _ refused_by _ r a in
           let z : ◌≡◌ {A = ℕ} 0 1 = cc in
           absurd (omega arith)

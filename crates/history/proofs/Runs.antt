@@ -3,9 +3,8 @@ use mathlib.Core.Path.{◌≡◌, refl, ◌∙◌, ap}
 use mathlib.Core.List.{List, [], ◌∷◌}
 use mathlib.Core.Bool.{Bool}
 use Rattle.strand.specs.Strands.{Strand}
-use Rattle.calls.specs.declared.Added.{Added}
-use Rattle.calls.specs.declared.Removed.{Removed}
 use Rattle.block.specs.Block.{block_count}
+use Rattle.calls.specs.Answers.{Added, Removed}
 use Rattle.calls.specs.Calls.{Effect, add_outcome, remove_outcome, QueryEffect, query_outcome, add_result, remove_result, query_result}
 use Rattle.calls.specs.Batch.{BatchEffect, batch_outcome, batch_result}
 use Rattle.history.specs.Model.{add, remove, query, batch, Event, call, alter, Line, gave}

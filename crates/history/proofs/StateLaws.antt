@@ -1,4 +1,5 @@
 -- What the model keeps on every history: molecules and motifs that rules 1 to 7 let pass, sets of held numbers, nothing at or above B.
+use Rattle.std.specs.Prelude.{Ok, Err}
 use Prim.Native.Nat.{ℕ, zero, suc, ◌<◌, ◌≤◌}
 use native.Mathlib.Omega.{arith}
 use mathlib.Core.Path.{◌≡◌, refl, ap, ◌∙◌}
@@ -10,9 +11,7 @@ use lib.Dec.{leb, eqb}
 use borrow.Author.Tests.{leb-false, leb-true, eq-eqb}
 use Rattle.lists.specs.Vocabulary.{nth, put_at}
 use Rattle.strand.specs.Strands.{Strand}
-use Rattle.refusals.specs.Rules.{no_side, not_whole_blocks, number_too_large, already_held, refuse_if}
-use Rattle.refusals.specs.declared.Verdict.{Verdict}
-use Rattle.refusals.specs.declared.Verdict.TheVariants.{Accepted, Refused}
+use Rattle.refusals.specs.Rules.{no_side, not_whole_blocks, number_too_large, already_held, refuse_if, Verdict}
 use Rattle.lists.proofs.ListLaws.{by_bool, and_true, not_not, never, choose_yes, choose_no}
 use Rattle.refusals.proofs.RuleLaws.{first_pass, rule_pass, by_accepted, by_refused}
 use Rattle.octets.specs.Octets.{without}
@@ -26,11 +25,11 @@ use Rattle.history.specs.Model.{model_next, model_after, model_alter, slot_block
 
 abbrev pub HoldingOk : Holding → Type 0
 HoldingOk vacant = Unit
-HoldingOk (holds q) = molecule_verdict q ≡ Accepted
+HoldingOk (holds q) = molecule_verdict q ≡ Ok tt
 
 abbrev pub SlotOk : (ℕ → Holding) → Slot → Type 0
 SlotOk mols nothing = Unit
-SlotOk mols (keeps m set) = (motif_verdict m ≡ Accepted) × ((d : ℕ) → set d ≡ true → is_held (mols d) ≡ true)
+SlotOk mols (keeps m set) = (motif_verdict m ≡ Ok tt) × ((d : ℕ) → set d ≡ true → is_held (mols d) ≡ true)
 
 pub record StateOk (B : ℕ) (σ : State) : Type 0 where
   pub holding_ok : (d : ℕ) → HoldingOk (σ.molecules d)
@@ -44,8 +43,8 @@ start_ok B = record { holding_ok = λ d. tt; slot_ok = λ s. tt; above = λ d l.
 -- What an accepted call has passed
 
 module _ (embeds : Strand → Strand → Bool) (B S : ℕ) (σ : State) where
-  pub add_passed : (d : ℕ) (q : Strand) → model_verdict embeds B S σ (add d q) ≡ Accepted
-      → (d < B) × (is_held (σ.molecules d) ≡ false) × (molecule_verdict q ≡ Accepted)
+  pub add_passed : (d : ℕ) (q : Strand) → model_verdict embeds B S σ (add d q) ≡ Ok tt
+      → (d < B) × (is_held (σ.molecules d) ≡ false) × (molecule_verdict q ≡ Ok tt)
   unfolding model_verdict held_in
   add_passed d q e =
       let r = (first_pass (refuse_if not_whole_blocks no_side (not (in_range B S))) _ e).1 in
@@ -54,25 +53,25 @@ module _ (embeds : Strand → Strand → Bool) (B S : ℕ) (σ : State) where
       let z = first_pass (molecule_verdict q) [] y.1 in
       (leb-false B d (rule_pass number_too_large no_side _ x.0), rule_pass already_held no_side _ y.0, z.0)
 
-  pub remove_passed : (d : ℕ) → model_verdict embeds B S σ (remove d) ≡ Accepted → d < B
+  pub remove_passed : (d : ℕ) → model_verdict embeds B S σ (remove d) ≡ Ok tt → d < B
   unfolding model_verdict
   remove_passed d e =
       let r = (first_pass (refuse_if not_whole_blocks no_side (not (in_range B S))) _ e).1 in
       leb-false B d (rule_pass number_too_large no_side (leb B d) (first_pass (refuse_if number_too_large no_side (leb B d)) _ r).0)
 
-  pub query_passed : (p : Strand) (work : ℕ) (hits : List ℕ) → model_verdict embeds B S σ (query p work hits) ≡ Accepted → motif_verdict p ≡ Accepted
+  pub query_passed : (p : Strand) (work : ℕ) (hits : List ℕ) → model_verdict embeds B S σ (query p work hits) ≡ Ok tt → motif_verdict p ≡ Ok tt
   unfolding model_verdict
   query_passed p work hits e = (first_pass (motif_verdict p) _ (first_pass (refuse_if not_whole_blocks no_side (not (in_range B S))) _ e).1).0
 
-  pub batch_passed : (motifs : List ℕ) (work : ℕ) (hits : List ℕ) → model_verdict embeds B S σ (batch motifs work hits) ≡ Accepted → UsableMotifs motifs
+  pub batch_passed : (motifs : List ℕ) (work : ℕ) (hits : List ℕ) → model_verdict embeds B S σ (batch motifs work hits) ≡ Ok tt → UsableMotifs motifs
   unfolding model_verdict
   batch_passed motifs work hits e =
       motifs_usable motifs (first_pass (motifs_verdict motifs) _ (first_pass (refuse_if not_whole_blocks no_side (not (in_range B S))) _ e).1).0
 
-  range_rule_lem : refuse_if not_whole_blocks no_side (not (in_range B S)) ≡ Accepted → in_range B S ≡ true
+  range_rule_lem : refuse_if not_whole_blocks no_side (not (in_range B S)) ≡ Ok tt → in_range B S ≡ true
   range_rule_lem e = not_not _ (rule_pass not_whole_blocks no_side (not (in_range B S)) e)
 
-  pub range_passed : (c : Call) → model_verdict embeds B S σ c ≡ Accepted → in_range B S ≡ true
+  pub range_passed : (c : Call) → model_verdict embeds B S σ c ≡ Ok tt → in_range B S ≡ true
   unfolding model_verdict
   range_passed (add d q) e = range_rule_lem (first_pass (refuse_if not_whole_blocks no_side (not (in_range B S))) _ e).0
   range_passed (remove d) e = range_rule_lem (first_pass (refuse_if not_whole_blocks no_side (not (in_range B S))) _ e).0
@@ -136,7 +135,7 @@ module _ (embeds : Strand → Strand → Bool) (B S : ℕ) (σ : State) (ok : St
   slot_put : (s : ℕ) (x : Slot) → SlotOk σ.molecules x → (r : ℕ) → SlotOk σ.molecules (put_at σ.slots s x r)
   slot_put s x h = put_all σ.slots s x (λ r y. SlotOk σ.molecules y) h (λ r ne. ok.slot_ok r)
 
-  pub asked_ok : (p : Strand) → motif_verdict p ≡ Accepted → StateOk B (asked embeds B S σ p)
+  pub asked_ok : (p : Strand) → motif_verdict p ≡ Ok tt → StateOk B (asked embeds B S σ p)
   unfolding asked
   asked_ok p h =
       record {
@@ -159,7 +158,7 @@ module _ (embeds : Strand → Strand → Bool) (B S : ℕ) (σ : State) (motifs 
   asked_to_ok u ok (suc t) l = asked_ok embeds B S _ (asked_to_ok u ok t (omega arith)) (motif_of motifs t) (motif_verdict_lem motifs u t (omega arith))
 
 module _ (embeds : Strand → Strand → Bool) (B S : ℕ) (σ : State) (ok : StateOk B σ) where
-  pub next_ok : (c : Call) → model_verdict embeds B S σ c ≡ Accepted → StateOk B (model_next embeds B S σ c)
+  pub next_ok : (c : Call) → model_verdict embeds B S σ c ≡ Ok tt → StateOk B (model_next embeds B S σ c)
   unfolding model_next
   next_ok (add d q) e =
       let y = add_passed embeds B S σ d q e in
@@ -190,5 +189,5 @@ module _ (embeds : Strand → Strand → Bool) (B S : ℕ) (σ : State) (ok : St
   after_ok c = go (model_verdict embeds B S σ c) refl
     where
       go : (v : Verdict) → model_verdict embeds B S σ c ≡ v → StateOk B (model_after embeds B S σ c)
-      go Accepted e = rw (by_accepted (model_verdict embeds B S σ c) (λ r. σ) (model_next embeds B S σ c) e) (next_ok c e)
-      go (Refused r) e = rw (by_refused (model_verdict embeds B S σ c) (λ r. σ) (model_next embeds B S σ c) r e) ok
+      go (Ok u) e = rw (by_accepted (model_verdict embeds B S σ c) (λ r. σ) (model_next embeds B S σ c) e) (next_ok c e)
+      go (Err r) e = rw (by_refused (model_verdict embeds B S σ c) (λ r. σ) (model_next embeds B S σ c) r e) ok

@@ -1,5 +1,6 @@
 -- Refusals: the rules read a call's inputs, B, S and which numbers are held, and nothing of what the cache has. So on every list of events, with any
 -- alterations, the bytes refuse just what the model refuses.
+use Rattle.std.specs.Prelude.{Ok, Err}
 use Prim.Native.Nat.{ℕ, ◌+◌, ◌*◌}
 use native.Mathlib.Omega.{arith}
 use mathlib.Core.Path.{◌≡◌, refl, sym, ap, ap₂, ◌∙◌}
@@ -7,9 +8,8 @@ use mathlib.Core.Bool.{Bool}
 use mathlib.Core.List.{List, [], ◌∷◌}
 use lib.ListN.{length, length-set, length-replicate}
 use Rattle.strand.specs.Strands.{Strand}
+use Rattle.refusals.specs.Rules.{Verdict}
 use Rattle.refusals.specs.declared.Refusal.{Refusal}
-use Rattle.refusals.specs.declared.Verdict.{Verdict}
-use Rattle.refusals.specs.declared.Verdict.TheVariants.{Accepted, Refused}
 use Rattle.refusals.proofs.RuleLaws.{by_accepted, by_refused}
 use Rattle.block.specs.Content.{block_size}
 use Rattle.block.specs.Block.{block_count}
@@ -42,33 +42,33 @@ module _ (embeds : Strand → Strand → Bool) (B S : ℕ) where
   -- ---- the model by its verdict
 
   module _ (σ : State) (c : Call) where
-    pub result_accepted : model_verdict embeds B S σ c ≡ Accepted → model_result embeds B S σ c ≡ model_answer embeds B S σ c
+    pub result_accepted : model_verdict embeds B S σ c ≡ Ok tt → model_result embeds B S σ c ≡ model_answer embeds B S σ c
     unfolding model_result
     result_accepted e = by_accepted (model_verdict embeds B S σ c) refused_by (model_answer embeds B S σ c) e
 
-    pub after_accepted : model_verdict embeds B S σ c ≡ Accepted → model_after embeds B S σ c ≡ model_next embeds B S σ c
+    pub after_accepted : model_verdict embeds B S σ c ≡ Ok tt → model_after embeds B S σ c ≡ model_next embeds B S σ c
     unfolding model_after
     after_accepted e = by_accepted (model_verdict embeds B S σ c) (λ r. σ) (model_next embeds B S σ c) e
 
-    pub result_refused : (r : Refusal) → model_verdict embeds B S σ c ≡ Refused r → model_result embeds B S σ c ≡ refused_by r
+    pub result_refused : (r : Refusal) → model_verdict embeds B S σ c ≡ Err r → model_result embeds B S σ c ≡ refused_by r
     unfolding model_result
     result_refused r e = by_refused (model_verdict embeds B S σ c) refused_by (model_answer embeds B S σ c) r e
 
-    pub after_refused : (r : Refusal) → model_verdict embeds B S σ c ≡ Refused r → model_after embeds B S σ c ≡ σ
+    pub after_refused : (r : Refusal) → model_verdict embeds B S σ c ≡ Err r → model_after embeds B S σ c ≡ σ
     unfolding model_after
     after_refused r e = by_refused (model_verdict embeds B S σ c) (λ r. σ) (model_next embeds B S σ c) r e
 
   -- ---- one call
 
   -- an accepted call on the bytes is accepted by its result
-  answer_accepted : (β : Buffers) (c : Call) → bytes_verdict β c ≡ Accepted → verdict_of (bytes_result embeds β c) ≡ Accepted
+  answer_accepted : (β : Buffers) (c : Call) → bytes_verdict β c ≡ Ok tt → verdict_of (bytes_result embeds β c) ≡ Ok tt
   unfolding bytes_verdict bytes_result verdict_of add_result remove_result query_result
   answer_accepted β (add d q) e = rw (add_accepted β.catalog β.cache d q e).answer
   answer_accepted β (remove d) e = rw (remove_accepted β.catalog β.cache d e).answer
   answer_accepted β (query p work hits) e = rw (query_accepted_lem embeds β.catalog β.cache p work hits e).answer
   answer_accepted β (batch motifs work hits) e = rw (batch_found embeds β.catalog motifs work β.cache hits e)
 
-  model_accepted : (σ : State) (c : Call) → verdict_of (model_answer embeds B S σ c) ≡ Accepted
+  model_accepted : (σ : State) (c : Call) → verdict_of (model_answer embeds B S σ c) ≡ Ok tt
   unfolding model_answer verdict_of
   model_accepted σ (add d q) = refl
   model_accepted σ (remove d) = refl
@@ -76,7 +76,7 @@ module _ (embeds : Strand → Strand → Bool) (B S : ℕ) where
   model_accepted σ (batch motifs work hits) = refl
 
   -- after an accepted call
-  tracks_accepted : (β : Buffers) (σ : State) → Tracks β σ → (c : Call) → bytes_verdict β c ≡ Accepted
+  tracks_accepted : (β : Buffers) (σ : State) → Tracks β σ → (c : Call) → bytes_verdict β c ≡ Ok tt
       → Tracks (bytes_next embeds β c) (model_next embeds B S σ c)
   unfolding bytes_verdict bytes_next model_next asked
   tracks_accepted β σ t (add d q) e =
@@ -105,13 +105,13 @@ module _ (embeds : Strand → Strand → Bool) (B S : ℕ) where
   meets β σ t c = go (model_verdict embeds B S σ c) refl
     where
       go : (w : Verdict) → model_verdict embeds B S σ c ≡ w → Meets β σ c
-      go Accepted e =
+      go (Ok u) e =
           let b = same_verdict β σ t c ∙ e in
           record {
             same = answer_accepted β c b ∙ sym (ap verdict_of (result_accepted σ c e) ∙ model_accepted σ c);
             next = rw (after_accepted σ c e) (tracks_accepted β σ t c b);
           }
-      go (Refused r) e =
+      go (Err r) e =
           let y = bytes_refused embeds β c r (same_verdict β σ t c ∙ e) in
           record { same = ap verdict_of (y.0 ∙ sym (result_refused σ c r e)); next = rw (y.1, after_refused σ c r e) t }
 

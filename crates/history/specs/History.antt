@@ -1,16 +1,12 @@
 -- Runs of the calls, known by their contracts alone; which lists of events are admitted; and what is claimed of every run (01: demand 3).
-use Rattle.std.specs.Prelude.{ℕ, suc, ◌+◌, ◌*◌, ◌<◌, ◌≡◌, ◌↔◌, List, [], ◌∷◌, ◌++◌, Bool, true, ◌&&◌, eqb, leb, ltb, length, set, replicate}
+use Rattle.std.specs.Prelude.{ℕ, suc, ◌+◌, ◌*◌, ◌<◌, ◌≡◌, ◌↔◌, List, [], ◌∷◌, ◌++◌, Bool, true, ◌&&◌, eqb, leb, ltb, length, set, replicate, Ok}
 use Rattle.std.proofs.Math.Option.{none as vacant, some as holds}
 use Rattle.lists.specs.Vocabulary.{nth, choose, every, put_at}
 use Rattle.strand.specs.Strands.{Strand}
-use Rattle.refusals.specs.Rules.{refusal}
-use Rattle.refusals.specs.declared.Verdict.{Verdict}
-use Rattle.refusals.specs.declared.Verdict.TheVariants.{Accepted}
+use Rattle.refusals.specs.Rules.{refusal, Verdict}
 use Rattle.block.specs.Content.{block_size}
 use Rattle.block.specs.Block.{block_count}
-use Rattle.calls.specs.declared.Added.{Added}
-use Rattle.calls.specs.declared.Removed.{Removed}
-use Rattle.calls.specs.declared.Queried.{Queried}
+use Rattle.calls.specs.Answers.{Added, Removed, Queried}
 use Rattle.calls.specs.declared.Batched.{Batched}
 use Rattle.calls.specs.Buffers.{molecule_verdict, motif_verdict, Holding}
 use Rattle.calls.specs.Calls.{effect, add_outcome, remove_outcome, queried, query_outcome, Found, Result, refused, done, found, found_all, add_result}
@@ -81,16 +77,16 @@ SomeRun embeds = (β : Buffers) (es : List Event) → (log : List Line) × Ran e
 
 -- What the rules say of a call, by what it came to; and of each call of a log.
 unfoldable pub verdict_of : Result → Verdict
-verdict_of (refused number side place) = refusal number side place
-verdict_of done = Accepted
-verdict_of (found count hits searched) = Accepted
-verdict_of (found_all each read) = Accepted
+verdict_of (refused rule side place) = refusal rule side place
+verdict_of done = Ok tt
+verdict_of (found count hits searched) = Ok tt
+verdict_of (found_all each read) = Ok tt
 
 unfoldable pub verdicts_of : List Line → List Verdict
 verdicts_of [] = []
 verdicts_of (line ∷ log) = verdict_of line.result ∷ verdicts_of log
 
--- For every list, with no limit on alterations: a run refuses just what the model refuses, by the same number, side and place. So "accepted" is one notion
+-- For every list, with no limit on alterations: a run refuses just what the model refuses, by the same rule, side and place. So "accepted" is one notion
 -- for both.
 abbrev pub SameRefusals : (Strand → Strand → Bool) → Type 0
 SameRefusals embeds =
@@ -128,7 +124,7 @@ holding_by d x (batch motifs work hits) = x
 
 -- The same after a call that came to this, and after the calls of a log.
 unfoldable pub holding_after : ℕ → Holding → Call → Result → Holding
-holding_after d x c (refused number side place) = x
+holding_after d x c (refused rule side place) = x
 holding_after d x c done = holding_by d x c
 holding_after d x c (found count hits searched) = x
 holding_after d x c (found_all each read) = x
@@ -157,11 +153,11 @@ asks_from motifs t (x ∷ each) = record { motif = motif_of motifs t; count = x.
 unfoldable pub asks_of : Call → Result → List Ask
 asks_of (add d q) result = []
 asks_of (remove d) result = []
-asks_of (query p work slice) (refused number side place) = []
+asks_of (query p work slice) (refused rule side place) = []
 asks_of (query p work slice) done = []
 asks_of (query p work slice) (found count hits searched) = record { motif = p; count = count; hits = hits } ∷ []
 asks_of (query p work slice) (found_all each read) = []
-asks_of (batch motifs work slice) (refused number side place) = []
+asks_of (batch motifs work slice) (refused rule side place) = []
 asks_of (batch motifs work slice) done = []
 asks_of (batch motifs work slice) (found count hits searched) = []
 asks_of (batch motifs work slice) (found_all each read) = asks_from motifs 0 each
@@ -196,7 +192,7 @@ module _ (Relation : Strand → Strand → Type 0) where
 
   -- The test decides the relation for each motif and molecule that rules 1 to 7 let pass.
   unfoldable pub Decides : (Strand → Strand → Bool) → Type 0
-  Decides embeds = (p q : Strand) → motif_verdict p ≡ Accepted → molecule_verdict q ≡ Accepted → (embeds p q ≡ true) ↔ Relation p q
+  Decides embeds = (p q : Strand) → motif_verdict p ≡ Ok tt → molecule_verdict q ≡ Ok tt → (embeds p q ≡ true) ↔ Relation p q
 
   -- 01, demand 3, of every run: for all B and S, from zeroed buffers, through an admitted list.
   unfoldable pub RunTheorem : (Strand → Strand → Bool) → Type 0

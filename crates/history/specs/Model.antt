@@ -7,8 +7,7 @@ use Rattle.calls.specs.Calls.{Found, Result, refused, done, found, found_all, re
 use Rattle.calls.specs.Motifs.{motif_of}
 use Rattle.calls.specs.Batch.{batch_rules}
 use Rattle.lists.specs.Vocabulary.{nth, choose, some, select, tab, put_at}
-use Rattle.refusals.specs.Rules.{no_side, not_whole_blocks, refuse_if, by_verdict}
-use Rattle.refusals.specs.declared.Verdict.{Verdict}
+use Rattle.refusals.specs.Rules.{no_side, not_whole_blocks, refuse_if, by_verdict, Verdict}
 use Rattle.octets.specs.Octets.{without}
 use Rattle.block.specs.Content.{empty_block, encode_entry}
 use Rattle.block.specs.Block.{block_count}
@@ -33,7 +32,7 @@ pub data Event : Type 0 where
 
 -- An accepted call ends a period of alterations; a refused one does not.
 unfoldable pub ends_period : Result → Bool
-ends_period (refused number side place) = false
+ends_period (refused rule side place) = false
 ends_period done = true
 ends_period (found count hits searched) = true
 ends_period (found_all each read) = true

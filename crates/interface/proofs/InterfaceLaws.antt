@@ -2,7 +2,7 @@
 use Prim.Native.Nat.{ℕ}
 use mathlib.Core.Path.{◌≡◌, ap, ◌∙◌}
 use mathlib.Core.List.{List}
-use Rattle.calls.specs.declared.Queried.{Queried}
+use Rattle.calls.specs.Answers.{Queried}
 use Rattle.calls.specs.declared.Batched.{Batched}
 use Rattle.calls.specs.Calls.{Effect, effect, QueryEffect, queried}
 use Rattle.calls.specs.Batch.{BatchEffect, batched}

@@ -1,23 +1,14 @@
 -- The answers of the calls as C sees them: for each case of an answer the numbers of the struct.
-use Rattle.std.specs.Prelude.{ℕ, List}
+use Rattle.std.specs.Prelude.{ℕ, List, Option, Some, None, Ok, Err, cond}
 use Rattle.refusals.specs.declared.Refusal.{Refusal}
+use Rattle.refusals.specs.Rules.{number_of, number_of_side}
 use Rattle.strand.specs.declared.Fold.{Fold}
-use Rattle.strand.specs.declared.Checked.{Checked}
-use Rattle.strand.specs.declared.Checked.TheVariants as checked
-use Rattle.embedding.specs.declared.Verified.{Verified}
-use Rattle.embedding.specs.declared.Verified.TheVariants as verified
-use Rattle.matcher.specs.declared.Matched.{Matched}
-use Rattle.matcher.specs.declared.Matched.TheVariants as matched
-use Rattle.window.specs.declared.Windowed.{Windowed}
-use Rattle.window.specs.declared.Windowed.TheVariants as windowed
-use Rattle.calls.specs.declared.Added.{Added}
-use Rattle.calls.specs.declared.Added.TheVariants as added
-use Rattle.calls.specs.declared.Removed.{Removed}
-use Rattle.calls.specs.declared.Removed.TheVariants as removed
-use Rattle.calls.specs.declared.Queried.{Queried}
-use Rattle.calls.specs.declared.Queried.TheVariants as queried
-use Rattle.calls.specs.declared.BatchRead.{BatchRead}
-use Rattle.calls.specs.declared.BatchRead.TheVariants as batch_read
+use Rattle.strand.specs.Strands.{Checked}
+use Rattle.embedding.specs.Longest.{VerifyAnswer}
+use Rattle.matcher.specs.Answers.{Matched}
+use Rattle.window.specs.declared.search.Window.{Window}
+use Rattle.window.specs.Answers.{Windowed}
+use Rattle.calls.specs.Answers.{Added, Removed, Queried, BatchRead}
 use Rattle.calls.specs.declared.Batched.{Batched}
 use Rattle.calls.specs.Calls.{Effect, effect, QueryEffect}
 use Rattle.calls.specs.Batch.{BatchEffect}
@@ -35,17 +26,17 @@ no_fold = record { arcs = 0; depth = 0 }
 
 -- A refused call: 01's number, side and place, else zeros.
 abbrev pub refused : Refusal → Answer
-refused x = record { refusal = x.number; side = x.side; place = x.place; value = 0; searched = 0; arcs = 0; depth = 0 }
+refused x = record { refusal = number_of x.rule; side = number_of_side x.side; place = x.place; value = 0; searched = 0; arcs = 0; depth = 0 }
 
 -- Check: the fold of the molecule.
-unfoldable pub check_in_c : Checked → Answer
-check_in_c (checked.Nested f) = accepted 0 0 f
-check_in_c (checked.Refused x) = refused x
+abbrev pub check_in_c : Checked → Answer
+check_in_c (Ok f) = accepted 0 0 f
+check_in_c (Err x) = refused x
 
 -- Length and show: the length of the prefix, and the fold of the molecule.
-unfoldable pub match_in_c : Matched → Answer
-match_in_c (matched.Prefix L f) = accepted L 0 f
-match_in_c (matched.Refused x) = refused x
+abbrev pub match_in_c : Matched → Answer
+match_in_c (Ok r) = accepted r.length 0 r.fold
+match_in_c (Err x) = refused x
 
 -- An accepted window: refusal number 0, 1 or 0 for whether a window was found, its start and length, and the fold of the molecule.
 abbrev pub accepted_window : ℕ → ℕ → ℕ → Fold → WindowAnswer
@@ -55,34 +46,35 @@ accepted_window found start size f =
 -- A refused window: 01's number, side and place, else zeros.
 abbrev pub refused_window : Refusal → WindowAnswer
 refused_window x =
-    record { refusal = x.number; side = x.side; place = x.place; found = 0; start = 0; length = 0; arcs = 0; depth = 0 }
+    record { refusal = number_of x.rule; side = number_of_side x.side; place = x.place; found = 0; start = 0; length = 0; arcs = 0; depth = 0 }
 
 -- Window: 1 with start and length of the window, or zeros in these three where there is none; in both cases the fold of the molecule.
-unfoldable pub window_in_c : Windowed → WindowAnswer
-window_in_c (windowed.At s w f) = accepted_window 1 s w f
-window_in_c (windowed.Nowhere f) = accepted_window 0 0 0 f
-window_in_c (windowed.Refused x) = refused_window x
+abbrev pub found_in_c : Option Window → Fold → WindowAnswer
+found_in_c (Some window) f = accepted_window 1 window.start window.length f
+found_in_c None f = accepted_window 0 0 0 f
+
+abbrev pub window_in_c : Windowed → WindowAnswer
+window_in_c (Ok r) = found_in_c r.window r.fold
+window_in_c (Err x) = refused_window x
 
 -- Verify: 1 for yes, 0 for no, and the fold of the molecule.
-unfoldable pub verify_in_c : Verified → Answer
-verify_in_c (verified.Yes f) = accepted 1 0 f
-verify_in_c (verified.No f) = accepted 0 0 f
-verify_in_c (verified.Refused x) = refused x
+abbrev pub verify_in_c : VerifyAnswer → Answer
+verify_in_c (Ok r) = accepted (cond r.embeds 1 0) 0 r.fold
+verify_in_c (Err x) = refused x
 
--- Add: the fold of the molecule.
-unfoldable pub add_in_c : Added → Answer
-add_in_c (added.Stored f) = accepted 0 0 f
-add_in_c (added.Refused x) = refused x
+-- Add: the fold of the molecule, as check tells it.
+abbrev pub add_in_c : Added → Answer
+add_in_c a = check_in_c a
 
 -- Remove.
-unfoldable pub remove_in_c : Removed → Answer
-remove_in_c removed.Cleared = accepted 0 0 no_fold
-remove_in_c (removed.Refused x) = refused x
+abbrev pub remove_in_c : Removed → Answer
+remove_in_c (Ok u) = accepted 0 0 no_fold
+remove_in_c (Err x) = refused x
 
 -- Query: the count of hits, and how many molecules were searched.
-unfoldable pub query_in_c : Queried → Answer
-query_in_c (queried.Hits count searched) = accepted count searched no_fold
-query_in_c (queried.Refused x) = refused x
+abbrev pub query_in_c : Queried → Answer
+query_in_c (Ok h) = accepted h.count h.searched no_fold
+query_in_c (Err x) = refused x
 
 -- An accepted batch: refusal number 0, how many molecules were read, and for each motif its count of hits and its searched number.
 abbrev pub accepted_batch : ℕ → List ℕ → List ℕ → BatchAnswer
@@ -91,14 +83,14 @@ accepted_batch read counts searched = record { refusal = 0; side = 0; place = 0;
 -- A refused batch: number, side and place as 01 and 02 have them, nothing read, and the numbers of the motifs as the call has them, zeros.
 abbrev pub refused_batch : Refusal → List ℕ → List ℕ → BatchAnswer
 refused_batch x counts searched =
-    record { refusal = x.number; side = x.side; place = x.place; read = 0; counts = counts; searched = searched }
+    record { refusal = number_of x.rule; side = number_of_side x.side; place = x.place; read = 0; counts = counts; searched = searched }
 
 -- Batch: by how it ended, with the numbers of the motifs.
-unfoldable pub batch_read_in_c : BatchRead → List ℕ → List ℕ → BatchAnswer
-batch_read_in_c (batch_read.Molecules read) counts searched = accepted_batch read counts searched
-batch_read_in_c (batch_read.Refused x) counts searched = refused_batch x counts searched
+abbrev pub batch_read_in_c : BatchRead → List ℕ → List ℕ → BatchAnswer
+batch_read_in_c (Ok read) counts searched = accepted_batch read counts searched
+batch_read_in_c (Err x) counts searched = refused_batch x counts searched
 
-unfoldable pub batch_in_c : Batched → BatchAnswer
+abbrev pub batch_in_c : Batched → BatchAnswer
 batch_in_c a = batch_read_in_c a.read a.counts a.searched
 
 -- The effect of add or remove as C sees it: the struct in place of the answer, and both buffers afterwards.

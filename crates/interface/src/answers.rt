@@ -1,20 +1,24 @@
 // The answers of the calls as structs of numbers: one for window, one for batch, one for all others.
 ghost use Rattle.std.specs.Prelude.{◌≡◌};
-ghost use Rattle.interface.specs.Interface.{accepted, refused, no_fold, accepted_window, refused_window, accepted_batch, refused_batch};
-ghost use Rattle.interface.specs.Interface.{check_in_c, match_in_c, window_in_c, verify_in_c, add_in_c, remove_in_c, query_in_c, batch_in_c};
+ghost use Rattle.interface.specs.Interface.{accepted, refused, accepted_window, refused_window, accepted_batch, refused_batch};
+ghost use Rattle.interface.specs.Interface.{check_in_c, match_in_c, window_in_c, verify_in_c, remove_in_c, query_in_c, batch_in_c};
 
-use calls::{Added, BatchRead, Batched, MOST_MOTIFS, Queried, Removed};
+use crate::{Answer, BatchAnswer, WindowAnswer};
+use calls::{Batched, MOST_MOTIFS, Queried, Removed};
 use embedding::Verified;
 use matcher::Matched;
 use refusals::Refusal;
 use strand::{Checked, Fold};
 use window::Windowed;
 
+// Remove and query say nothing of a fold: zeros.
+const NO_FOLD: Fold = Fold { arcs: 0, depth: 0 };
+
 // An accepted call, and a refused one.
-fn accept(value: usize, searched: usize, fold: Fold) -> crate::Answer
+fn accept(value: usize, searched: usize, fold: Fold) -> Answer
     ensures { result ≡ accepted value searched fold }
 {
-    crate::Answer {
+    Answer {
         refusal: 0,
         side: 0,
         place: 0,
@@ -25,19 +29,12 @@ fn accept(value: usize, searched: usize, fold: Fold) -> crate::Answer
     }
 }
 
-// Remove and query say nothing of a fold: zeros.
-fn no_fold() -> Fold
-    ensures { result ≡ no_fold }
-{
-    Fold { arcs: 0, depth: 0 }
-}
-
-fn refuse(x: Refusal) -> crate::Answer
+fn refuse(x: Refusal) -> Answer
     ensures { result ≡ refused x }
 {
-    crate::Answer {
-        refusal: x.number as usize,
-        side: x.side as usize,
+    Answer {
+        refusal: usize::from(x.rule.number()),
+        side: usize::from(x.side.number()),
         place: x.place,
         value: 0,
         searched: 0,
@@ -47,10 +44,10 @@ fn refuse(x: Refusal) -> crate::Answer
 }
 
 // An accepted window with the fold of the molecule, and a refused one.
-fn accept_window(found: usize, start: usize, length: usize, molecule: Fold) -> crate::WindowAnswer
+fn accept_window(found: usize, start: usize, length: usize, molecule: Fold) -> WindowAnswer
     ensures { result ≡ accepted_window found start length molecule }
 {
-    crate::WindowAnswer {
+    WindowAnswer {
         refusal: 0,
         side: 0,
         place: 0,
@@ -62,11 +59,11 @@ fn accept_window(found: usize, start: usize, length: usize, molecule: Fold) -> c
     }
 }
 
-fn refuse_window(x: Refusal) -> crate::WindowAnswer
+fn refuse_window(x: Refusal) -> WindowAnswer
     ensures { result ≡ refused_window x }
 {
     let told = refuse(x);
-    crate::WindowAnswer {
+    WindowAnswer {
         refusal: told.refusal,
         side: told.side,
         place: told.place,
@@ -83,10 +80,10 @@ fn accept_batch(
     read: usize,
     counts: [usize; MOST_MOTIFS],
     searched: [usize; MOST_MOTIFS],
-) -> crate::BatchAnswer
+) -> BatchAnswer
     ensures { result ≡ accepted_batch read counts searched }
 {
-    crate::BatchAnswer {
+    BatchAnswer {
         refusal: 0,
         side: 0,
         place: 0,
@@ -100,11 +97,11 @@ fn refuse_batch(
     x: Refusal,
     counts: [usize; MOST_MOTIFS],
     searched: [usize; MOST_MOTIFS],
-) -> crate::BatchAnswer
+) -> BatchAnswer
     ensures { result ≡ refused_batch x counts searched }
 {
     let told = refuse(x);
-    crate::BatchAnswer {
+    BatchAnswer {
         refusal: told.refusal,
         side: told.side,
         place: told.place,
@@ -114,84 +111,89 @@ fn refuse_batch(
     }
 }
 
-// The struct for the answer of each call: check; length and show; window; verify; add; remove; query; batch.
-pub fn tell_check(a: Checked) -> crate::Answer
-    ensures { result ≡ check_in_c a }
-{
-    match a {
-        Checked::Nested(fold) => accept(0, 0, fold),
-        Checked::Refused(x) => refuse(x),
+// The struct for the answer of each call. Check, and add, which answers alike.
+impl From<Checked> for Answer {
+    ghost from_gives = { λ a r. r ≡ check_in_c a };
+
+    fn from(a: Checked) -> Answer {
+        match a {
+            Ok(fold) => accept(0, 0, fold),
+            Err(x) => refuse(x),
+        }
     }
 }
 
-pub fn tell_match(a: Matched) -> crate::Answer
-    ensures { result ≡ match_in_c a }
-{
-    match a {
-        Matched::Prefix { length, fold } => accept(length, 0, fold),
-        Matched::Refused(x) => refuse(x),
+// Length and show.
+impl From<Matched> for Answer {
+    ghost from_gives = { λ a r. r ≡ match_in_c a };
+
+    fn from(a: Matched) -> Answer {
+        match a {
+            Ok(prefix) => accept(prefix.length, 0, prefix.fold),
+            Err(x) => refuse(x),
+        }
     }
 }
 
-pub fn tell_window(a: Windowed) -> crate::WindowAnswer
-    ensures { result ≡ window_in_c a }
-{
-    match a {
-        Windowed::At {
-            start,
-            length,
-            fold,
-        } => accept_window(1, start, length, fold),
-        Windowed::Nowhere(fold) => accept_window(0, 0, 0, fold),
-        Windowed::Refused(x) => refuse_window(x),
+// Window.
+impl From<Windowed> for WindowAnswer {
+    ghost from_gives = { λ a r. r ≡ window_in_c a };
+
+    fn from(a: Windowed) -> WindowAnswer {
+        match a {
+            Ok(tightest) => match tightest.window {
+                Some(window) => accept_window(1, window.start, window.length, tightest.fold),
+                None => accept_window(0, 0, 0, tightest.fold),
+            },
+            Err(x) => refuse_window(x),
+        }
     }
 }
 
-pub fn tell_verify(a: Verified) -> crate::Answer
-    ensures { result ≡ verify_in_c a }
-{
-    match a {
-        Verified::Yes(fold) => accept(1, 0, fold),
-        Verified::No(fold) => accept(0, 0, fold),
-        Verified::Refused(x) => refuse(x),
+// Verify.
+impl From<Result<Verified, Refusal>> for Answer {
+    ghost from_gives = { λ a r. r ≡ verify_in_c a };
+
+    fn from(a: Result<Verified, Refusal>) -> Answer {
+        match a {
+            Ok(verified) => accept(usize::from(verified.embeds), 0, verified.fold),
+            Err(x) => refuse(x),
+        }
     }
 }
 
-pub fn tell_add(a: Added) -> crate::Answer
-    ensures { result ≡ add_in_c a }
-{
-    match a {
-        Added::Stored(fold) => accept(0, 0, fold),
-        Added::Refused(x) => refuse(x),
+// Remove.
+impl From<Removed> for Answer {
+    ghost from_gives = { λ a r. r ≡ remove_in_c a };
+
+    fn from(a: Removed) -> Answer {
+        match a {
+            Ok(()) => accept(0, 0, NO_FOLD),
+            Err(x) => refuse(x),
+        }
     }
 }
 
-pub fn tell_remove(a: Removed) -> crate::Answer
-    ensures { result ≡ remove_in_c a }
-{
-    if let Removed::Refused(x) = a {
-        return refuse(x);
-    }
-    accept(0, 0, no_fold())
-}
+// Query.
+impl From<Queried> for Answer {
+    ghost from_gives = { λ a r. r ≡ query_in_c a };
 
-pub fn tell_query(a: Queried) -> crate::Answer
-    ensures { result ≡ query_in_c a }
-{
-    match a {
-        Queried::Hits { count, searched } => accept(count, searched, no_fold()),
-        Queried::Refused(x) => refuse(x),
+    fn from(a: Queried) -> Answer {
+        match a {
+            Ok(hits) => accept(hits.count, hits.searched, NO_FOLD),
+            Err(x) => refuse(x),
+        }
     }
 }
 
-pub fn tell_batch(a: Batched) -> crate::BatchAnswer
-    ensures { result ≡ batch_in_c a }
-{
-    let read = a.read;
-    let counts = a.counts;
-    let searched = a.searched;
-    match read {
-        BatchRead::Molecules(n) => accept_batch(n, counts, searched),
-        BatchRead::Refused(x) => refuse_batch(x, counts, searched),
+// Batch.
+impl From<Batched> for BatchAnswer {
+    ghost from_gives = { λ a r. r ≡ batch_in_c a };
+
+    fn from(a: Batched) -> BatchAnswer {
+        match a.read {
+            Ok(read) => accept_batch(read, a.counts, a.searched),
+            Err(x) => refuse_batch(x, a.counts, a.searched),
+        }
     }
 }

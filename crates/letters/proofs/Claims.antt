@@ -6,6 +6,7 @@ use mathlib.Core.Logic.{◌⊎◌, inl, inr, ◌↔◌}
 use native.Mathlib.Decide.{ℕ_discrete}
 use lib.Dec.{eqb}
 use borrow.Author.Tests.{eq-eqb, ne_eqb, eqb-true}
+use Rattle.refusals.specs.declared.Side.{Side}
 use Rattle.letters.specs.Letters.{is_t_or_u, is_letter, letters_match}
 use Rattle.letters.specs.Classes.{letter_class}
 use Rattle.letters.specs.Statements.{AmongTU, LetterSays, MatchSays, MatchesAlike, Claims}
@@ -35,7 +36,7 @@ or_right true b c d = refl
 or_right false true c d = refl
 or_right false false c d = refl
 
-letter_says : (side b : ℕ) → LetterSays side b
+letter_says : (side : Side) (b : ℕ) → LetterSays side b
 unfolding is_letter
 letter_says side b =
     rw (or_right (eqb b 65) (eqb b 67) (eqb b 71) (is_t_or_u b))

@@ -1,58 +1,21 @@
--- Letters: tests as the numbers 1 and 0, their sum and the least of them; a base that is a letter, and one that is none; the rule by classes, and by the
+-- Letters: tests as the numbers 1 and 0, and the least of them; a base that is a letter, and one that is none; the rule by classes, and by the
 -- other spelling of one side.
 use mathlib.Core.Path.{◌≡◌, refl, sym, ap, subst, ◌∙◌}
 use mathlib.Core.Bool.{Bool, true, false, true≢false, not, ◌&&◌, ◌||◌}
 use mathlib.Core.List.{List}
-use Prim.Native.Nat.{ℕ, ◌+◌, ◌-◌, ◌≤◌, ◌<◌, min}
+use Prim.Native.Nat.{ℕ, ◌+◌, ◌≤◌, ◌<◌, min}
 use native.Mathlib.Decide.{ℕ_discrete, dec_lt}
 use native.Mathlib.Numerals.{add-one}
 use native.Mathlib.Omega.{arith}
 use lib.Dec.{eqb}
+use mir.Val.{bool_byte}
 use lib.ListN.{length, get_or-eq_default}
 use borrow.Author.Tests.{eq-eqb, ne_eqb, eqb-true}
 use Rattle.lists.specs.Vocabulary.{nth, choose, every, all}
 use Rattle.lists.proofs.ListLaws.{not_not, every_at, choose_yes, choose_no}
+use Rattle.refusals.specs.declared.Side.{Side}
 use Rattle.letters.specs.Letters.{is_letter, not_letter, letters_match, ReadAlike}
 use Rattle.letters.specs.Classes.{letter_class, other_letter}
-
-pub one_most : {r : ℕ} (b : Bool) → r ≡ choose b 1 0 → r ≤ 1
-unfolding choose
-one_most true e = omega arith
-one_most false e = omega arith
-
-pub two_most : {r : ℕ} (a b : Bool) → r ≡ choose a 1 0 + choose b 1 0 → r ≤ 2
-two_most a b e = omega (arith, e, one_most a refl, one_most b refl)
-
--- A byte that is x is not y, where these are two.
-pub one_of_first : (b x y : ℕ) → b ≡ x → eqb x y ≡ false → ◌≡◌ {A = ℕ} 1 (choose (eqb b x) 1 0 + choose (eqb b y) 1 0)
-unfolding choose
-one_of_first b x y e n = rw (e, n, eq-eqb x x refl) refl
-
-pub one_of_second : {r : ℕ} (b x y : ℕ) → (b ≡ x → ⊥) → r ≡ choose (eqb b y) 1 0 → r ≡ choose (eqb b x) 1 0 + choose (eqb b y) 1 0
-unfolding choose
-one_of_second b x y n e = rw (ne_eqb b x n) (omega (arith, e))
-
--- The letters differ, so at most one of the five tests is 1.
-pub letter_sum : (side b : ℕ)
-    → choose (eqb b 65) 1 0 + choose (eqb b 67) 1 0 + choose (eqb b 71) 1 0 + (choose (eqb b 84) 1 0 + choose (eqb b 85) 1 0) ≡ choose (is_letter side b) 1 0
-unfolding is_letter choose
-letter_sum side b = elim (ℕ_discrete b 65) [
-  | yes e ↦ rw e refl
-  | no a ↦ elim (ℕ_discrete b 67) [
-    | yes e ↦ rw e refl
-    | no c ↦ elim (ℕ_discrete b 71) [
-      | yes e ↦ rw e refl
-      | no g ↦ elim (ℕ_discrete b 84) [
-        | yes e ↦ rw e refl
-        | no t ↦ rw (ne_eqb b 65 a, ne_eqb b 67 c, ne_eqb b 71 g, ne_eqb b 84 t) (go (eqb b 85))
-      ]
-    ]
-  ]
-]
-  where
-    go : (t : Bool) → 0 + 0 + 0 + (0 + choose t 1 0) ≡ choose t 1 0
-    go true = refl
-    go false = refl
 
 -- The least of the tests of the first i numbers is 1 exactly where all of them pass.
 module _ (p : ℕ → Bool) where
@@ -60,11 +23,11 @@ module _ (p : ℕ → Bool) where
   unfolding every choose
   least_none = refl
 
-  pub least_next : {r l t : ℕ} (i : ℕ) → r ≡ min l t → l ≡ choose (every i p) 1 0 → t ≡ choose (p i) 1 0 → r ≡ choose (every (i + 1) p) 1 0
+  pub least_next : {r l : ℕ} {t : Bool} (i : ℕ) → r ≡ min l (bool_byte t) → l ≡ choose (every i p) 1 0 → t ≡ p i → r ≡ choose (every (i + 1) p) 1 0
   unfolding every choose
   least_next i er el et = er ∙ rw (el, et, add-one) (go (every i p) (p i))
     where
-      go : (a b : Bool) → min (choose a 1 0) (choose b 1 0) ≡ choose (b && a) 1 0
+      go : (a b : Bool) → min (choose a 1 0) (bool_byte b) ≡ choose (b && a) 1 0
       go true true = refl
       go true false = refl
       go false true = refl
@@ -80,7 +43,7 @@ module _ (p : ℕ → Bool) where
 -- ---- a letter
 
 -- The five letters.
-pub by_letter : (P : ℕ → Type 0) (side b : ℕ) → is_letter side b ≡ true → P 65 → P 67 → P 71 → P 84 → P 85 → P b
+pub by_letter : (P : ℕ → Type 0) (side : Side) (b : ℕ) → is_letter side b ≡ true → P 65 → P 67 → P 71 → P 84 → P 85 → P b
 unfolding is_letter
 by_letter P side b e hA hC hG hT hU = go (eqb b 65) refl (eqb b 67) refl (eqb b 71) refl (eqb b 84) refl e where
   go : (x : Bool) → eqb b 65 ≡ x → (y : Bool) → eqb b 67 ≡ y → (z : Bool) → eqb b 71 ≡ z → (t : Bool) → eqb b 84 ≡ t
@@ -92,12 +55,12 @@ by_letter P side b e hA hC hG hT hU = go (eqb b 65) refl (eqb b 67) refl (eqb b 
   go false h false i false j false k e = subst P (sym (eqb-true b 85 e)) hU
 
 -- A letter is a byte.
-pub letter_byte : (side b : ℕ) → is_letter side b ≡ true → b < 256
+pub letter_byte : (side : Side) (b : ℕ) → is_letter side b ≡ true → b < 256
 letter_byte side b e = by_letter (λ (x : ℕ). x < 256) side b e (omega arith) (omega arith) (omega arith) (omega arith) (omega arith)
 
 -- ---- a base
 
-module _ (side : ℕ) (bs : List ℕ) where
+module _ (side : Side) (bs : List ℕ) where
   pub letter_at : (i : ℕ) → not_letter side bs i ≡ false → is_letter side (nth bs i) ≡ true
   unfolding not_letter
   letter_at i e = not_not _ e
@@ -106,23 +69,13 @@ module _ (side : ℕ) (bs : List ℕ) where
   unfolding not_letter
   none_other e i l = ap not (every_at (λ k. is_letter side (nth bs k)) (length bs) i e l)
 
-  -- r is the test of base i as a number.
-  module _ {r : ℕ} (i : ℕ) (test : r ≡ choose (is_letter side (nth bs i)) 1 0) where
-    pub other_found : r ≡ 0 → not_letter side bs i ≡ true
-    unfolding not_letter
-    other_found e = go (is_letter side (nth bs i)) test
-      where
-        go : (b : Bool) → r ≡ choose b 1 0 → not b ≡ true
-        go true h = absurd (omega (arith, e, h ∙ choose_yes true 1 0 refl))
-        go false h = refl
+  pub other_found : (i : ℕ) → is_letter side (nth bs i) ≡ false → not_letter side bs i ≡ true
+  unfolding not_letter
+  other_found i e = ap not e
 
-    pub letter_found : (r ≡ 0 → ⊥) → not_letter side bs i ≡ false
-    unfolding not_letter
-    letter_found n = go (is_letter side (nth bs i)) test
-      where
-        go : (b : Bool) → r ≡ choose b 1 0 → not b ≡ false
-        go true h = refl
-        go false h = absurd (n (h ∙ choose_no false 1 0 refl))
+  pub letter_found : (i : ℕ) → is_letter side (nth bs i) ≡ true → not_letter side bs i ≡ false
+  unfolding not_letter
+  letter_found i e = ap not e
 
 -- ---- the rule by classes
 
@@ -144,24 +97,6 @@ match_class p q = go (ℕ_discrete p 84) (ℕ_discrete q 84) (ℕ_discrete p 85)
     go (no a) (no b) (yes c) (yes d) (no e) = rw (c, d)
     go (no a) (no b) (yes c) (no d) (no e) = rw (ne_eqb p q e, ne_eqb p 84 a, ne_eqb q 84 b, ne_eqb q 85 d, eq-eqb p 85 c) (sym (ne_eqb p q e))
     go (no a) (no b) (no c) d (no e) = rw (ne_eqb p q e, ne_eqb p 84 a, ne_eqb p 85 c, ne_eqb q 84 b) (sym (ne_eqb p q e))
-
--- The sums that the code makes of the tests for T and U.
-pub class_sum : (b : ℕ) → b + choose (eqb b 84) 1 0 ≡ letter_class b
-unfolding letter_class choose
-class_sum b = elim (ℕ_discrete b 84) [
-  | yes e ↦ rw e refl
-  | no n ↦ rw (ne_eqb b 84 n) (omega arith)
-]
-
-pub other_sum : (b : ℕ) → b + choose (eqb b 84) 1 0 - choose (eqb b 85) 1 0 ≡ other_letter b
-unfolding other_letter choose
-other_sum b = elim (ℕ_discrete b 84) [
-  | yes e ↦ rw e refl
-  | no n ↦ elim (ℕ_discrete b 85) [
-    | yes e ↦ rw e refl
-    | no m ↦ rw (ne_eqb b 84 n, ne_eqb b 85 m) (omega arith)
-  ]
-]
 
 -- The rule by the other spelling of the second base.
 pub match_other : (p q : ℕ) → letters_match p q ≡ (eqb p q || eqb p (other_letter q))
@@ -211,17 +146,6 @@ class_byte b l = go (eqb b 84)
     go true = omega arith
     go false = l
 
--- The sums stay bytes.
-module _ {r : ℕ} (b : ℕ) where
-  pub class_fits : r ≡ choose (eqb b 84) 1 0 → b < 256 → b + r < 256
-  class_fits e l = omega (arith, e, class_sum b, class_byte b l)
-
-  pub other_fits : (k : ℕ) → r ≡ choose (eqb b 85) 1 0 → r ≤ b + k
-  other_fits k es = elim (ℕ_discrete b 85) [
-    | yes e ↦ omega (arith, one_most _ es)
-    | no n ↦ omega (arith, es ∙ choose_no _ 1 0 (ne_eqb b 85 n))
-  ]
-
 -- T is matched by what matches U.
 pub match_t : (p : ℕ) → letters_match p 84 ≡ letters_match p 85
 unfolding letter_class choose
@@ -232,7 +156,7 @@ pub one_class : (a b : ℕ) → letters_match a b ≡ true → letter_class a �
 one_class a b e = eqb-true _ _ (sym (match_class a b) ∙ e)
 
 -- A letter is told by its class.
-pub letter_class_lem : (side b : ℕ) → is_letter side (letter_class b) ≡ is_letter side b
+pub letter_class_lem : (side : Side) (b : ℕ) → is_letter side (letter_class b) ≡ is_letter side b
 unfolding is_letter letter_class
 letter_class_lem side b = elim (ℕ_discrete b 84) [
   | yes e ↦ rw e (ap (is_letter side) (choose_yes true 85 84 refl))
@@ -253,7 +177,7 @@ module _ {a b : List ℕ} (R : ReadAlike a b) (x : ℕ) where
   pub alike_second : (c : ℕ) → letters_match c (nth a x) ≡ letters_match c (nth b x)
   alike_second c = match_class _ _ ∙ ap (eqb (letter_class c)) alike_class ∙ sym (match_class _ _)
 
-  pub alike_letter : (side : ℕ) → not_letter side a x ≡ not_letter side b x
+  pub alike_letter : (side : Side) → not_letter side a x ≡ not_letter side b x
   unfolding not_letter
   alike_letter side =
       ap not (sym (letter_class_lem side (nth a x)) ∙ ap (is_letter side) alike_class ∙ letter_class_lem side (nth b x))

@@ -1,5 +1,6 @@
 -- What is claimed of letters, for all bytes; `claims`, in proofs/Claims, proves it.
 use Rattle.std.specs.Prelude.{ℕ, ◌≡◌, true, ◌⊎◌, ◌↔◌}
+use Rattle.refusals.specs.declared.Side.{Side}
 use Rattle.letters.specs.Letters.{is_letter, letters_match}
 
 -- Among T and U.
@@ -7,7 +8,7 @@ abbrev pub AmongTU : ℕ → Type 0
 AmongTU b = (b ≡ 84) ⊎ (b ≡ 85)
 
 -- 01, Molecule and motif, and 02, (vi): the letters are A, C, G, U and T, on either side.
-abbrev pub LetterSays : ℕ → ℕ → Type 0
+abbrev pub LetterSays : Side → ℕ → Type 0
 LetterSays side b = (is_letter side b ≡ true) ↔ ((b ≡ 65) ⊎ (b ≡ 67) ⊎ (b ≡ 71) ⊎ AmongTU b)
 
 -- 02, (vi): two bases match exactly "when they are the same byte or both are among T and U".
@@ -20,10 +21,10 @@ pub record MatchesAlike : Type 0 where
   pub itself : (b : ℕ) → letters_match b b ≡ true
   pub either : (p q : ℕ) → letters_match p q ≡ letters_match q p
   pub alike : (a b c : ℕ) → letters_match a b ≡ true → letters_match a c ≡ letters_match b c
-  pub letter : (side a b : ℕ) → letters_match a b ≡ true → is_letter side a ≡ is_letter side b
+  pub letter : (side : Side) (a b : ℕ) → letters_match a b ≡ true → is_letter side a ≡ is_letter side b
 
 -- All the claims.
 pub record Claims : Type 0 where
-  pub letter_says : (side b : ℕ) → LetterSays side b
+  pub letter_says : (side : Side) (b : ℕ) → LetterSays side b
   pub match_says : (p q : ℕ) → MatchSays p q
   pub matches_alike : MatchesAlike

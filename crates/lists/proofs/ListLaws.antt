@@ -10,8 +10,12 @@ use native.Mathlib.Numerals.{add-one}
 use native.Mathlib.Decide.{dec_lt, ℕ_discrete}
 use borrow.Author.Tests.{eqb-true, eq-eqb, ne_eqb, lt-ltb, le-ltb}
 use lib.Dec.{eqb, ltb}
+use lib.Pointwise.{pointwise}
 use lib.ListN.{length, set, drop, length-append, get_or-append, drop_of_length-le, replicate, get_or-replicate, length-replicate, get_or-eq_default}
 use lib.Seq.{drop-cons, set_at, append_snoc, get_or_at, ext_get_or}
+use Rattle.std.specs.Prelude.{Option, Some, None, MatchOption}
+use Rattle.std.specs.Option.{unwrap_or}
+use Rattle.std.specs.List.{AllWithin, HoldsAt}
 use Rattle.lists.specs.Vocabulary.{nth, choose, every, all, some, lowest_from, lowest, tab, select, total, same_list}
 
 -- The answer b says whether A holds.
@@ -185,6 +189,15 @@ module _ (p : ℕ → Bool) where
   pub lowest_end : (n i : ℕ) → lowest i p ≡ i → i ≤ n → n ≤ i → i ≡ lowest n p
   lowest_end n i e a b = let z : i ≡ n = omega arith in sym e ∙ ap (λ (k : ℕ). lowest k p) z
 
+  -- What `position` finds in a list, where p is the test of its entries.
+  pub lowest_position : (Yes No : ℕ → Type 0) (xs : List ℕ) (r : Option ℕ) → ((i : ℕ) → i < length xs → Yes (nth xs i) → p i ≡ true)
+      → ((i : ℕ) → i < length xs → No (nth xs i) → p i ≡ false)
+      → MatchOption r (AllWithin No xs 0 (length xs)) (λ i. (i < length xs) × HoldsAt Yes xs i × AllWithin No xs 0 i)
+      → unwrap_or r (length xs) ≡ lowest (length xs) p
+  lowest_position Yes No xs None f g h = sym (lowest_all (length xs) (λ i l. g i l (h i 0 (omega arith) l)))
+  lowest_position Yes No xs (Some i) f g (l, at, below) =
+      sym (lowest_found (length xs) i (lowest_all i (λ k u. g k (omega arith) (below k 0 (omega arith) u))) l (f i l (at 0)))
+
   -- Some number below n passes exactly when the lowest is below n.
   pub some_lowest : (n : ℕ) → some n p ≡ ltb (lowest n p) n
   some_lowest n = go (some n p) refl
@@ -300,6 +313,14 @@ same_place (x ∷ xs) (y ∷ ys) (suc i) h k n = rw (same_place xs ys i (le_of_s
 
 pub same_all : (xs ys : List ℕ) → length xs ≡ length ys → ((i : ℕ) → i < length xs → nth xs i ≡ nth ys i) → same_list xs ys ≡ true
 same_all xs ys l h = ap (same_list xs) (sym (ext_get_or 0 xs ys l h)) ∙ same_refl xs
+
+-- What `==` of slices answers.
+pub same_pointwise : (xs ys : List ℕ) → pointwise eqb xs ys ≡ same_list xs ys
+unfolding same_list
+same_pointwise [] [] = refl
+same_pointwise [] (y ∷ ys) = refl
+same_pointwise (x ∷ xs) [] = refl
+same_pointwise (x ∷ xs) (y ∷ ys) = ap (λ (b : Bool). eqb x y && b) (same_pointwise xs ys)
 
 -- ---- passes and zeros
 

@@ -1,15 +1,14 @@
 -- The claims of specs/Statements hold.
 use Prim.Native.Nat.{ℕ}
-use mathlib.Core.Path.{◌≡◌, refl, sym, ◌∙◌}
+use mathlib.Core.Path.{◌≡◌, refl, sym, ap, ◌∙◌}
 use mathlib.Core.List.{List, []}
 use native.Mathlib.Omega.{arith}
-use Rattle.refusals.specs.declared.Verdict.{Verdict}
-use Rattle.refusals.specs.declared.Verdict.TheVariants as verdict
+use Rattle.std.specs.Prelude.{Ok, Err}
 use lib.Dec.{ltb}
 use lib.ListN.{length}
 use lib.Seq.{ext_get_or}
 use borrow.Author.Tests.{le-ltb}
-use Rattle.refusals.specs.Rules.{no_side, wrong_slice, by_verdict, Refuses}
+use Rattle.refusals.specs.Rules.{Verdict, no_side, wrong_slice, by_verdict, Refuses}
 use Rattle.refusals.proofs.RuleLaws.{first_without, rule_no, by_refused, by_accepted}
 use Rattle.refusals.proofs.Refusing.{Numbering, call_number, if_numbered, none_numbered, first_numbered, work_numbered, refuses_by}
 use Rattle.strand.proofs.FoldLaws.{fold_is, fold_only}
@@ -25,33 +24,46 @@ use Rattle.embedding.specs.Longest.{longest}
 use Rattle.embedding.specs.Embedding.{IsLongest, EmbedsIn}
 use Rattle.embedding.proofs.Spellings.{spelled_found}
 use Rattle.embedding.proofs.Claims as embedding
-use Rattle.matcher.specs.declared.Matched.TheVariants.{Prefix, Refused}
-use Rattle.matcher.specs.Answers.{length_verdict, length_answer, show_verdict, show_answer, empty_motif_verdict, PrefixSays, WholeSays, PlacesShown}
+use Rattle.matcher.specs.declared.Prefix.{Prefix}
+use Rattle.matcher.specs.Answers.{
+  Matched,
+  matched_prefix,
+  length_verdict,
+  length_answer,
+  show_verdict,
+  show_answer,
+  empty_motif_verdict,
+  PrefixSays,
+  WholeSays,
+  PlacesShown,
+}
 use Rattle.matcher.specs.Answers.{EmptyMotifMatched}
 use Rattle.matcher.specs.Statements.{Claims}
 use Rattle.matcher.proofs.CallLaws.{answer_prefix, pair_setting, length_rules, show_rules, length_facts, length_accepts, show_accepts}
 
 -- An answer that is a prefix was accepted, and is the length, with the fold.
-prefix_of : (v : Verdict) (K L : ℕ) (g f : Fold) → by_verdict v Refused (Prefix K g) ≡ Prefix L f → (v ≡ verdict.Accepted) × (K ≡ L) × (g ≡ f)
-prefix_of (verdict.Refused x) K L g f e =
-    absurd (let z = sym (by_refused (verdict.Refused x) Refused (Prefix K g) x refl) ∙ e in let y : ◌≡◌ {A = ℕ} 0 1 = cc in omega arith)
-prefix_of verdict.Accepted K L g f e = let z = sym (by_accepted verdict.Accepted Refused (Prefix K g) refl) ∙ e in (refl, cc, cc)
+prefix_of : (v : Verdict) (K L : ℕ) (g f : Fold) → by_verdict v Err (matched_prefix K g) ≡ matched_prefix L f → (v ≡ Ok tt) × (K ≡ L) × (g ≡ f)
+prefix_of (Err x) K L g f e = let z = sym (by_refused (Err x) Err (matched_prefix K g) x refl) ∙ e in cc
+prefix_of (Ok u) K L g f e =
+    let z = sym (by_accepted (Ok u) Err (matched_prefix K g) refl) ∙ e in
+    let same : ◌≡◌ {A = Prefix} (record { length = K; fold = g }) (record { length = L; fold = f }) = cc in
+    (refl, ap (λ (r : Prefix). r.length) same, ap (λ (r : Prefix). r.fold) same)
 
 -- Of accepted strands the length is the longest, and an accepting verdict v answers it.
-module _ (p pm q qm : List ℕ) (L : ℕ) (e : pair_verdict p pm q qm ≡ verdict.Accepted) where
+module _ (p pm q qm : List ℕ) (L : ℕ) (e : pair_verdict p pm q qm ≡ Ok tt) where
   is_longest : longest letters_match p pm q qm ≡ L → IsLongest letters_match p pm q qm L
   is_longest h = rw h at ((embedding.claims).longest_is letters_match p pm q qm (pair_setting p pm q qm e).motif.inside)
 
-  answers_longest : IsLongest letters_match p pm q qm L → (f : Fold) → IsFold qm f → (v : Verdict) → verdict.Accepted ≡ v
-      → by_verdict v Refused (Prefix (longest letters_match p pm q qm) (fold_of qm)) ≡ Prefix L f
+  answers_longest : IsLongest letters_match p pm q qm L → (f : Fold) → IsFold qm f → (v : Verdict) → Ok tt ≡ v
+      → by_verdict v Err (matched_prefix (longest letters_match p pm q qm) (fold_of qm)) ≡ matched_prefix L f
   answers_longest I f F v h =
       sym
       (answer_prefix v (longest letters_match p pm q qm) (fold_of qm) L f (sym h)
       ((embedding.claims).longest_only letters_match p pm q qm (pair_setting p pm q qm e).motif.inside L I) (fold_only qm f F))
 
 -- Where the rules accept only accepted strands.
-module _ (p pm q qm : List ℕ) (v : Verdict) (strands : v ≡ verdict.Accepted → pair_verdict p pm q qm ≡ verdict.Accepted) where
-  prefix_says : PrefixSays v p pm q qm (by_verdict v Refused (Prefix (longest letters_match p pm q qm) (fold_of qm)))
+module _ (p pm q qm : List ℕ) (v : Verdict) (strands : v ≡ Ok tt → pair_verdict p pm q qm ≡ Ok tt) where
+  prefix_says : PrefixSays v p pm q qm (by_verdict v Err (matched_prefix (longest letters_match p pm q qm) (fold_of qm)))
   prefix_says L f = (
     (λ e.
         let a = prefix_of v (longest letters_match p pm q qm) L (fold_of qm) f e in
@@ -64,15 +76,15 @@ module _ (p pm q qm : List ℕ) (v : Verdict) (strands : v ≡ verdict.Accepted 
   whole_longest E =
       record { upto = omega arith; closed = ((embedding.claims).ends (nth pm) (length p)).whole; embeds = E; largest = λ k h C F. h }
 
-  whole_says : WholeSays v p pm q qm (by_verdict v Refused (Prefix (longest letters_match p pm q qm) (fold_of qm)))
+  whole_says : WholeSays v p pm q qm (by_verdict v Err (matched_prefix (longest letters_match p pm q qm) (fold_of qm)))
   whole_says = (
     (λ e. let a = (prefix_says (length p) e.0).0 e.1 in (a.0, a.1.embeds)),
     (λ h. (fold_of qm, (prefix_says (length p) (fold_of qm)).1 (h.0, whole_longest h.1, fold_is qm))),
   )
 
-  prefix_refuses : Numbering v → Refuses v Refused (by_verdict v Refused (Prefix (longest letters_match p pm q qm) (fold_of qm)))
+  prefix_refuses : Numbering v → Refuses v Err (by_verdict v Err (matched_prefix (longest letters_match p pm q qm) (fold_of qm)))
   prefix_refuses ok =
-      refuses_by v Refused _ (λ r. r) Refused (λ r. refl) (λ r e. let z : ◌≡◌ {A = ℕ} 0 1 = cc in omega arith) ok (λ r s e. cc)
+      refuses_by {E = Matched} v Err _ (λ r. r) Err (λ r. refl) (λ r e. cc) ok (λ r s e. cc)
 
 length_numbered : (p pm q qm : List ℕ) (work : ℕ) → Numbering (length_verdict p pm q qm work)
 unfolding length_verdict
@@ -82,7 +94,7 @@ show_numbered : (p pm q qm : List ℕ) (places work : ℕ) → Numbering (show_v
 unfolding show_verdict
 show_numbered p pm q qm places work =
     first_numbered _ _ (pair_numbered p pm q qm)
-    (first_numbered _ _ (if_numbered 9 no_side (call_number 9 0 (omega arith) (omega arith) (λ n. refl)) _)
+    (first_numbered _ _ (if_numbered wrong_slice no_side (call_number 9 0 (omega arith) (omega arith) (λ n. refl)) _)
     (first_numbered _ _ (work_numbered (length p) (length q) work) none_numbered))
 
 -- ---- the motif with no bases
@@ -99,11 +111,11 @@ module _ (q qm : List ℕ) (work : ℕ) where
       rw ((strand.claims).empty_motif_says.pair q qm, rule_no wrong_slice no_side (ltb places 0) (le-ltb places 0 (omega arith)))
       (first_without (check_verdict q qm) _)
 
-  length_0 : length_answer [] [] q qm work ≡ by_verdict (empty_motif_verdict q qm work) Refused (Prefix 0 (fold_of qm))
+  length_0 : length_answer [] [] q qm work ≡ by_verdict (empty_motif_verdict q qm work) Err (matched_prefix 0 (fold_of qm))
   unfolding length_answer
   length_0 = rw (empty_rules, ((embedding.claims).empty_motif_lem letters_match q qm).longest_0)
 
-  show_0 : (places : ℕ) → show_answer [] [] q qm places work ≡ by_verdict (empty_motif_verdict q qm work) Refused (Prefix 0 (fold_of qm))
+  show_0 : (places : ℕ) → show_answer [] [] q qm places work ≡ by_verdict (empty_motif_verdict q qm work) Err (matched_prefix 0 (fold_of qm))
   unfolding show_answer
   show_0 places = rw (empty_shown places, ((embedding.claims).empty_motif_lem letters_match q qm).longest_0)
 
@@ -112,9 +124,9 @@ module _ (q qm : List ℕ) (work : ℕ) where
   unfolding PlacesShown by_verdict
   places_kept before after S = go (empty_motif_verdict q qm work) (rw (show_0 (length before)) at S)
     where
-      go : (v : Verdict) → PlacesShown (by_verdict v Refused (Prefix 0 (fold_of qm))) [] [] q qm before after → after ≡ before
-      go verdict.Accepted T = ext_get_or 0 after before T.long (λ k h. T.kept k (omega arith))
-      go (verdict.Refused x) e = e
+      go : (v : Verdict) → PlacesShown (by_verdict v Err (matched_prefix 0 (fold_of qm))) [] [] q qm before after → after ≡ before
+      go (Ok u) T = ext_get_or 0 after before T.long (λ k h. T.kept k (omega arith))
+      go (Err x) e = e
 
   empty_motif_matched : EmptyMotifMatched q qm work
   empty_motif_matched = record {

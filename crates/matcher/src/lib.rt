@@ -5,45 +5,42 @@ ghost use Rattle.std.specs.Prelude.{◌≡◌, length as len};
 ghost use Rattle.refusals.specs.Rules.{WorkKept};
 ghost use Rattle.matcher.specs.Answers.{length_verdict, length_answer, show_verdict, show_answer, PlacesShown};
 
-use refusals::{Refusal, Verdict, numbers};
+use refusals::{Refusal, Rule, Side, Verdict};
 use strand::Fold;
 
-// The answer of length and show: the length of the longest closed prefix that embeds, and the fold of the molecule.
-#[derive(Drop)]
-pub enum Matched {
-    Prefix { length: usize, fold: Fold },
-    Refused(Refusal),
+// What length and show find: the length of the longest closed prefix that embeds, and the fold of the molecule.
+#[derive(Clone, Copy, Debug, PartialEq, Eq)]
+pub struct Prefix {
+    pub length: usize,
+    pub fold: Fold,
 }
+
+// The answer of length and show: the prefix, or a refusal.
+pub type Matched = Result<Prefix, Refusal>;
 
 // The refusals of length: motif, molecule, then 8.
 pub fn judge_length(p: &[u8], pm: &[u16], q: &[u8], qm: &[u16], work: usize) -> Verdict
     ensures { result ≡ length_verdict p.now pm.now q.now qm.now work }
 {
-    let pair = strand::check_pair(p, pm, q, qm);
-    if let Verdict::Refused(x) = pair {
-        return Verdict::Refused(x);
-    }
+    strand::check_pair(p, pm, q, qm)?;
     if work < 64 * (p.len() + 1) + 8 * q.len() {
-        return refusals::refuse(numbers::WORK_TOO_SHORT, numbers::NEITHER, 0);
+        return refusals::refuse(Rule::WorkTooShort, Side::Neither, 0);
     }
-    Verdict::Accepted
+    Ok(())
 }
 
 // The refusals of show: motif, molecule, 9, then 8.
 fn judge_show(p: &[u8], pm: &[u16], q: &[u8], qm: &[u16], places: usize, work: usize) -> Verdict
     ensures { result ≡ show_verdict p.now pm.now q.now qm.now places work }
 {
-    let pair = strand::check_pair(p, pm, q, qm);
-    if let Verdict::Refused(x) = pair {
-        return Verdict::Refused(x);
-    }
+    strand::check_pair(p, pm, q, qm)?;
     if places < p.len() {
-        return refusals::refuse(numbers::WRONG_SLICE, numbers::NEITHER, 0);
+        return refusals::refuse(Rule::WrongSlice, Side::Neither, 0);
     }
     if work < 64 * (p.len() + 1) + 8 * q.len() {
-        return refusals::refuse(numbers::WORK_TOO_SHORT, numbers::NEITHER, 0);
+        return refusals::refuse(Rule::WorkTooShort, Side::Neither, 0);
     }
-    Verdict::Accepted
+    Ok(())
 }
 
 // The call length: the length of the longest closed prefix of the motif that embeds in the molecule, and the fold of the molecule.
@@ -51,13 +48,10 @@ pub fn length(p: &[u8], pm: &[u16], q: &[u8], qm: &[u16], work: &mut [u16]) -> M
     ensures { (result ≡ length_answer p.now pm.now q.now qm.now (len work.old))
         × WorkKept (length_verdict p.now pm.now q.now qm.now (len work.old)) work.old work.new }
 {
-    let verdict = judge_length(p, pm, q, qm, work.len());
-    if let Verdict::Refused(x) = verdict {
-        return Matched::Refused(x);
-    }
+    judge_length(p, pm, q, qm, work.len())?;
     let fold = strand::depth::fold_of(qm);
     let length = walk::prefix_length(p, pm, q, qm, work);
-    Matched::Prefix { length, fold }
+    Ok(Prefix { length, fold })
 }
 
 // The call show: the same, and in the first so many places an embedding of that prefix.
@@ -73,11 +67,8 @@ pub fn show(
         × PlacesShown result p.now pm.now q.now qm.now places.old places.new
         × WorkKept (show_verdict p.now pm.now q.now qm.now (len places.old) (len work.old)) work.old work.new }
 {
-    let verdict = judge_show(p, pm, q, qm, places.len(), work.len());
-    if let Verdict::Refused(x) = verdict {
-        return Matched::Refused(x);
-    }
+    judge_show(p, pm, q, qm, places.len(), work.len())?;
     let fold = strand::depth::fold_of(qm);
     let length = trace::place_all(p, pm, q, qm, places, work);
-    Matched::Prefix { length, fold }
+    Ok(Prefix { length, fold })
 }

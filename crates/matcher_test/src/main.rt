@@ -1,6 +1,6 @@
 // Tests of the crate matcher: the calls length and show on the cases of the input, which tools/matcher_cases.py makes.
 // A line of 112 bytes has
-// - in column 0 the calls: `l` length, `s` show, `b` and `r` both, `=` none;
+// - in column 0 the calls: `l` length, `s` show, `=` none, `r` and others both;
 // - from columns 2 and 27 the motif and the molecule (see `testing::strands`);
 // - from columns 52 and 59 how many places and how many entries of work the call gets;
 // - the wanted answer: in columns 65 and 66 the row of a refusal or 0, in 68 its side, from 70 its place or the length;
@@ -14,69 +14,124 @@
 
 mod ask;
 mod tally;
+mod wanted;
 
+use ask::{Call, Slices};
 use std::io;
-use std::io::{BufReader, Read};
+use std::io::BufReader;
 use tally::Tally;
-use testing::input::{MOST_LINES, kind, read};
-use testing::pairs::{LINE, TEXT, rounds, say_name};
-use testing::slices::part;
+use testing::input::{MOST_LINES, field, number, read};
+use testing::pairs;
+use testing::pairs::{LINE, Pair, TEXT, Wanted};
 
-fn asked<P: Print>(out: &P, t: Tally, line: &[u8], i: usize, call: usize) -> io::Result<Tally> {
-    tally::judged(out, t, line, ask::ask(line, i, call))
+const BOTH: [Call; 2] = [Call::Length, Call::Show];
+
+// What a line asks for: calls on its pair, both calls on so many random pairs, or the end of a group.
+#[derive(Clone, Copy, Debug)]
+enum Command {
+    Ask(&'static [Call]),
+    AskRandom(usize),
+    EndGroup,
 }
 
-fn both<P: Print>(out: &P, t: Tally, line: &[u8], i: usize) -> io::Result<Tally> {
-    let letter = kind(line);
-    if letter == b'l' {
-        return asked(out, t, line, i, 0);
-    }
-    if letter == b's' {
-        return asked(out, t, line, i, 1);
-    }
-    let sum = asked(out, t, line, i, 0)?;
-    asked(out, sum, line, i, 1)
-}
-
-fn case<P: Print>(out: &P, t: Tally, line: &[u8]) -> io::Result<Tally> {
-    let n = rounds(line, 70, 6);
-    let mut sum = t;
-    let mut i = 0;
-    while i < n {
-        sum = both(out, sum, line, i)?;
-        i += 1;
-    }
-    Ok(sum)
-}
-
-fn group<P: Print>(out: &P, t: Tally, line: &[u8]) -> io::Result<Tally> {
-    say_name(out, line)?;
-    tally::report(out, t)?;
-    Ok(tally::none())
-}
-
-fn step<P: Print>(out: &P, t: Tally, line: &[u8]) -> io::Result<Tally> {
-    if kind(line) == b'=' {
-        return group(out, t, line);
-    }
-    case(out, t, line)
-}
-
-fn cases<P: Print, R: Read>(out: &P, input: &mut R, line: &mut [u8]) -> io::Result<()> {
-    let mut t = tally::none();
-    let mut i: usize = 0;
-    while i < MOST_LINES {
-        if !read(input, line)? {
-            return Ok(());
+impl Command {
+    fn of(line: &[u8]) -> Option<Command> {
+        match line.first()? {
+            b'l' => Some(Command::Ask(&[Call::Length])),
+            b's' => Some(Command::Ask(&[Call::Show])),
+            b'r' => Some(Command::AskRandom(number(line, 70..76))),
+            b'=' => Some(Command::EndGroup),
+            _ => Some(Command::Ask(&BOTH)),
         }
-        t = step(out, t, part(line, 0, TEXT))?;
-        i += 1;
     }
-    Ok(())
+}
+
+// The lines' slices and counts.
+#[derive(Debug, Drop)]
+struct Bench {
+    slices: Slices,
+    tally: Tally,
+}
+
+impl Bench {
+    // One call, which is told where its answer is wrong.
+    fn call<P: Print>(
+        &mut self,
+        out: &P,
+        line: &[u8],
+        pair: &Pair,
+        wanted: Wanted<usize>,
+        call: Call,
+    ) -> io::Result<()> {
+        let told = self.slices.ask(line, pair, call);
+        let right = told.is_some_and(|told| wanted.is(told) && self.slices.right(pair, call, told));
+        if !right {
+            pairs::tell(out, line, told)?;
+        }
+        self.tally.count(told, pair.motif.bases.len(), right);
+        Ok(())
+    }
+
+    fn calls<P: Print>(
+        &mut self,
+        out: &P,
+        line: &[u8],
+        pair: &Pair,
+        wanted: Wanted<usize>,
+        calls: &[Call],
+    ) -> io::Result<()> {
+        for call in calls {
+            self.call(out, line, pair, wanted, *call)?;
+        }
+        Ok(())
+    }
+
+    fn rounds<R: Print + AllocGlobal>(
+        &mut self,
+        rt: &R,
+        line: &[u8],
+        rounds: usize,
+    ) -> io::Result<()> {
+        for round in 0..rounds {
+            let pair = pairs::make(rt.alloc(), line, round)?;
+            self.calls(rt, line, &pair, wanted::of_pair(&pair), &BOTH)?;
+        }
+        Ok(())
+    }
+
+    fn end_group<P: Print>(&mut self, out: &P, line: &[u8]) -> io::Result<()> {
+        out.write_all(pairs::name(line))?;
+        self.tally.report(out)?;
+        self.tally = Tally::default();
+        Ok(())
+    }
+
+    fn step<R: Print + AllocGlobal>(&mut self, rt: &R, line: &[u8]) -> io::Result<()> {
+        match Command::of(line) {
+            Some(Command::Ask(calls)) => {
+                let pair = pairs::make(rt.alloc(), line, 0)?;
+                self.calls(rt, line, &pair, wanted::of_line(line), calls)
+            }
+            Some(Command::AskRandom(rounds)) => self.rounds(rt, line, rounds),
+            Some(Command::EndGroup) => self.end_group(rt, line),
+            None => Ok(()),
+        }
+    }
 }
 
 fn main(rt: HostRuntime) -> io::Result<()> {
-    let mut input = BufReader::new(rt.alloc(), rt.reader())?;
+    let alloc = rt.alloc();
+    let mut bench = Bench {
+        slices: Slices::new(alloc)?,
+        tally: Tally::default(),
+    };
+    let mut input = BufReader::new(alloc, rt.reader())?;
     let mut line = [0u8; LINE];
-    cases(&rt, &mut input, &mut line)
+    for _ in 0..MOST_LINES {
+        if !read(&mut input, &mut line)? {
+            break;
+        }
+        bench.step(&rt, field(&line, 0..TEXT))?;
+    }
+    Ok(())
 }

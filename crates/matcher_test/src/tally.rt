@@ -1,64 +1,45 @@
 // Counts of calls, and their report.
-use super::ask::Asked;
+use super::ask::Told;
 use std::io;
-use testing::answer::{first_of, is_refused, second_of};
-use testing::output::{number, say};
-use testing::pairs;
+use testing::answer::Fold;
+use testing::pairs::Count;
 
 // How many calls were made, refused, answered with the whole motif or with no prefix; the arcs and the depths that they answered; how many were wrong.
-#[derive(Drop)]
+#[derive(Clone, Copy, Debug, Default)]
 pub struct Tally {
-    pub calls: usize,
-    pub refused: usize,
-    pub whole: usize,
-    pub empty: usize,
-    pub arcs: usize,
-    pub depths: usize,
-    pub wrong: usize,
+    calls: Count,
+    refused: Count,
+    whole: Count,
+    empty: Count,
+    arcs: Count,
+    depths: Count,
+    wrong: Count,
 }
 
-pub fn none() -> Tally {
-    Tally {
-        calls: 0,
-        refused: 0,
-        whole: 0,
-        empty: 0,
-        arcs: 0,
-        depths: 0,
-        wrong: 0,
+impl Tally {
+    // One more call, on a motif of so many bases; None for one that was not made.
+    pub fn count(&mut self, told: Option<Told>, motif: usize, right: bool) {
+        let prefix = match told {
+            Some(Ok(prefix)) => Some(prefix),
+            _ => None,
+        };
+        let found = prefix.map(|prefix| prefix.found);
+        let fold = prefix.map_or(Fold { arcs: 0, depth: 0 }, |prefix| prefix.fold);
+        self.calls.add(1);
+        self.refused.add(usize::from(matches!(told, Some(Err(_)))));
+        self.whole.add(usize::from(found == Some(motif)));
+        self.empty.add(usize::from(found == Some(0)));
+        self.arcs.add(fold.arcs);
+        self.depths.add(fold.depth);
+        self.wrong.add(usize::from(!right));
     }
-}
 
-// The tally with one more call.
-fn counted(t: Tally, a: Asked) -> Tally {
-    let got = a.told.got;
-    let fold = a.told.fold;
-    Tally {
-        calls: t.calls % 1000000 + 1,
-        refused: t.refused % 1000000 + is_refused(got) as usize % 2,
-        whole: t.whole % 1000000 + (got == a.motif) as usize % 2,
-        empty: t.empty % 1000000 + (got == 0) as usize % 2,
-        arcs: t.arcs % 1000000 + first_of(fold) % 10000,
-        depths: t.depths % 1000000 + second_of(fold) % 10000,
-        wrong: t.wrong % 1000000 + (!a.right) as usize % 2,
+    pub fn report<P: Print>(&self, out: &P) -> io::Result<()> {
+        print!(out; ": calls {}, refused {}", self.calls, self.refused)?;
+        print!(out; ", whole motif {}, no prefix {}", self.whole, self.empty)?;
+        println!(out;
+            ", arcs {}, depths {}, wrong {}",
+            self.arcs, self.depths, self.wrong
+        )
     }
-}
-
-pub fn report<P: Print>(out: &P, t: Tally) -> io::Result<()> {
-    number(out, b": calls ", t.calls)?;
-    number(out, b", refused ", t.refused)?;
-    number(out, b", whole motif ", t.whole)?;
-    number(out, b", no prefix ", t.empty)?;
-    number(out, b", arcs ", t.arcs)?;
-    number(out, b", depths ", t.depths)?;
-    number(out, b", wrong ", t.wrong)?;
-    say(out, b"\n")
-}
-
-// The tally with one more call, which is told where it is wrong.
-pub fn judged<P: Print>(out: &P, t: Tally, line: &[u8], a: Asked) -> io::Result<Tally> {
-    if !a.right {
-        pairs::tell(out, line, a.told)?;
-    }
-    Ok(counted(t, a))
 }

@@ -1,39 +1,26 @@
-// The motif buffer of a batch: which refusal of it applies first, and its motifs unpacked, each once for all molecules. The bases stay where they are.
+// The motif buffer of a batch: which refusal of it applies first, and its motifs unpacked, each once for all molecules.
 #![tactic(auto)]
 
-ghost use Rattle.std.specs.Prelude.{◌≡◌, true, ◌+◌, ◌*◌, ◌<◌, max, length};
-ghost use Rattle.lists.specs.Vocabulary.{lowest};
+ghost use Rattle.std.specs.Prelude.{◌≡◌, true, not, ◌<◌, length, take, nat_lt};
+ghost use Rattle.std.specs.List.{find, range_with_len};
 ghost use Rattle.block.specs.Block.{block_of, block_count};
 ghost use Rattle.block.specs.Motif.{holds_motif};
 ghost use Rattle.calls.specs.Buffers.{most_motif_bases};
-ghost use Rattle.calls.specs.Motifs.{most_motifs, motif_of, no_motif_at, long_motif_at, motifs_verdict, UsableMotifs, longest_motif};
-ghost use Rattle.search.specs.Search.{tables_size};
-ghost use Rattle.motifs.specs.Unpacked.{AllMotifs, MatesTo, MatesOf, TablesTo, TablesOf};
+ghost use Rattle.calls.specs.Motifs.{motif_of, motifs_verdict, UsableMotifs, longest_motif};
+ghost use Rattle.motifs.specs.Unpacked.{AllMotifs, MatesOf, TablesOf};
 
 use block::layout;
-use refusals::numbers;
-
-// The entries of the arrays that the mates and the tables of all motifs stand in: a piece for each motif.
-pub const MATES_SIZE: usize = layout::ENTRY_BASES * calls::MOST_MOTIFS;
-
-pub const TABLES_SIZE: usize = walk::QUERY_TABLES * calls::MOST_MOTIFS;
+use refusals::{Rule, Side, Verdict, refuse};
 
 // Where the mates begin in a block handed in as a motif.
 const MOTIF_MATES_AT: usize = layout::MOTIF_START + layout::BLOCK_BASES;
 
-// The lowest block that has no motif, or the number of blocks.
-fn lowest_without(motifs: &[u8]) -> usize
-    ensures { result ≡ lowest (block_count motifs.now) (no_motif_at motifs.now) }
+// The lowest block that has no motif.
+fn first_without(motifs: &[u8]) -> Option<usize>
+    ensures { result ≡ find (λ t. not (holds_motif (block_of t motifs.now))) (range_with_len 0 (block_count motifs.now)) }
 {
-    let n = motifs.len() / layout::BLOCK_SIZE;
-    let mut t = 0;
-    while t < n {
-        if !block::sound::holds_motif(layout::block_at(motifs, t)) {
-            return t;
-        }
-        t += 1;
-    }
-    t
+    let n = layout::block_count(motifs);
+    (0..n).find(|t| !block::sound::holds_motif(layout::block_at(motifs, *t)))
 }
 
 // The number of bases of motif t: the length byte of its block.
@@ -42,49 +29,32 @@ fn count_at(motifs: &[u8], t: usize) -> usize
     ensures { result ≡ length (motif_of motifs.now t).bases }
 {
     let b = layout::block_at(motifs, t);
-    b[1] as usize
+    usize::from(b[1])
 }
 
-// The lowest motif that is too long for a query, or the number of motifs.
-fn lowest_long(motifs: &[u8]) -> usize
+// The lowest motif that is too long for a query.
+fn first_long(motifs: &[u8]) -> Option<usize>
     requires { AllMotifs motifs.now }
-    ensures { result ≡ lowest (block_count motifs.now) (long_motif_at motifs.now) }
+    ensures { result ≡ find (λ t. nat_lt most_motif_bases (length (motif_of motifs.now t).bases)) (range_with_len 0 (block_count motifs.now)) }
 {
-    let n = motifs.len() / layout::BLOCK_SIZE;
-    let mut t = 0;
-    while t < n {
-        if layout::ENTRY_BASES < count_at(motifs, t) {
-            return t;
-        }
-        t += 1;
-    }
-    t
+    let n = layout::block_count(motifs);
+    (0..n).find(|t| layout::ENTRY_BASES < count_at(motifs, *t))
 }
 
 // Rules 15 and 3 of a batch.
-pub fn judge(motifs: &[u8]) -> refusals::Verdict
+pub fn judge(motifs: &[u8]) -> Verdict
     ensures { result ≡ motifs_verdict motifs.now }
 {
     if !judge::is_whole(motifs, calls::MOST_MOTIFS) {
-        return refusals::refuse(numbers::BAD_MOTIFS, numbers::MOTIF, 0);
+        return refuse(Rule::BadMotifs, Side::Motif, 0);
     }
-    let n = motifs.len() / layout::BLOCK_SIZE;
-    let without = lowest_without(motifs);
-    if without < n {
-        return refusals::refuse(numbers::BAD_MOTIFS, numbers::MOTIF, without);
+    if let Some(without) = first_without(motifs) {
+        return refuse(Rule::BadMotifs, Side::Motif, without);
     }
-    let long = lowest_long(motifs);
-    if long < n {
-        return refusals::refuse(numbers::TOO_LONG, numbers::MOTIF, long);
+    if let Some(long) = first_long(motifs) {
+        return refuse(Rule::TooLong, Side::Motif, long);
     }
-    refusals::Verdict::Accepted
-}
-
-// The larger of two numbers.
-fn larger(a: usize, b: usize) -> usize
-    ensures { result ≡ max a b }
-{
-    if a < b { b } else { a }
+    Ok(())
 }
 
 // The number of bases of the longest motif.
@@ -92,12 +62,9 @@ pub fn longest(motifs: &[u8]) -> usize
     requires { UsableMotifs motifs.now }
     ensures { result ≡ longest_motif motifs.now }
 {
-    let n = motifs.len() / layout::BLOCK_SIZE;
-    let mut m = 0;
-    let mut t = 0;
-    while t < n {
-        m = larger(m, count_at(motifs, t));
-        t += 1;
+    let mut m = 0usize;
+    for t in 0..layout::block_count(motifs) {
+        m = m.max(count_at(motifs, t));
     }
     m
 }
@@ -108,45 +75,79 @@ pub fn bases_at(motifs: &[u8], t: usize) -> &[u8]
     ensures { result.now ≡ (motif_of motifs.now t).bases }
 {
     let b = layout::block_at(motifs, t);
-    let e = layout::MOTIF_START + b[1] as usize;
+    let e = layout::MOTIF_START + usize::from(b[1]);
     &b[layout::MOTIF_START..e]
 }
 
-// The mates of motif t into its piece.
+// The mates of motif t, to the start of the entries.
 fn read_mates(motifs: &[u8], t: usize, mates: &mut [u16])
-    requires { UsableMotifs motifs.now × (t < block_count motifs.now) × MatesTo motifs.now mates.old t }
-    ensures { MatesTo motifs.now mates.new (t + 1) }
+    requires { UsableMotifs motifs.now × (t < block_count motifs.now) × (length mates.old ≡ most_motif_bases) }
+    ensures { take (length (motif_of motifs.now t).bases) mates.new ≡ (motif_of motifs.now t).mates }
 {
     let src = layout::block_at(motifs, t);
-    let a = layout::ENTRY_BASES * t;
-    let e = a + src[1] as usize;
-    octets::scan::read_words(&src[MOTIF_MATES_AT..], &mut mates[a..e]);
+    let n = usize::from(src[1]);
+    octets::scan::read_words(&src[MOTIF_MATES_AT..], &mut mates[..n]);
 }
 
-// The tables of motif t into its piece.
-fn make_tables(motifs: &[u8], t: usize, mates: &[u16], tables: &mut [u16])
-    requires { UsableMotifs motifs.now × (t < block_count motifs.now) × MatesTo motifs.now mates.now (t + 1)
-        × TablesTo motifs.now tables.old t }
-    ensures { TablesTo motifs.now tables.new (t + 1) }
-{
-    let p = bases_at(motifs, t);
-    let a = layout::ENTRY_BASES * t;
-    let e = a + p.len();
-    let f = walk::QUERY_TABLES * t;
-    let g = f + walk::QUERY_TABLES;
-    walk::prepare(p, &mates[a..e], &mut tables[f..g]);
+// The tables of all motifs, a row for each.
+pub type Tables = [[u16; walk::QUERY_TABLES]; calls::MOST_MOTIFS];
+
+// The motifs of a batch: their blocks, where the bases stay, and a row of mates for each. Nobody copies the rows, so it is no Clone. The fields are
+// public, since the contracts of batch name them.
+#[derive(Drop)]
+pub struct Motifs<'a> {
+    pub blocks: &'a [u8],
+    pub mates: [[u16; layout::ENTRY_BASES]; calls::MOST_MOTIFS],
+    ghost usable: { UsableMotifs blocks.now },
+    ghost mates_of: { MatesOf blocks.now mates },
 }
 
-// The mates and the tables of all motifs.
-pub fn unpack(motifs: &[u8], mates: &mut [u16], tables: &mut [u16])
-    requires { UsableMotifs motifs.now × (length mates.old ≡ most_motif_bases * most_motifs) × (length tables.old ≡ tables_size * most_motifs) }
-    ensures { MatesOf motifs.now mates.new × TablesOf motifs.now tables.new }
-{
-    let n = motifs.len() / layout::BLOCK_SIZE;
-    let mut t = 0;
-    while t < n {
-        read_mates(motifs, t, mates);
-        make_tables(motifs, t, mates, tables);
-        t += 1;
+impl<'a> Motifs<'a> {
+    // The mates of all motifs are read here.
+    pub fn new(blocks: &'a [u8]) -> Motifs<'a>
+        requires { UsableMotifs blocks.now }
+        ensures { result.blocks.now ≡ blocks.now }
+    {
+        let mut mates = [[0u16; layout::ENTRY_BASES]; calls::MOST_MOTIFS];
+        for t in 0..layout::block_count(blocks) {
+            read_mates(blocks, t, &mut mates[t]);
+        }
+        Motifs { blocks, mates }
+    }
+
+    // How many motifs there are.
+    pub fn count(&self) -> usize
+        ensures { result ≡ block_count self.now.blocks.now }
+    {
+        layout::block_count(self.blocks)
+    }
+
+    // The bases of motif t, where they stand in its block.
+    pub fn bases_at(&self, t: usize) -> &[u8]
+        requires { t < block_count self.now.blocks.now }
+        ensures { result.now ≡ (motif_of self.now.blocks.now t).bases }
+    {
+        bases_at(self.blocks, t)
+    }
+
+    // The mates of motif t.
+    pub fn mates_at(&self, t: usize) -> &[u16]
+        requires { t < block_count self.now.blocks.now }
+        ensures { result.now ≡ (motif_of self.now.blocks.now t).mates }
+    {
+        let n = count_at(self.blocks, t);
+        let rows = &self.mates;
+        &rows[t][..n]
+    }
+
+    // The tables of all motifs.
+    pub fn tables(&self) -> Tables
+        ensures { TablesOf self.now.blocks.now result }
+    {
+        let mut tables = [[0u16; walk::QUERY_TABLES]; calls::MOST_MOTIFS];
+        for t in 0..self.count() {
+            walk::prepare(self.bases_at(t), self.mates_at(t), &mut tables[t]);
+        }
+        tables
     }
 }

@@ -1,38 +1,18 @@
--- Loops over slices, a turn at a time: copies, zeros, the largest byte, two-byte numbers, and two lists compared.
+-- Loops over slices, a turn at a time: the largest byte, two-byte numbers, and two lists compared.
 use mathlib.Core.Path.{◌≡◌, refl, sym, ap, ◌∙◌}
 use mathlib.Core.Bool.{Bool, true, false, ◌&&◌}
-use mathlib.Core.List.{List, [], ◌∷◌, ◌++◌, append-nil}
-use Prim.Native.Nat.{ℕ, suc, ◌+◌, ◌*◌, ◌/◌, ◌%◌, ◌<◌, ◌≤◌, max}
+use mathlib.Core.List.{List, [], ◌∷◌, ◌++◌}
+use Prim.Native.Nat.{ℕ, ◌+◌, ◌*◌, ◌/◌, ◌%◌, ◌<◌, ◌≤◌, max}
 use native.Mathlib.Omega.{arith}
 use native.Mathlib.Numerals.{add-one}
 use native.Mathlib.Decide.{ℕ_discrete}
-use lib.ListN.{length, set, take, drop, replicate, length-append, length-drop, drop_of_length-le}
-use lib.Seq.{drop-cons, set_at, append_snoc, take-suc, take_all, take_at, drop_at, length-take-le, sets-eq, drop-drop}
+use lib.ListN.{length, set, take, drop, length-append, length-drop}
+use lib.Seq.{take-suc, take_all, take_at, drop_at, length-take-le, sets-eq, drop-drop}
 use borrow.Author.Tests.{eq-eqb, ne_eqb}
 use lib.Dec.{eqb}
 use Rattle.lists.specs.Vocabulary.{nth, every, same_list}
 use Rattle.octets.specs.Octets.{is_zero, word16, words, bytes_of}
 use Rattle.lists.proofs.ListLaws.{length_tab, nth_tab, same_place, same_all}
-
--- ---- a copy, one entry a turn
-
-pub copy_more : (i : ℕ) (s d : List ℕ) → i < length s → i < length d → set (take i s ++ drop i d) i (nth s i) ≡ take (i + 1) s ++ drop (i + 1) d
-copy_more i s d hs hd =
-    ap (λ (l : List ℕ). set (take i s ++ l) i (nth s i)) (drop-cons d i 0 hd)
-    ∙ set_at (take i s) (nth d i) (drop (suc i) d) (nth s i) i (length-take-le i s (omega arith))
-    ∙ sym (append_snoc (take i s) (nth s i) (drop (suc i) d))
-    ∙ ap (λ (l : List ℕ). l ++ drop (suc i) d) (sym (take-suc s i 0 hs))
-    ∙ ap (λ (k : ℕ). take k s ++ drop k d) (sym (add-one i))
-
-pub copy_end : (i : ℕ) (s d : List ℕ) → length s ≤ i → length d ≤ i → take i s ++ drop i d ≡ s
-copy_end i s d hs hd =
-    ap (λ (l : List ℕ). take i s ++ l) (drop_of_length-le d hd) ∙ append-nil (take i s) ∙ take_all i s hs
-
--- ---- zeros, one entry a turn
-
-pub zero_end : (i : ℕ) (d : List ℕ) → i ≡ length d → replicate i 0 ++ drop i d ≡ replicate (length d) 0
-zero_end i d e =
-    ap (λ (l : List ℕ). replicate i 0 ++ l) (drop_of_length-le d {i = i} (omega arith)) ∙ append-nil (replicate i 0) ∙ ap (λ (k : ℕ). replicate k 0) e
 
 -- ---- the largest byte is 0 exactly where every byte is
 

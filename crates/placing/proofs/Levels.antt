@@ -80,10 +80,6 @@ between_start qm s hi kept h =
       half = λ a. absurd (omega arith);
     }
 
-pub lower_same : (qm : List ℕ) (s kept : ℕ) → Lower qm s kept s
-lower_same qm s kept =
-    record { low = omega arith; heavy = λ a. absurd (omega arith); inside = λ a. absurd (omega arith); before = λ a. absurd (omega arith) }
-
 pub lower_heavy : {qm : List ℕ} {s kept c : ℕ} (r : ℕ) → r ≡ nth qm s → Heavy qm (s + 1) r c → c < r → c < kept → Lower qm s kept c
 lower_heavy r e H lt cs = record { low = omega (arith, H.low); heavy = λ a. rw (← e) H; inside = λ a. omega arith; before = λ a. cs }
 

@@ -1,15 +1,18 @@
 // The path of longest arcs: a middle arc of it, and the row inside that arc, which is kept.
-ghost use Rattle.std.specs.Prelude.{◌≡◌, ◌+◌, ◌-◌, ◌*◌, ◌≤◌, ◌<◌, length};
+ghost use Rattle.std.specs.Prelude.{◌≡◌, ◌+◌, ◌-◌, ◌*◌, ◌≤◌, ◌<◌, length, IfSome};
 ghost use Rattle.lists.specs.Vocabulary.{nth};
 ghost use Rattle.strand.specs.Strands.{Nested};
 ghost use Rattle.embedding.specs.Row.{Closed};
-ghost use Rattle.arcs.specs.Arcs.{Setting, AllStarts};
-ghost use Rattle.placing.specs.Placing.{KeptAround, SecondRow, Lower, Between};
+ghost use Rattle.rows.specs.Motifs.{SegmentOf};
+ghost use Rattle.arcs.specs.Pairs.{AllStartsIn};
+ghost use Rattle.placing.specs.Placing.{Lower, Between};
+ghost use Rattle.placing.specs.Pairs.{KeptAroundIn, SecondRowIn};
 
+use arcs::pair::Pair;
 use rows::row;
 
 // The span from..to of the motif.
-#[derive(Drop)]
+#[derive(Clone, Copy)]
 pub struct Span {
     pub from: usize,
     pub to: usize,
@@ -22,80 +25,57 @@ fn size(qm: &[u16], l: usize) -> usize
     if qm.len() <= l {
         return 0;
     }
-    let r = qm[l] as usize;
-    if r < l {
-        return 0;
-    }
-    r - l
+    (qm[l] as usize).saturating_sub(l)
 }
 
-// The longest arc inside the arc from l, or l where there is none or it is the kept arc.
-fn lower(qm: &[u16], l: usize, kept: usize) -> usize
+// The longest arc inside the arc from l, if there is one, and it is not the kept arc.
+fn lower(qm: &[u16], l: usize, kept: usize) -> Option<usize>
     requires nested { Nested (nth qm.now) (length qm.now) }
     requires l_in_bounds { (l < length qm.now) × (l < nth qm.now l) }
-    ensures { Lower qm.now l kept result }
+    ensures { IfSome result (λ inner. (l < inner) × Lower qm.now l kept inner) }
 {
     let r = arcs::mate(qm, l);
     let inner = arcs::heaviest(qm, l + 1, r);
-    if r <= inner {
-        return l;
+    if inner < r && inner < kept {
+        Some(inner)
+    } else {
+        None
     }
-    if kept <= inner {
-        return l;
-    }
-    inner
 }
 
-// The innermost arc of the path from l to the kept arc that halves the bases of l..hi outside of the kept arc, or l where there is none. Where no arc is kept,
-// and the arc from l is much shorter than the motif's segment, which has `bases` bases, l too: rows for its own segment cost less.
+// The innermost arc of the path from l to the kept arc that halves the bases of l..hi outside of the kept arc, or that from l itself where none does. Where no
+// arc is kept, and the arc from l is much shorter than the motif's segment, which has `bases` bases, l too: rows for its own segment cost less.
 pub fn middle(qm: &[u16], bases: usize, l: usize, hi: usize, kept: usize) -> usize
     requires nested { Nested (nth qm.now) (length qm.now) }
     requires l_lt_hi { (l < hi) × ((hi ≤ length qm.now) × (l < nth qm.now l)) }
     requires bases_bound { (bases ≤ 4096) × (length qm.now ≤ 4096) }
     ensures { Between qm.now l hi kept result }
 {
-    if qm.len() <= kept {
-        if 3 * size(qm, l) < 2 * bases {
-            return l;
-        }
+    if qm.len() <= kept && 3 * size(qm, l) < 2 * bases {
+        return l;
     }
     let least = hi - l + size(qm, kept);
     let mut mid = l;
-    let mut next = lower(qm, l, kept);
-    while mid < next {
+    while let Some(next) = lower(qm, mid, kept) {
         if 2 * size(qm, next) < least {
             return mid;
         }
         mid = next;
-        next = lower(qm, mid, kept);
     }
     mid
 }
 
 // Leaves the row inside the arc l, r for the segment from..to past the first row of work.
-pub fn keep(
-    p: &[u8],
-    pm: &[u16],
-    tables: &[u16],
-    q: &[u8],
-    qm: &[u16],
-    from: usize,
-    to: usize,
-    l: usize,
-    r: usize,
-    kept: usize,
-    work: &mut [u16],
-)
-    requires setting { Setting p.now pm.now q.now qm.now from to }
-    requires closed { Closed (nth pm.now) from to }
-    requires l_lt_r { (l < r) × ((r < length q.now) × (nth qm.now l ≡ r)) }
-    requires kept_around { KeptAround p.now pm.now q.now qm.now from to kept work.old }
-    requires room { 24 * (length p.now + 1) ≤ length work.old }
-    requires all_starts { AllStarts p.now pm.now (length q.now) tables.now }
-    ensures { SecondRow p.now pm.now q.now qm.now from to l r work.old work.new }
+pub fn keep(pair: &Pair, from: usize, to: usize, l: usize, r: usize, kept: usize, work: &mut [u16])
+    requires segment { SegmentOf pair.now.motif from to }
+    requires closed { Closed (nth pair.now.motif.mates.now) from to }
+    requires l_lt_r { (l < r) × ((r < length pair.now.q.now) × (nth pair.now.qm.now l ≡ r)) }
+    requires kept_around { KeptAroundIn pair.now from to kept work.old }
+    requires room { 24 * (length pair.now.motif.bases.now + 1) ≤ length work.old }
+    requires all_starts { AllStartsIn pair.now }
+    ensures { SecondRowIn pair.now from to l r work.old work.new }
 {
-    let w = p.len() + 1;
+    let w = pair.motif.bases.len() + 1;
     row::cut(from, to, w, work);
-    let rest = &mut work[w..];
-    arcs::inner_row(p, pm, tables, q, qm, from, to, l, r, kept, rest);
+    arcs::inner_row(pair, from, to, l, r, kept, &mut work[w..]);
 }

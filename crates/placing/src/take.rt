@@ -1,81 +1,80 @@
 // What of the motif an arc of the molecule takes: what goes inside it and what to its ends, and the places that are written for its ends.
 ghost use Rattle.std.specs.Prelude.{◌≡◌, ◌+◌, ◌*◌, ◌≤◌, ◌<◌, length};
 ghost use Rattle.lists.specs.Vocabulary.{nth};
-ghost use Rattle.embedding.specs.Row.{Closed, unit_at};
-ghost use Rattle.rows.specs.Rows.{Tables, matches};
-ghost use Rattle.arcs.specs.Arcs.{Setting, AllStarts};
-ghost use Rattle.placing.specs.Placing.{Takes, Taken, PlacePut, Ended, KeptAround};
+ghost use Rattle.embedding.specs.Row.{Closed, unit_at, over_at};
+ghost use Rattle.rows.specs.Motifs.{SegmentOf};
+ghost use Rattle.rows.specs.Rows.{matches};
+ghost use Rattle.arcs.specs.Pairs.{AllStartsIn};
+ghost use Rattle.placing.specs.Placing.{Takes, PlacePut, Ended};
+ghost use Rattle.placing.specs.Pairs.{TakenIn, KeptAroundIn};
 
 use crate::path;
+use arcs::pair::Pair;
+use rows::motif::Motif;
 use rows::row;
 
 // What an arc l, r takes of a segment of the motif: the span from..to goes inside it, the position before it to l if that is one of the segment, the one
 // after it to r if next is past `to`.
-#[derive(Drop)]
+#[derive(Clone, Copy)]
 pub struct ArcTake {
     pub from: usize,
     pub to: usize,
     pub next: usize,
 }
 
-// What an arc with the bases x and y takes of the segment from..to, from its inner row's entries for `from` and from + 1.
-fn choose_take(
-    p: &[u8],
-    pm: &[u16],
-    tables: &[u16],
-    from: usize,
-    to: usize,
-    x: u8,
-    y: u8,
-    here: u16,
-    next: u16,
-) -> ArcTake
-    requires pm_len { (length pm.now ≡ length p.now) × ((to ≤ length p.now) × (to ≤ 4096)) }
+// How far an arc with the bases x and y takes the segment from..to with its left end, from its inner row's entry for from + 1: 0 where it takes nothing so.
+fn with_left_end(motif: &Motif, from: usize, to: usize, x: u8, y: u8, next: u16) -> usize
+    requires segment { SegmentOf motif.now from to }
     requires from_lt_to { from < to }
-    requires tables { Tables p.now pm.now tables.now }
-    ensures { Takes (matches p.now x) (matches p.now y) (nth pm.now) from to here next result }
+    ensures { result ≡ over_at (matches motif.now.bases.now x) (matches motif.now.bases.now y) (nth motif.now.mates.now) to next from }
 {
-    let both = row::unit(p, pm, here as usize, to, y);
-    let end = to as u16;
     let left = letters::letter_class(x) as u16;
     let right = letters::letter_class(y) as u16;
-    let over = row::over_entry(
-        tables[from],
+    row::over_entry(
+        motif.tables[from],
         left,
         right,
-        pm[from],
+        motif.mates[from],
         from as u16,
-        end,
+        to as u16,
         next,
-    ) as usize;
+    ) as usize
+}
+
+// What an arc with the bases x and y takes of the segment from..to, from its inner row's entries for `from` and from + 1.
+fn choose_take(motif: &Motif, from: usize, to: usize, x: u8, y: u8, here: u16, next: u16) -> ArcTake
+    requires segment { SegmentOf motif.now from to }
+    requires from_lt_to { from < to }
+    ensures { Takes (matches motif.now.bases.now x) (matches motif.now.bases.now y) (nth motif.now.mates.now) from to here next result }
+{
+    let both = row::unit(motif.bases, motif.mates, here as usize, to, y);
+    let over = with_left_end(motif, from, to, x, y, next);
+    let mate = motif.mates[from] as usize;
+    let next = next as usize;
     if over <= both {
-        return ArcTake {
-            from: from,
+        ArcTake {
+            from,
             to: here as usize,
             next: both,
-        };
-    }
-    let k = pm[from] as usize;
-    if k <= from {
-        return ArcTake {
+        }
+    } else if mate <= from {
+        ArcTake {
             from: from + 1,
-            to: next as usize,
-            next: next as usize,
-        };
-    }
-    ArcTake {
-        from: from + 1,
-        to: k,
-        next: k + 1,
+            to: next,
+            next,
+        }
+    } else {
+        ArcTake {
+            from: from + 1,
+            to: mate,
+            next: mate + 1,
+        }
     }
 }
 
 // What the arc l, r takes of the segment from..to, from its inner row's entries for `from` and from + 1: the places of the arc's ends are written.
 fn write_take(
-    p: &[u8],
-    pm: &[u16],
-    tables: &[u16],
-    q: &[u8],
+    pair: &Pair,
     from: usize,
     to: usize,
     l: usize,
@@ -84,14 +83,13 @@ fn write_take(
     next: u16,
     places: &mut [u16],
 ) -> ArcTake
-    requires pm_len { (length pm.now ≡ length p.now) × ((to ≤ length p.now) × (to ≤ 4096)) }
-    requires from_lt_to { (from < to) × (to ≤ length places.old) }
-    requires l_lt_r { (l < r) × ((r < length q.now) × (length q.now ≤ 4096)) }
-    requires tables { Tables p.now pm.now tables.now }
-    ensures takes { Takes (matches p.now (nth q.now l)) (matches p.now (nth q.now r)) (nth pm.now) from to here next result }
+    requires from_lt_to { (from < to) × ((to ≤ length pair.now.motif.bases.now) × (to ≤ length places.old)) }
+    requires l_lt_r { (l < r) × (r < length pair.now.q.now) }
+    ensures takes { Takes (matches pair.now.motif.bases.now (nth pair.now.q.now l)) (matches pair.now.motif.bases.now (nth pair.now.q.now r))
+        (nth pair.now.motif.mates.now) from to here next result }
     ensures ended { Ended from l r result places.old places.new }
 {
-    let t = choose_take(p, pm, tables, from, to, q[l], q[r], here, next);
+    let t = choose_take(&pair.motif, from, to, pair.q[l], pair.q[r], here, next);
     put(from, t.from, l, places);
     put(t.to, t.next, r, places);
     t
@@ -99,11 +97,7 @@ fn write_take(
 
 // What the arc l, r takes of the segment from..to: the places of the arc's ends are written.
 pub fn take_at(
-    p: &[u8],
-    pm: &[u16],
-    tables: &[u16],
-    q: &[u8],
-    qm: &[u16],
+    pair: &Pair,
     from: usize,
     to: usize,
     l: usize,
@@ -111,38 +105,22 @@ pub fn take_at(
     places: &mut [u16],
     work: &mut [u16],
 ) -> ArcTake
-    requires setting { Setting p.now pm.now q.now qm.now from to }
+    requires segment { SegmentOf pair.now.motif from to }
     requires from_lt_to { (from < to) × (to ≤ length places.old) }
-    requires l_lt_r { (l < r) × ((r < length q.now) × (nth qm.now l ≡ r)) }
-    requires room { 23 * (length p.now + 1) ≤ length work.old }
-    requires all_starts { AllStarts p.now pm.now (length q.now) tables.now }
-    ensures taken { Taken p.now pm.now q.now qm.now from to l r result }
+    requires l_lt_r { (l < r) × ((r < length pair.now.q.now) × (nth pair.now.qm.now l ≡ r)) }
+    requires room { 23 * (length pair.now.motif.bases.now + 1) ≤ length work.old }
+    requires all_starts { AllStartsIn pair.now }
+    ensures taken { TakenIn pair.now from to l r result }
     ensures ended { Ended from l r result places.old places.new }
 {
-    let end = arcs::smaller(to, from + (r + 1 - l));
-    arcs::inner_row(p, pm, tables, q, qm, from, end, l, r, q.len(), work);
-    write_take(
-        p,
-        pm,
-        tables,
-        q,
-        from,
-        end,
-        l,
-        r,
-        work[from],
-        work[from + 1],
-        places,
-    )
+    let end = to.min(from + (r + 1 - l));
+    arcs::inner_row(pair, from, end, l, r, pair.q.len(), work);
+    write_take(pair, from, end, l, r, work[from], work[from + 1], places)
 }
 
 // As `take_at`, where the segment is closed and the arc is the kept arc or holds it: the inner row is made from the kept one, which stays.
 pub fn take_kept(
-    p: &[u8],
-    pm: &[u16],
-    tables: &[u16],
-    q: &[u8],
-    qm: &[u16],
+    pair: &Pair,
     from: usize,
     to: usize,
     l: usize,
@@ -151,24 +129,21 @@ pub fn take_kept(
     places: &mut [u16],
     work: &mut [u16],
 ) -> ArcTake
-    requires setting { Setting p.now pm.now q.now qm.now from to }
-    requires closed { Closed (nth pm.now) from to }
+    requires segment { SegmentOf pair.now.motif from to }
+    requires closed { Closed (nth pair.now.motif.mates.now) from to }
     requires from_lt_to { (from < to) × (to ≤ length places.old) }
-    requires l_lt_r { (l < r) × ((r < length q.now) × (nth qm.now l ≡ r)) }
-    requires kept_around { KeptAround p.now pm.now q.now qm.now from to kept work.old }
-    requires room { 24 * (length p.now + 1) ≤ length work.old }
-    requires all_starts { AllStarts p.now pm.now (length q.now) tables.now }
-    ensures taken { Taken p.now pm.now q.now qm.now from to l r result }
+    requires l_lt_r { (l < r) × ((r < length pair.now.q.now) × (nth pair.now.qm.now l ≡ r)) }
+    requires kept_around { KeptAroundIn pair.now from to kept work.old }
+    requires room { 24 * (length pair.now.motif.bases.now + 1) ≤ length work.old }
+    requires all_starts { AllStartsIn pair.now }
+    ensures taken { TakenIn pair.now from to l r result }
     ensures ended { Ended from l r result places.old places.new }
-    ensures kept_around_2 { KeptAround p.now pm.now q.now qm.now result.from result.to kept work.new }
+    ensures kept_around_2 { KeptAroundIn pair.now result.from result.to kept work.new }
 {
-    path::keep(p, pm, tables, q, qm, from, to, l, r, kept, work);
-    let w = p.len() + 1;
+    path::keep(pair, from, to, l, r, kept, work);
+    let w = pair.motif.bases.len() + 1;
     write_take(
-        p,
-        pm,
-        tables,
-        q,
+        pair,
         from,
         to,
         l,
@@ -179,7 +154,8 @@ pub fn take_kept(
     )
 }
 
-// Writes the place of position `from` where the unbonded base i takes it, and gives where the motif goes on.
+// Writes the place of position `from` where the unbonded base i takes it, and gives where the motif goes on. It takes slices, since it asks less of them than
+// a pair says: a motif with as many mates as bases.
 pub fn put_base(
     p: &[u8],
     pm: &[u16],

@@ -1,21 +1,20 @@
 // The calls of the library, as README shows them. Prints `found` where the motif was found.
 #![tactic(auto)]
 
-use catalog::{Added, Queried};
+use refusals::Refusal;
 use std::io;
 
-// Adds a hairpin under number 0 and asks for the motif GC with its bond; answers how many molecules have it. `catalog` and `cache` are zeroed
+// Adds a hairpin under number 0 and asks for the motif GC with its bond; answers how many molecules have it, or a refusal. `catalog` and `cache` are zeroed
 // blocks of 512 bytes, `hits` has an entry for each catalog block, `work` 64 * (2 + 1) + 8 * 160 entries.
-fn first_query(catalog: &mut [u8], cache: &mut [u8], work: &mut [u16], hits: &mut [u16]) -> usize {
-    let added = catalog::add(catalog, cache, 0, b"GAC", &[2, 1, 0]);
-    if let Added::Refused(_) = added {
-        return 0;
-    }
-    let found = catalog::query(catalog, cache, b"GC", &[1, 0], work, hits);
-    if let Queried::Hits { count, searched: _ } = found {
-        return count;
-    }
-    0
+fn first_query(
+    catalog: &mut [u8],
+    cache: &mut [u8],
+    work: &mut [u16],
+    hits: &mut [u16],
+) -> Result<usize, Refusal> {
+    catalog::add(catalog, cache, 0, b"GAC", &[2, 1, 0])?;
+    let found = catalog::query(catalog, cache, b"GC", &[1, 0], work, hits)?;
+    Ok(found.count)
 }
 
 fn main(rt: HostRuntime) -> io::Result<()> {
@@ -23,7 +22,7 @@ fn main(rt: HostRuntime) -> io::Result<()> {
     let mut cache = [0u8; 512];
     let mut work = [0u16; 1472];
     let mut hits = [0u16; 2];
-    if first_query(&mut catalog, &mut cache, &mut work, &mut hits) == 1 {
+    if first_query(&mut catalog, &mut cache, &mut work, &mut hits) == Ok(1) {
         println!(rt; "found")?;
     }
     Ok(())

@@ -1,33 +1,69 @@
-// Refusals: an answer with number, side and place, and the verdict of a call's rules.
+// Refusals: an answer with rule, side and place, and the verdict of a call's rules.
 #![tactic(auto)]
 
-pub mod numbers;
-
 ghost use Rattle.std.specs.Prelude.{◌≡◌};
-ghost use Rattle.refusals.specs.Rules.{refusal};
+ghost use Rattle.refusals.specs.Rules.{refusal, number_of, number_of_side};
 
-// A refused input: the number of the table's rule, the side (0 motif, 1 molecule, 2 neither) and the place.
-#[derive(Drop)]
+// The rules of the table of refusals, with the table's numbers (specs/Rules has the same names in small letters).
+#[derive(Clone, Copy, Debug, PartialEq, Eq)]
+pub enum Rule {
+    UnequalLengths = 1,
+    NoBases = 2,
+    TooLong = 3,
+    BadLetter = 4,
+    BadMate = 5,
+    MatesNotMutual = 6,
+    ArcsCross = 7,
+    WorkTooShort = 8,
+    WrongSlice = 9,
+    NotWholeBlocks = 10,
+    UnsoundBlock = 11,
+    NumberTooLarge = 12,
+    AlreadyHeld = 13,
+    NotHeld = 14,
+    BadMotifs = 15,
+}
+
+impl Rule {
+    // The number of the rule in the table.
+    pub fn number(self) -> u8
+        ensures { result ≡ number_of self }
+    {
+        self as u8
+    }
+}
+
+// Which of a call's two strands a refusal speaks of, with the table's numbers.
+#[derive(Clone, Copy, Debug, PartialEq, Eq)]
+pub enum Side {
+    Motif = 0,
+    Molecule = 1,
+    Neither = 2,
+}
+
+impl Side {
+    // The number of the side in the table.
+    pub fn number(self) -> u8
+        ensures { result ≡ number_of_side self }
+    {
+        self as u8
+    }
+}
+
+// A refused input: the rule that refuses it, the side and the place.
+#[derive(Clone, Copy, Debug, PartialEq, Eq)]
 pub struct Refusal {
-    pub number: u8,
-    pub side: u8,
+    pub rule: Rule,
+    pub side: Side,
     pub place: usize,
 }
 
-// What the rules of a call come to.
-#[derive(Drop)]
-pub enum Verdict {
-    Accepted,
-    Refused(Refusal),
-}
+// What the rules of a call come to: accepted, or the first refusal.
+pub type Verdict = Result<(), Refusal>;
 
-// The refusal with this number, side and place.
-pub fn refuse(number: u8, side: u8, place: usize) -> Verdict
-    ensures { result ≡ refusal number side place }
+// The refusal by this rule, of this side and place.
+pub fn refuse(rule: Rule, side: Side, place: usize) -> Verdict
+    ensures { result ≡ refusal rule side place }
 {
-    Verdict::Refused(Refusal {
-        number,
-        side,
-        place,
-    })
+    Err(Refusal { rule, side, place })
 }

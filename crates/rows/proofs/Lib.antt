@@ -1,3 +1,4 @@
+pub mod Motifs
 pub mod Pass
 pub mod Parts
 mod Passes

@@ -5,7 +5,6 @@ use mathlib.Core.List.{List}
 use Prim.Native.Nat.{ℕ, ◌+◌, ◌-◌, ◌≤◌, ◌<◌, min, max}
 use native.Mathlib.Numerals.{add-one}
 use native.Mathlib.Omega.{arith}
-use native.Mathlib.Decide.{dec_lt}
 use lib.Dec.{leb}
 use lib.ListN.{length, set}
 use Rattle.lists.specs.Vocabulary.{nth, choose}
@@ -32,14 +31,6 @@ module _ (has : ℕ → Bool) (pm : ℕ → ℕ) (z at j r : ℕ) where
 
   pub unit_last : z ≤ j → r ≡ j → r ≡ unit_at has pm z (at + j - at)
   unit_last a e = let i : at + j - at ≡ j = omega arith in rw i (e ∙ sym (unit_end has pm z j a))
-
--- One less where the value is past z by one.
-module _ (k z s : ℕ) (h : (z < k → s ≡ 1) × (k ≤ z → s ≡ 0)) where
-  pub past_fits : s ≤ k
-  past_fits = elim (dec_lt z k) [ yes a ↦ omega (arith, h.0 a) | no a ↦ omega (arith, h.1 (omega arith)) ]
-
-  pub past_less : k ≤ z + 1 → k - s ≡ min k z
-  past_less b = elim (dec_lt z k) [ yes a ↦ omega (arith, h.0 a) | no a ↦ omega (arith, h.1 (omega arith)) ]
 
 -- An entry that no round has written yet is within its bound, up to z or before z.
 module _ (f : ℕ → ℕ) (row₀ row : List ℕ) (from end j z : ℕ) (W : Written f row₀ row from j) (lo : from ≤ j) (hi : j < end) where

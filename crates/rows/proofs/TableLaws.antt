@@ -7,6 +7,7 @@ use Prim.Native.Nat.{ℕ, ◌+◌, ◌-◌, ◌*◌, ◌/◌, ◌%◌, ◌≤◌
 use native.Mathlib.Decide.{dec_lt}
 use native.Mathlib.Nat.{mul-le-mul_left}
 use native.Mathlib.Omega.{arith}
+use Rattle.std.specs.Int.{from_bool}
 use lib.Dec.{eqb}
 use lib.ListN.{length}
 use borrow.Author.Tests.{eq-eqb, ne_eqb}
@@ -92,27 +93,13 @@ module _ (p pm tables : List ℕ) (b at to : ℕ) (T : Tables p pm tables) (L : 
     | no l ↦ omega (arith, entry j (omega arith), unit_from (matches p b) (nth pm) (length p) j, unit_end (matches p b) (nth pm) to j (omega arith))
   ]
 
--- The entry of a base's row as a sum: one more where both tests pass, which are the numbers r and s.
-module _ {r s : ℕ} (a b : Bool) (er : r ≡ choose a 1 0) (es : s ≡ choose b 1 0) where
-  pub both_tests : (j : ℕ) → j + r * s ≡ choose a (choose b (j + 1) j) j
-  unfolding choose
-  both_tests j = rw (er, es) (go a b)
-    where
-      go : (a b : Bool) → j + choose a 1 0 * choose b 1 0 ≡ choose a (choose b (j + 1) j) j
-      go true true = omega arith
-      go true false = omega arith
-      go false true = omega arith
-      go false false = omega arith
-
-  pub both_most : r * s ≤ 1
-  unfolding choose
-  both_most = rw (er, es) (go a b)
-    where
-      go : (a b : Bool) → choose a 1 0 * choose b 1 0 ≤ 1
-      go true true = omega arith
-      go true false = omega arith
-      go false true = omega arith
-      go false false = omega arith
+-- The entry of a base's row as a sum: one more where both tests pass.
+pub both_tests : (a b : Bool) (j : ℕ) → j + from_bool a * from_bool b ≡ choose a (choose b (j + 1) j) j
+unfolding choose
+both_tests true true j = omega arith
+both_tests true false j = omega arith
+both_tests false true j = omega arith
+both_tests false false j = omega arith
 
 -- A row with a base in front: its entry, read where the base's row leads.
 step_read : (g : ℕ → ℕ) (s j : ℕ) → j ≤ s → s ≤ j + 1 → choose (eqb s j) (g j) (g (j + 1)) ≡ g s

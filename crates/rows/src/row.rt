@@ -6,39 +6,19 @@ ghost use Rattle.lists.specs.Vocabulary.{nth, choose};
 ghost use Rattle.letters.specs.Letters.{is_letter};
 ghost use Rattle.refusals.specs.Rules.{molecule_side};
 ghost use Rattle.embedding.specs.Row.{unit_at, over_at, arc_at, over_by};
-ghost use Rattle.rows.specs.Rows.{Segment, Written, Remade, Tables, Steps, matches};
+ghost use Rattle.rows.specs.Rows.{Written, Remade, Steps, matches};
+ghost use Rattle.rows.specs.Motifs.{SegmentOf};
 
+use crate::motif::Motif;
 use crate::tables;
-
-// The larger and the smaller of two entries.
-fn larger(a: u16, b: u16) -> u16
-    ensures { result ≡ max a b }
-{
-    if a < b { b } else { a }
-}
-
-fn smaller(a: u16, b: u16) -> u16
-    ensures { result ≡ min a b }
-{
-    if a < b { a } else { b }
-}
-
-// Where the loops over the starts from `from` to `last` end that leave the segment's end `to` out.
-fn end_of(last: usize, to: usize) -> usize
-    ensures { result ≡ min (last + 1) to }
-{
-    if last < to { last + 1 } else { to }
-}
 
 // The row of an empty stretch.
 pub fn identity(from: usize, to: usize, row: &mut [u16])
     requires { (from ≤ to) × ((to ≤ 4096) × (to < length row.old)) }
     ensures { Written (λ j. j) row.old row.new from (to + 1) }
 {
-    let mut j = from;
-    while j <= to {
+    for j in from..to + 1 {
         row[j] = j as u16;
-        j += 1;
     }
 }
 
@@ -58,72 +38,37 @@ fn extend_by(steps: &[u16], from: usize, end: usize, row: &mut [u16])
     requires steps { Steps steps.now end }
     ensures { Written (λ j. nth row.old (nth steps.now j)) row.old row.new from end }
 {
-    let mut j = from;
-    while j < end {
+    for j in from..end {
         row[j] = extend_entry(steps[j], j as u16, row[j], row[j + 1]);
-        j += 1;
     }
 }
 
 // The row with the unbonded base b put in front of its stretch (003: extend). The entry for `to` stays.
-pub fn extend(
-    p: &[u8],
-    pm: &[u16],
-    tables: &[u16],
-    from: usize,
-    last: usize,
-    to: usize,
-    b: u8,
-    row: &mut [u16],
-)
-    requires segment { Segment p.now pm.now from to }
+pub fn extend(motif: &Motif, from: usize, last: usize, to: usize, b: u8, row: &mut [u16])
+    requires segment { SegmentOf motif.now from to }
     requires from_le_last { (from ≤ last) × (last ≤ to) }
-    requires tables { Tables p.now pm.now tables.now }
     requires b_letter { is_letter molecule_side b ≡ true }
     requires to_in_bounds { to < length row.old }
-    ensures { Written (λ j. nth row.old (unit_at (matches p.now b) (nth pm.now) to j))
+    ensures { Written (λ j. nth row.old (unit_at (matches motif.now.bases.now b) (nth motif.now.mates.now) to j))
         row.old row.new from (min (last + 1) to) }
 {
-    let at = tables::steps_at(p.len(), b);
-    let end = end_of(last, to);
-    extend_by(&tables[at..], from, end, row);
-}
-
-// Copies the entries of a base's row, from `from` to before `end`.
-fn copy_steps(steps: &[u16], from: usize, end: usize, row: &mut [u16])
-    requires from_le_end { (from ≤ end) × ((end ≤ 4096) × (end < length row.old)) }
-    requires steps { Steps steps.now end }
-    ensures { Written (nth steps.now) row.old row.new from end }
-{
-    let mut j = from;
-    while j < end {
-        row[j] = steps[j];
-        j += 1;
-    }
+    let at = tables::steps_at(motif.bases.len(), b);
+    let end = (last + 1).min(to);
+    extend_by(&motif.tables[at..], from, end, row);
 }
 
 // The row of the unbonded base b (003: initialize). Of its entries in the tables only the one for `to` may be past the segment.
-pub fn single(
-    p: &[u8],
-    pm: &[u16],
-    tables: &[u16],
-    from: usize,
-    last: usize,
-    to: usize,
-    b: u8,
-    row: &mut [u16],
-)
-    requires segment { Segment p.now pm.now from to }
+pub fn single(motif: &Motif, from: usize, last: usize, to: usize, b: u8, row: &mut [u16])
+    requires segment { SegmentOf motif.now from to }
     requires from_le_last { (from ≤ last) × (last ≤ to) }
-    requires tables { Tables p.now pm.now tables.now }
     requires b_letter { is_letter molecule_side b ≡ true }
     requires to_in_bounds { to < length row.old }
-    ensures { Written (unit_at (matches p.now b) (nth pm.now) to) row.old row.new from (last + 1) }
+    ensures { Written (unit_at (matches motif.now.bases.now b) (nth motif.now.mates.now) to) row.old row.new from (last + 1) }
 {
-    let at = tables::steps_at(p.len(), b);
-    let steps = &tables[at..];
-    copy_steps(steps, from, last, row);
-    row[last] = smaller(steps[last], to as u16);
+    let at = tables::steps_at(motif.bases.len(), b);
+    let steps = &motif.tables[at..];
+    row[from..last].copy_from_slice(&steps[from..last]);
+    row[last] = steps[last].min(to as u16);
 }
 
 // The row of two stretches (003: combine), in the place of the first row: `first` is where the row of the one in front starts, `then` where that of the one
@@ -133,11 +78,9 @@ pub fn combine(from: usize, last: usize, first: usize, then: usize, row: &mut [u
     requires by_index { (j : ℕ) → from ≤ j → j ≤ last → (j ≤ nth row.old (first + j)) × (then + nth row.old (first + j) < length row.old) }
     ensures { Written (λ j. nth row.old (then + nth row.old (first + j))) row.old row.new from (last + 1) }
 {
-    let mut j = from;
-    while j <= last {
+    for j in from..last + 1 {
         let k = row[first + j] as usize;
         row[j] = row[then + k];
-        j += 1;
     }
 }
 
@@ -146,22 +89,19 @@ pub fn cut(from: usize, to: usize, at: usize, row: &mut [u16])
     requires { (from ≤ to) × ((to ≤ 4096) × ((to < at) × (at + to < length row.old))) }
     ensures { Written (λ k. min (nth row.old (k - at)) to) row.old row.new (at + from) (at + to + 1) }
 {
-    let mut j = from;
-    while j <= to {
-        row[at + j] = smaller(row[j], to as u16);
-        j += 1;
+    for j in from..to + 1 {
+        row[at + j] = row[j].min(to as u16);
     }
 }
 
 // Where the unbonded base y takes the whole motif from `from` on: one look into the base's row. No letter is compared, and no branch depends on one.
-pub fn next_of(p: &[u8], pm: &[u16], tables: &[u16], from: usize, y: u8) -> usize
-    requires p_len_bound { (length p.now ≤ 4096) × (from ≤ length p.now) }
-    requires tables { Tables p.now pm.now tables.now }
+pub fn next_of(motif: &Motif, from: usize, y: u8) -> usize
+    requires p_len_bound { from ≤ length motif.now.bases.now }
     requires y_letter { is_letter molecule_side y ≡ true }
-    ensures { result ≡ unit_at (matches p.now y) (nth pm.now) (length p.now) from }
+    ensures { result ≡ unit_at (matches motif.now.bases.now y) (nth motif.now.mates.now) (length motif.now.bases.now) from }
 {
-    let at = tables::steps_at(p.len(), y);
-    tables[at + from] as usize
+    let at = tables::steps_at(motif.bases.len(), y);
+    motif.tables[at + from] as usize
 }
 
 // Where an unbonded base y takes the motif's segment from..to: from + 1 or `from`. It needs no tables.
@@ -182,7 +122,7 @@ pub fn unit(p: &[u8], pm: &[u16], from: usize, to: usize, y: u8) -> usize
 }
 
 // What an arc takes from j with its left end: `pair` has the class of the base of j and, above it, that of its mate k; x and y are the classes of the arc's
-// bases, and `next` is the inner row's entry for j + 1.
+// bases, and `next` is the inner row's entry for j + 1. 0 is nothing, as in `over_by`: what is taken otherwise is no less, so the larger of both needs no test.
 pub fn over_entry(pair: u16, x: u16, y: u16, k: u16, j: u16, to: u16, next: u16) -> u16
     ensures { result ≡ over_by (eqb (pair % 256) x) (eqb (pair / 256) y) k to next j }
 {
@@ -206,70 +146,49 @@ pub fn over_entry(pair: u16, x: u16, y: u16, k: u16, j: u16, to: u16, next: u16)
 
 // The entry for `from` of an arc with the bases x and y in the whole motif, from its inner row's entries for `from` and from + 1: what the arc takes with its
 // right end alone, or with its left end.
-pub fn arc_entry(
-    p: &[u8],
-    pm: &[u16],
-    tables: &[u16],
-    from: usize,
-    x: u8,
-    y: u8,
-    here: u16,
-    next: u16,
-) -> u16
-    requires pm_len { (length pm.now ≡ length p.now) × (length p.now ≤ 4096) }
-    requires from_in_bounds { (from < length p.now) × (here ≤ length p.now) }
-    requires tables { Tables p.now pm.now tables.now }
+pub fn arc_entry(motif: &Motif, from: usize, x: u8, y: u8, here: u16, next: u16) -> u16
+    requires pm_len { length motif.now.mates.now ≡ length motif.now.bases.now }
+    requires from_in_bounds { (from < length motif.now.bases.now) × (here ≤ length motif.now.bases.now) }
     requires y_letter { is_letter molecule_side y ≡ true }
-    ensures { result ≡ arc_at (matches p.now x) (matches p.now y) (nth pm.now) (length p.now) here next from }
+    ensures { result ≡ arc_at (matches motif.now.bases.now x) (matches motif.now.bases.now y) (nth motif.now.mates.now) (length motif.now.bases.now)
+        here next from }
 {
-    let both = next_of(p, pm, tables, here as usize, y) as u16;
-    let left = letters::letter_class(x) as u16;
-    let right = letters::letter_class(y) as u16;
+    let both = next_of(motif, here as usize, y) as u16;
+    let left = u16::from(letters::letter_class(x));
+    let right = u16::from(letters::letter_class(y));
     let over = over_entry(
-        tables[from],
+        motif.tables[from],
         left,
         right,
-        pm[from],
+        motif.mates[from],
         from as u16,
-        p.len() as u16,
+        motif.bases.len() as u16,
         next,
     );
-    larger(both, over)
+    both.max(over)
 }
 
 // Writes at `at` what an arc with the bases x and y takes with its left end, from its inner row, for the starts from `from` to before `end`.
-fn over(
-    p: &[u8],
-    pm: &[u16],
-    tables: &[u16],
-    from: usize,
-    end: usize,
-    to: usize,
-    x: u8,
-    y: u8,
-    at: usize,
-    row: &mut [u16],
-)
-    requires segment { Segment p.now pm.now from to }
-    requires tables { Tables p.now pm.now tables.now }
+fn over(motif: &Motif, from: usize, end: usize, to: usize, x: u8, y: u8, at: usize, row: &mut [u16])
+    requires segment { SegmentOf motif.now from to }
     requires from_le_end { (from ≤ end) × ((end ≤ to) × ((to < at) × ((at ≤ 4097) × (at + to < length row.old)))) }
-    ensures { Written (λ k. over_at (matches p.now x) (matches p.now y) (nth pm.now) to
+    ensures { Written (λ k. over_at (matches motif.now.bases.now x) (matches motif.now.bases.now y) (nth motif.now.mates.now) to
         (nth row.old (k - at + 1)) (k - at)) row.old row.new (at + from) (at + end) }
 {
-    let left = letters::letter_class(x) as u16;
-    let right = letters::letter_class(y) as u16;
-    let mut j = from;
-    while j < end {
+    let left = u16::from(letters::letter_class(x));
+    let right = u16::from(letters::letter_class(y));
+    let classes = motif.tables;
+    let mates = motif.mates;
+    for j in from..end {
         row[at + j] = over_entry(
-            tables[j],
+            classes[j],
             left,
             right,
-            pm[j],
+            mates[j],
             j as u16,
             to as u16,
             row[j + 1],
         );
-        j += 1;
     }
 }
 
@@ -279,11 +198,9 @@ fn step(steps: &[u16], from: usize, end: usize, row: &mut [u16])
     requires by_index { (j : ℕ) → from ≤ j → j < end → nth row.old j < length steps.now }
     ensures { Written (λ j. nth steps.now (nth row.old j)) row.old row.new from end }
 {
-    let mut j = from;
-    while j < end {
+    for j in from..end {
         let k = row[j] as usize;
         row[j] = steps[k];
-        j += 1;
     }
 }
 
@@ -293,18 +210,9 @@ fn raise(from: usize, end: usize, to: usize, at: usize, row: &mut [u16])
     ensures { Written (λ j. max (min (nth row.old j) to) (nth row.old (at + j)))
         row.old row.new from end }
 {
-    let mut j = from;
-    while j < end {
-        row[j] = larger(smaller(row[j], to as u16), row[at + j]);
-        j += 1;
+    for j in from..end {
+        row[j] = row[j].min(to as u16).max(row[at + j]);
     }
-}
-
-// 1 if k is past `to`, else 0.
-fn past(to: u16, k: u16) -> u16
-    ensures { (to < k → result ≡ 1) × (k ≤ to → result ≡ 0) }
-{
-    if to < k { 1 } else { 0 }
 }
 
 // The smaller of k and `to` where k is past it by one at most: with no branch in the code that is made of it.
@@ -312,15 +220,13 @@ fn capped(k: u16, to: u16) -> u16
     requires { k ≤ to + 1 }
     ensures { result ≡ min k to }
 {
-    k - past(to, k)
+    k - u16::from(to < k)
 }
 
 // The entries of the row of an arc with the bases x and y from `from` to before `end`, in the place of its inner row: in one pass, for few entries. `steps`
 // is the row of an unbonded y.
 fn close_short(
-    p: &[u8],
-    pm: &[u16],
-    tables: &[u16],
+    motif: &Motif,
     steps: &[u16],
     from: usize,
     end: usize,
@@ -329,34 +235,31 @@ fn close_short(
     y: u8,
     row: &mut [u16],
 )
-    requires segment { Segment p.now pm.now from to }
-    requires tables { Tables p.now pm.now tables.now }
+    requires segment { SegmentOf motif.now from to }
     requires steps { Steps steps.now to }
     requires from_le_end { (from ≤ end) × ((end ≤ to) × (to < length row.old)) }
     requires by_index { (j : ℕ) → from ≤ j → j < end → nth row.old j ≤ to }
     ensures { Written (λ j. max (min (nth steps.now (nth row.old j)) to)
-        (over_at (matches p.now x) (matches p.now y) (nth pm.now) to (nth row.old (j + 1)) j))
+        (over_at (matches motif.now.bases.now x) (matches motif.now.bases.now y) (nth motif.now.mates.now) to (nth row.old (j + 1)) j))
         row.old row.new from end }
 {
-    let left = letters::letter_class(x) as u16;
-    let right = letters::letter_class(y) as u16;
-    let mut j = from;
-    while j < end {
+    let left = u16::from(letters::letter_class(x));
+    let right = u16::from(letters::letter_class(y));
+    let classes = motif.tables;
+    let mates = motif.mates;
+    for j in from..end {
         let k = row[j] as usize;
         let both = capped(steps[k], to as u16);
-        row[j] = larger(
-            both,
-            over_entry(
-                tables[j],
-                left,
-                right,
-                pm[j],
-                j as u16,
-                to as u16,
-                row[j + 1],
-            ),
+        let over = over_entry(
+            classes[j],
+            left,
+            right,
+            mates[j],
+            j as u16,
+            to as u16,
+            row[j + 1],
         );
-        j += 1;
+        row[j] = both.max(over);
     }
 }
 
@@ -365,35 +268,24 @@ const LONG: usize = 40;
 
 // The row of an arc with the bases x and y (003: meld), in the place of its inner row; the entry for `to` stays. Few entries are done in one pass; for many
 // short loops over whole rows are faster, and the next row is written too.
-pub fn close_arc(
-    p: &[u8],
-    pm: &[u16],
-    tables: &[u16],
-    from: usize,
-    last: usize,
-    to: usize,
-    x: u8,
-    y: u8,
-    row: &mut [u16],
-)
-    requires segment { Segment p.now pm.now from to }
+pub fn close_arc(motif: &Motif, from: usize, last: usize, to: usize, x: u8, y: u8, row: &mut [u16])
+    requires segment { SegmentOf motif.now from to }
     requires from_le_last { (from ≤ last) × (last ≤ to) }
-    requires tables { Tables p.now pm.now tables.now }
     requires y_letter { is_letter molecule_side y ≡ true }
-    requires room { 2 * (length p.now + 1) ≤ length row.old }
+    requires room { 2 * (length motif.now.bases.now + 1) ≤ length row.old }
     requires by_index { (j : ℕ) → from ≤ j → j ≤ last → (j ≤ nth row.old j) × (nth row.old j ≤ to) }
-    ensures { Remade (λ j. arc_at (matches p.now x) (matches p.now y) (nth pm.now) to
+    ensures { Remade (λ j. arc_at (matches motif.now.bases.now x) (matches motif.now.bases.now y) (nth motif.now.mates.now) to
         (nth row.old j) (nth row.old (j + 1)) j) row.old row.new from (min (last + 1) to) }
 {
-    let w = p.len() + 1;
-    let at = tables::steps_at(p.len(), y);
-    let end = end_of(last, to);
-    let steps = &tables[at..];
+    let w = motif.bases.len() + 1;
+    let at = tables::steps_at(motif.bases.len(), y);
+    let end = (last + 1).min(to);
+    let steps = &motif.tables[at..];
     if end < from + LONG {
-        close_short(p, pm, tables, steps, from, end, to, x, y, row);
+        close_short(motif, steps, from, end, to, x, y, row);
         return;
     }
-    over(p, pm, tables, from, end, to, x, y, w, row);
+    over(motif, from, end, to, x, y, w, row);
     step(steps, from, end, row);
     raise(from, end, to, w, row);
 }

@@ -30,27 +30,13 @@ pub(crate) fn steps_at(m: usize, b: u8) -> usize
     (m + 1) * (1 + (b / 2 % 4) as usize)
 }
 
-// 1 if the mate k of j is not behind it, else 0.
-fn not_behind(k: u16, j: u16) -> u16
-    ensures { result ≡ choose (leb k j) 1 0 }
-{
-    if k <= j { 1 } else { 0 }
-}
-
-// 1 if the base c of the motif matches b, else 0.
-fn takes(c: u8, b: u8) -> u16
-    ensures { result ≡ choose (letters_match c b) 1 0 }
-{
-    if letters::letters_match(c, b) { 1 } else { 0 }
-}
-
 // Where the base b takes the motif from j on, c and k being the base and the mate of j: j + 1 or j. A product of two tests, so that the compiler loads base
 // and mate in each turn of a loop and makes vector code of it.
 fn unit_entry(c: u8, b: u8, k: u16, j: u16) -> u16
     requires { j < 4096 }
     ensures { result ≡ choose (leb k j) (choose (letters_match c b) (j + 1) j) j }
 {
-    j + not_behind(k, j) * takes(c, b)
+    j + u16::from(k <= j) * u16::from(letters::letters_match(c, b))
 }
 
 // Writes the row of the unbonded base b from `at` on.
@@ -60,10 +46,8 @@ fn put_steps(p: &[u8], pm: &[u16], b: u8, at: usize, tables: &mut [u16])
     ensures { Written (λ k. unit_at (matches p.now b) (nth pm.now) (length p.now) (k - at))
         tables.old tables.new at (at + length p.now + 1) }
 {
-    let mut j = 0;
-    while j < p.len() {
+    for j in 0..p.len() {
         tables[at + j] = unit_entry(p[j], b, pm[j], j as u16);
-        j += 1;
     }
     tables[at + p.len()] = p.len() as u16;
 }
@@ -73,10 +57,8 @@ fn put_classes(p: &[u8], tables: &mut [u16])
     requires { length p.now ≤ length tables.old }
     ensures { Written (λ j. letter_class (nth p.now j)) tables.old tables.new 0 (length p.now) }
 {
-    let mut j = 0;
-    while j < p.len() {
-        tables[j] = letters::letter_class(p[j]) as u16;
-        j += 1;
+    for j in 0..p.len() {
+        tables[j] = u16::from(letters::letter_class(p[j]));
     }
 }
 
@@ -88,10 +70,8 @@ fn add_mates(p: &[u8], pm: &[u16], tables: &mut [u16])
     requires by_index_2 { (j : ℕ) → j < length p.now → nth tables.old j ≡ letter_class (nth p.now j) }
     ensures { Written (classes_at p.now pm.now) tables.old tables.new 0 (length p.now) }
 {
-    let mut j = 0;
-    while j < pm.len() {
+    for j in 0..pm.len() {
         tables[j] = tables[j] + tables[pm[j] as usize] % 256 * 256;
-        j += 1;
     }
 }
 
@@ -128,5 +108,5 @@ pub fn last_start(m: usize, tables: &[u16], to: usize, i: usize) -> usize
     ensures { result ≡ last_at m tables.now to i }
 {
     let bound = tables[ROWS * (m + 1) + i] as usize;
-    if bound < to { bound } else { to }
+    bound.min(to)
 }

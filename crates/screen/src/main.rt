@@ -3,9 +3,10 @@
 // one line on standard error, which names no cause, and by exit status 1 (docs/DECISIONS.md, Failed reads and writes).
 #![tactic(auto)]
 
+ghost use Rattle.std.specs.Prelude.{IfOk};
 ghost use Rattle.screen.specs.Counts.{IsPrefixLen};
 
-use screening::Screened;
+use std::io;
 use std::io::Read;
 use std::process::ExitCode;
 
@@ -20,13 +21,6 @@ const CACHE_ROOM: usize = 512;
 const WORK_ROOM: usize = 9024;
 
 const HITS_ROOM: usize = 64;
-
-// What the reads gave: how many bytes, and whether one of them failed.
-#[derive(Drop)]
-struct Input {
-    bytes: usize,
-    failed: bool,
-}
 
 fn input_buffer() -> [u8; INPUT_ROOM] {
     [0u8; INPUT_ROOM]
@@ -48,27 +42,19 @@ fn hits_buffer() -> [u16; HITS_ROOM] {
     [0u16; HITS_ROOM]
 }
 
-// Reads until the input ends, the buffer is full or a read fails.
-fn read_input<R: Read>(from: &mut R, input: &mut [u8]) -> Input
-    ensures { IsPrefixLen result.bytes input.new }
+// Reads until the input ends, the buffer is full or a read fails; how many bytes were read.
+fn read_input<R: Read>(from: &mut R, input: &mut [u8]) -> io::Result<usize>
+    ensures { IfOk result (λ n. IsPrefixLen n input.new) }
 {
     let mut n = 0;
     while n < input.len() {
-        match from.read(&mut input[n..]) {
-            Ok(0) => break,
-            Ok(more) => n += more,
-            Err(_) => {
-                return Input {
-                    bytes: n,
-                    failed: true,
-                };
-            }
+        let more = from.read(&mut input[n..])?;
+        if more == 0 {
+            break;
         }
+        n += more;
     }
-    Input {
-        bytes: n,
-        failed: false,
-    }
+    Ok(n)
 }
 
 // Tells a failure by a line on standard error.
@@ -97,7 +83,7 @@ fn answer<R: Print + Eprint>(
     work: &mut [u16],
     hits: &mut [u16],
 ) -> ExitCode {
-    if let Screened::Written(n) = screening::screen(input, out, cache, work, hits) {
+    if let Some(n) = screening::screen(input, out, cache, work, hits) {
         return write(rt, out, n);
     }
     ExitCode::SUCCESS
@@ -114,10 +100,8 @@ fn run<R: Print + Eprint>(rt: &R, input: &[u8]) -> ExitCode {
 
 fn main(rt: HostRuntime) -> ExitCode {
     let mut input = input_buffer();
-    let read = read_input(&mut rt.stdin(), &mut input);
-    if read.failed {
-        return failed(&rt, "screen: standard input cannot be read");
+    match read_input(&mut rt.stdin(), &mut input) {
+        Ok(n) => run(&rt, &input[..n]),
+        Err(_) => failed(&rt, "screen: standard input cannot be read"),
     }
-    let n = read.bytes;
-    run(&rt, &input[..n])
 }

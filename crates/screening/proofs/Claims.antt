@@ -1,4 +1,5 @@
 -- The claims of specs/Statements hold.
+use Rattle.std.specs.Prelude.{Ok, Err}
 use Prim.Native.Nat.{ℕ, ◌*◌, ◌<◌}
 use native.Mathlib.Omega.{arith}
 use native.Mathlib.Nat.{mod-lt}
@@ -12,7 +13,7 @@ use Rattle.lists.proofs.ListLaws.{and_true}
 use Rattle.lists.proofs.Ranges.{select_ext}
 use Rattle.strand.specs.Strands.{Strand, key}
 use Rattle.refusals.specs.declared.Refusal.{Refusal}
-use Rattle.refusals.specs.declared.Verdict.TheVariants.{Accepted, Refused}
+use Rattle.refusals.specs.Rules.{number_of, number_of_side}
 use Rattle.block.specs.Motif.{holds_motif, motif_handed_in}
 use Rattle.block.specs.Block.{block_of, block_count, cleaned}
 use Rattle.block.specs.Content.{block_size, empty_block, keeps_motif}
@@ -61,7 +62,7 @@ module _ (catalog cache : List ℕ) (p : Strand) (work : ℕ) (hits : List ℕ) 
   abbrev found : ℕ → Bool
   found d = held catalog d && embeds p (molecule_at catalog d)
 
-  found_text : query_verdict catalog cache p work (length hits) ≡ Accepted → keeps_motif (entry_for cache p) p ≡ false
+  found_text : query_verdict catalog cache p work (length hits) ≡ Ok tt → keeps_motif (entry_for cache p) p ≡ false
       → effect_text (query_outcome embeds catalog cache p work hits)
       ≡ hits_text (length (select (block_count catalog) found)) (length (select (block_count catalog) (held catalog))) (select (block_count catalog) found)
   unfolding answer_text
@@ -74,8 +75,8 @@ module _ (catalog cache : List ℕ) (p : Strand) (work : ℕ) (hits : List ℕ) 
       select_ext (block_count catalog) _ _ (λ d l. (other d).1) in
       rw (new.answer, new.listed, a, b)
 
-  refused_text_lem : (r : Refusal) → query_verdict catalog cache p work (length hits) ≡ Refused r
-      → effect_text (query_outcome embeds catalog cache p work hits) ≡ refused_text r.number r.side r.place
+  refused_text_lem : (r : Refusal) → query_verdict catalog cache p work (length hits) ≡ Err r
+      → effect_text (query_outcome embeds catalog cache p work hits) ≡ refused_text (number_of r.rule) (number_of_side r.side) r.place
   unfolding answer_text
   refused_text_lem r e = rw (calls.query_refused embeds catalog cache p work hits r e)
 

@@ -1,3 +1,4 @@
+pub mod WritingLaws
 pub mod TextLaws
 pub mod ScreenLaws
 pub mod OutputLaws

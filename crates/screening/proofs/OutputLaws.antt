@@ -1,4 +1,5 @@
 -- No output of the screen program is longer than `most_output`: the numbers of a query's refusal are small.
+use Rattle.std.specs.Prelude.{Ok, Err}
 use mathlib.Core.Path.{◌≡◌, refl, ap}
 use mathlib.Core.Bool.{Bool, true, false}
 use mathlib.Core.List.{List, [], ◌∷◌}
@@ -8,15 +9,17 @@ use lib.Dec.{ltb}
 use lib.ListN.{length, replicate}
 use Rattle.lists.specs.Vocabulary.{choose, lowest, select}
 use Rattle.strand.specs.Strands.{Strand, strand_verdict, least_motif}
-use Rattle.refusals.specs.Rules.{motif_side, refusal, refuse_if, refuse_at_lowest, first, by_verdict}
-use Rattle.refusals.specs.declared.Verdict.{Verdict}
-use Rattle.refusals.specs.declared.Verdict.TheVariants.{Accepted, Refused}
+use Rattle.refusals.specs.declared.Rule.{Rule}
+use Rattle.refusals.specs.declared.Rule.TheVariants.{UnequalLengths, NoBases, TooLong, BadLetter, BadMate, MatesNotMutual, ArcsCross, WorkTooShort}
+use Rattle.refusals.specs.declared.Rule.TheVariants.{WrongSlice, NotWholeBlocks, UnsoundBlock, NumberTooLarge, AlreadyHeld, NotHeld, BadMotifs}
+use Rattle.refusals.specs.declared.Side.{Side}
+use Rattle.refusals.specs.declared.Side.TheVariants.{Motif, Molecule, Neither}
+use Rattle.refusals.specs.Rules.{number_of, number_of_side, motif_side, refusal, refuse_if, refuse_at_lowest, first, by_verdict, Verdict}
 use Rattle.lists.proofs.ListLaws.{lowest_upto, select_short}
 use Rattle.block.specs.Motif.{holds_motif, motif_handed_in}
 use Rattle.block.specs.Block.{block_of, block_count}
 use Rattle.block.specs.Content.{empty_block}
 use Rattle.calls.specs.Buffers.{most_motif_bases, motif_verdict, work_verdict, unsound_at, buffers_verdict, slot_of, clean_cache}
-use Rattle.calls.specs.declared.Queried.TheVariants.{Refused as NotQueried}
 use Rattle.calls.specs.Calls.{QueryEffect, queried, query_verdict, query_accepted, query_outcome, is_hit, to_search}
 use Rattle.screening.specs.Text.{line, spaced, bad_length_text, bad_motif_text, most_output}
 use Rattle.screening.specs.Screen.{most_screened, is_input, first_block, catalog_in, screen_work, answer_text, effect_text, screen_query, screen_output}
@@ -25,67 +28,88 @@ use Rattle.screening.proofs.ScreenLaws.{entry_text, input_few, motif_proper, out
 
 -- ---- the numbers of a refusal
 
+rule_small : (rule : Rule) → number_of rule < 256
+rule_small UnequalLengths = omega arith
+rule_small NoBases = omega arith
+rule_small TooLong = omega arith
+rule_small BadLetter = omega arith
+rule_small BadMate = omega arith
+rule_small MatesNotMutual = omega arith
+rule_small ArcsCross = omega arith
+rule_small WorkTooShort = omega arith
+rule_small WrongSlice = omega arith
+rule_small NotWholeBlocks = omega arith
+rule_small UnsoundBlock = omega arith
+rule_small NumberTooLarge = omega arith
+rule_small AlreadyHeld = omega arith
+rule_small NotHeld = omega arith
+rule_small BadMotifs = omega arith
+
+side_small : (side : Side) → number_of_side side < 256
+side_small Motif = omega arith
+side_small Molecule = omega arith
+side_small Neither = omega arith
+
 -- Accepted, or refused with a place up to m.
 Small : ℕ → Verdict → Type 0
-Small m Accepted = 0 ≤ m
-Small m (Refused r) = (r.number < 256) × (r.side < 256) × (r.place ≤ m)
+Small m (Ok u) = 0 ≤ m
+Small m (Err r) = r.place ≤ m
 
-small_row : (m k s : ℕ) (b : Bool) → k < 256 → s < 256 → Small m (refuse_if k s b)
+small_row : (m : ℕ) (rule : Rule) (side : Side) (b : Bool) → Small m (refuse_if rule side b)
 unfolding Small refuse_if choose
-small_row m k s true hk hs = (hk, hs, omega arith)
-small_row m k s false hk hs = omega arith
+small_row m rule side true = omega arith
+small_row m rule side false = omega arith
 
-small_at : (m k s n : ℕ) (p : ℕ → Bool) → k < 256 → s < 256 → n ≤ m → Small m (refuse_at_lowest k s n p)
+small_at : (m : ℕ) (rule : Rule) (side : Side) (n : ℕ) (p : ℕ → Bool) → n ≤ m → Small m (refuse_at_lowest rule side n p)
 unfolding Small refuse_at_lowest choose
-small_at m k s n p hk hs hn = go (ltb (lowest n p) n)
+small_at m rule side n p hn = go (ltb (lowest n p) n)
   where
-    go : (b : Bool) → Small m (choose b (refusal k s (lowest n p)) Accepted)
-    go true = (hk, hs, omega (arith, lowest_upto p n))
+    go : (b : Bool) → Small m (choose b (refusal rule side (lowest n p)) (Ok tt))
+    go true = omega (arith, lowest_upto p n, hn)
     go false = omega arith
 
 small_first : (m : ℕ) (v : Verdict) (vs : List Verdict) → Small m v → Small m (first vs) → Small m (first (v ∷ vs))
 unfolding Small first
-small_first m Accepted vs a b = b
-small_first m (Refused r) vs a b = a
+small_first m (Ok u) vs a b = b
+small_first m (Err r) vs a b = a
 
 small_end : (m : ℕ) → Small m (first [])
 unfolding Small first
 small_end m = omega arith
 
-small_strand : (m side least greatest : ℕ) (bases mates : List ℕ) → side < 256 → length bases ≤ m → length mates ≤ m
+small_strand : (m : ℕ) (side : Side) (least greatest : ℕ) (bases mates : List ℕ) → length bases ≤ m → length mates ≤ m
     → Small m (strand_verdict side least greatest bases mates)
 unfolding strand_verdict
-small_strand m side least greatest bases mates hs hb hm =
-    small_first m _ _ (small_row m 1 side _ (omega arith) hs)
-    (small_first m _ _ (small_row m 2 side _ (omega arith) hs)
-    (small_first m _ _ (small_row m 3 side _ (omega arith) hs)
-    (small_first m _ _ (small_at m 4 side (length bases) _ (omega arith) hs hb)
-    (small_first m _ _ (small_at m 5 side (length mates) _ (omega arith) hs hm)
-    (small_first m _ _ (small_at m 6 side (length mates) _ (omega arith) hs hm)
-    (small_first m _ _ (small_at m 7 side (length mates) _ (omega arith) hs hm) (small_end m)))))))
+small_strand m side least greatest bases mates hb hm =
+    small_first m _ _ (small_row m _ side _)
+    (small_first m _ _ (small_row m _ side _)
+    (small_first m _ _ (small_row m _ side _)
+    (small_first m _ _ (small_at m _ side (length bases) _ hb)
+    (small_first m _ _ (small_at m _ side (length mates) _ hm)
+    (small_first m _ _ (small_at m _ side (length mates) _ hm)
+    (small_first m _ _ (small_at m _ side (length mates) _ hm) (small_end m)))))))
 
 small_buffers : (m : ℕ) (catalog cache : List ℕ) → block_count catalog ≤ m → Small m (buffers_verdict catalog cache)
 unfolding buffers_verdict
 small_buffers m catalog cache h =
-    small_first m _ _ (small_row m 10 2 _ (omega arith) (omega arith))
-    (small_first m _ _ (small_at m 11 2 (block_count catalog) (unsound_at catalog) (omega arith) (omega arith) h) (small_end m))
+    small_first m _ _ (small_row m _ _ _) (small_first m _ _ (small_at m _ _ (block_count catalog) (unsound_at catalog) h) (small_end m))
 
 small_query : (m : ℕ) (catalog cache : List ℕ) (p : Strand) (work room : ℕ) → block_count catalog ≤ m → length p.bases ≤ m → length p.mates ≤ m
     → Small m (query_verdict catalog cache p work room)
 unfolding query_verdict motif_verdict work_verdict
 small_query m catalog cache p work room h hb hm =
     small_first m _ _ (small_buffers m catalog cache h)
-    (small_first m _ _ (small_strand m motif_side least_motif most_motif_bases p.bases p.mates (omega arith) hb hm)
-    (small_first m _ _ (small_row m 9 2 _ (omega arith) (omega arith))
-    (small_first m _ _ (small_row m 8 2 _ (omega arith) (omega arith)) (small_end m))))
+    (small_first m _ _ (small_strand m motif_side least_motif most_motif_bases p.bases p.mates hb hm)
+    (small_first m _ _ (small_row m _ _ _) (small_first m _ _ (small_row m _ _ _) (small_end m))))
 
 -- ---- the text of an answer
 
 unless_short : (v : Verdict) (cache hits : List ℕ) (e : QueryEffect) → Small 160 v → length (effect_text e) ≤ most_output
-    → length (effect_text (by_verdict v (λ r. queried (NotQueried r) cache hits) e)) ≤ most_output
+    → length (effect_text (by_verdict v (λ r. queried (Err r) cache hits) e)) ≤ most_output
 unfolding Small by_verdict answer_text
-unless_short Accepted cache hits e a f = f
-unless_short (Refused r) cache hits e a f = most_refused r.number r.side r.place a.0 a.1 (omega (arith, a.2))
+unless_short (Ok u) cache hits e a f = f
+unless_short (Err r) cache hits e a f =
+    most_refused (number_of r.rule) (number_of_side r.side) r.place (rule_small r.rule) (side_small r.side) (omega (arith, a))
 
 module _ (embeds : Strand → Strand → Bool) (catalog : List ℕ) (p : Strand) (few : block_count catalog ≤ most_screened) where
   entry_short : (cache entry : List ℕ) (slot : ℕ) (hits : List ℕ) → length (effect_text (query_accepted embeds catalog cache entry slot p hits)) ≤ most_output

@@ -1,4 +1,5 @@
 -- Laws of the screen's output: which text an input gets, and that the query's own buffers do not show in it.
+use Rattle.std.specs.Prelude.{Some, None, Ok, Err}
 use mathlib.Core.Path.{◌≡◌, refl, sym, ap, ap₂, subst, ◌∙◌}
 use mathlib.Core.Bool.{Bool, true, false, ◌&&◌}
 use mathlib.Core.List.{List, [], ◌∷◌, ◌++◌}
@@ -10,7 +11,7 @@ use lib.ListN.{length, take, drop, replicate, length-append, length-drop, length
 use lib.Seq.{take_at, take_all}
 use Rattle.lists.specs.Vocabulary.{choose, select}
 use Rattle.strand.specs.Strands.{Strand, strand_of, Proper, least_motif}
-use Rattle.refusals.specs.Rules.{motif_side, no_side, wrong_slice, first, refuse_if, by_verdict, WorkKept}
+use Rattle.refusals.specs.Rules.{motif_side, no_side, wrong_slice, first, refuse_if, by_verdict, WorkKept, Verdict, number_of, number_of_side}
 use Rattle.lists.proofs.ListLaws.{and_true, and_left, never, select_short}
 use Rattle.strand.proofs.VerdictLaws.{accepted_proper}
 use Rattle.block.specs.Content.{block_size, empty_block}
@@ -18,25 +19,22 @@ use Rattle.block.proofs.ContentLaws.{motif_proper as handed_proper, held_sound}
 use Rattle.refusals.specs.declared.Refusal.{Refusal}
 use Rattle.block.specs.Motif.{holds_motif, sound_motif, motif_handed_in}
 use Rattle.block.specs.Block.{block_of, block_count}
+use Rattle.calls.specs.declared.Hits.{Hits}
+use Rattle.calls.specs.Answers.{Queried}
 use Rattle.calls.specs.Buffers.{motif_verdict, work_verdict, most_motif_bases, buffers_verdict, slot_of, clean_cache}
 use Rattle.calls.specs.Calls.{QueryEffect, queried, query_verdict, query_accepted, query_outcome, is_hit, to_search}
-use Rattle.refusals.specs.declared.Verdict.{Verdict}
-use Rattle.refusals.specs.declared.Verdict.TheVariants.{Accepted, Refused}
-use Rattle.calls.specs.declared.Queried.{Queried}
-use Rattle.calls.specs.declared.Queried.TheVariants.{Hits, Refused as NotQueried}
 use Rattle.screening.specs.Text.{line, spaced, hits_text, refused_text, bad_length_text, bad_motif_text, most_output, TextPut}
 use Rattle.screening.specs.Screen.{most_screened, is_input, first_block, catalog_in, screen_work, answer_text, AnswerFits, effect_text, screen_query}
 use Rattle.screening.specs.Screen.{screen_verdict, screen_output, has_room, screened, is_asked, cache_left, hits_left, screen_outcome}
-use Rattle.screening.specs.declared.Screened.TheVariants.{Written, NoRoom}
 use Rattle.screening.proofs.TextLaws.{most_hits, put_first}
 
 -- An accepted motif has at most 120 bases.
-motif_short : (p : Strand) → motif_verdict p ≡ Accepted → length p.bases ≤ 120
+motif_short : (p : Strand) → motif_verdict p ≡ Ok tt → length p.bases ≤ 120
 unfolding motif_verdict
 motif_short p e = (accepted_proper motif_side least_motif most_motif_bases p.bases p.mates e).small
 
 rows_same : (p : Strand) (work room n : ℕ) → n ≤ most_screened → screen_work ≤ work → most_screened ≤ room → length p.bases ≤ 120
-    → first (refuse_if wrong_slice no_side (ltb room n) ∷ work_verdict p work ∷ []) ≡ Accepted
+    → first (refuse_if wrong_slice no_side (ltb room n) ∷ work_verdict p work ∷ []) ≡ Ok tt
 unfolding first refuse_if work_verdict choose
 rows_same p work room n a b h m =
     rw (le-ltb room n (omega arith), le-ltb work (64 * (length p.bases + 1) + 8 * 160) (omega arith))
@@ -45,9 +43,9 @@ chain : (p : Strand) (work room n : ℕ) → n ≤ most_screened → screen_work
     → first (b ∷ m ∷ refuse_if wrong_slice no_side (ltb room n) ∷ work_verdict p work ∷ [])
     ≡ first (b ∷ m ∷ refuse_if wrong_slice no_side (ltb most_screened n) ∷ work_verdict p screen_work ∷ [])
 unfolding first
-chain p work room n a h r (Refused x) m e = refl
-chain p work room n a h r Accepted (Refused x) e = refl
-chain p work room n a h r Accepted Accepted e =
+chain p work room n a h r (Err x) m e = refl
+chain p work room n a h r (Ok u) (Err x) e = refl
+chain p work room n a h r (Ok u) (Ok v) e =
     rows_same p work room n a h r (motif_short p e) ∙ sym (rows_same p screen_work most_screened n a (omega arith) (omega arith) (motif_short p e))
 
 module _ (embeds : Strand → Strand → Bool) (catalog cache : List ℕ) (p : Strand) (work : ℕ) (hits : List ℕ)
@@ -81,16 +79,16 @@ module _ (embeds : Strand → Strand → Bool) (catalog cache entry : List ℕ) 
       )
 
 unless_text : (v : Verdict) (cache h₁ h₂ : List ℕ) (e₁ e₂ : QueryEffect) → effect_text e₁ ≡ effect_text e₂
-    → effect_text (by_verdict v (λ r. queried (NotQueried r) cache h₁) e₁) ≡ effect_text (by_verdict v (λ r. queried (NotQueried r) cache h₂) e₂)
+    → effect_text (by_verdict v (λ r. queried (Err r) cache h₁) e₁) ≡ effect_text (by_verdict v (λ r. queried (Err r) cache h₂) e₂)
 unfolding by_verdict answer_text
-unless_text Accepted cache h₁ h₂ e₁ e₂ e = e
-unless_text (Refused r) cache h₁ h₂ e₁ e₂ e = refl
+unless_text (Ok u) cache h₁ h₂ e₁ e₂ e = e
+unless_text (Err r) cache h₁ h₂ e₁ e₂ e = refl
 
 unless_fits : (v : Verdict) (cache h : List ℕ) (e : QueryEffect) → AnswerFits e.answer e.hits most_output
-    → AnswerFits (by_verdict v (λ r. queried (NotQueried r) cache h) e).answer (by_verdict v (λ r. queried (NotQueried r) cache h) e).hits most_output
+    → AnswerFits (by_verdict v (λ r. queried (Err r) cache h) e).answer (by_verdict v (λ r. queried (Err r) cache h) e).hits most_output
 unfolding by_verdict AnswerFits
-unless_fits Accepted cache h e f = f
-unless_fits (Refused r) cache h e f = omega arith
+unless_fits (Ok u) cache h e f = f
+unless_fits (Err r) cache h e f = omega arith
 
 module _ (embeds : Strand → Strand → Bool) (catalog cache : List ℕ) (p : Strand) (work : ℕ) (hits : List ℕ)
     (few : block_count catalog ≤ most_screened) (long : screen_work ≤ work) (wide : most_screened ≤ length hits) where
@@ -101,14 +99,14 @@ module _ (embeds : Strand → Strand → Bool) (catalog cache : List ℕ) (p : S
       let slot : ℕ = slot_of (block_count cache) p in
       let entry : List ℕ = block_of slot (clean_cache cache) in
       ap (λ (v : Verdict). effect_text
-      (by_verdict v (λ r. queried (NotQueried r) cache hits) (query_accepted embeds catalog (clean_cache cache) entry slot p hits)))
+      (by_verdict v (λ r. queried (Err r) cache hits) (query_accepted embeds catalog (clean_cache cache) entry slot p hits)))
       (verdict_same embeds catalog cache p work hits few long wide)
       ∙ unless_text (query_verdict catalog cache p screen_work most_screened) cache hits (replicate most_screened 0)
       (query_accepted embeds catalog (clean_cache cache) entry slot p hits)
       (query_accepted embeds catalog (clean_cache cache) entry slot p (replicate most_screened 0))
       (entry_text embeds catalog (clean_cache cache) entry slot p hits
       ∙ sym (entry_text embeds catalog (clean_cache cache) entry slot p (replicate most_screened 0)))
-      ∙ ap (λ (k : ℕ). effect_text (by_verdict (query_verdict catalog cache p screen_work k) (λ r. queried (NotQueried r) cache (replicate most_screened 0))
+      ∙ ap (λ (k : ℕ). effect_text (by_verdict (query_verdict catalog cache p screen_work k) (λ r. queried (Err r) cache (replicate most_screened 0))
       (query_accepted embeds catalog (clean_cache cache) entry slot p (replicate most_screened 0))))
       (sym (length-replicate {A = ℕ} most_screened 0))
 
@@ -204,14 +202,14 @@ strand_read q x y n e l = λ i. record { bases = take_at q.bases x n (sym e) i; 
 
 module _ (embeds : Strand → Strand → Bool) (input out cache : List ℕ) (work : ℕ) (hits : List ℕ) where
   pub outcome_none : has_room (length out) (length cache) work (length hits) ≡ false
-      → screened NoRoom out cache hits ≡ screen_outcome embeds input out cache work hits
+      → screened None out cache hits ≡ screen_outcome embeds input out cache work hits
   unfolding screen_outcome choose
   outcome_none e = rw e
 
   pub outcome_written : {new kept left : List ℕ} {n : ℕ} → has_room (length out) (length cache) work (length hits) ≡ true
       → TextPut (screen_output embeds input) out new 0 n
       → kept ≡ cache_left embeds input cache work hits → left ≡ hits_left embeds input work hits
-      → screened (Written n) new kept left ≡ screen_outcome embeds input out cache work hits
+      → screened (Some n) new kept left ≡ screen_outcome embeds input out cache work hits
   unfolding screen_outcome choose
   outcome_written e p k l = rw (e, (put_first p).0, (put_first p).1, k, l)
 
@@ -290,25 +288,25 @@ module _ (embeds : Strand → Strand → Bool) (input cache : List ℕ) (work : 
 
 -- ---- the text of an answer
 
-pub fits_hits : (count searched : ℕ) (answer : Queried) (hits : List ℕ) (room : ℕ) → answer ≡ Hits count searched → AnswerFits answer hits room
-    → (count ≤ length hits) × (length (hits_text count searched (take count hits)) ≤ room)
+pub fits_hits : (found : Hits) (answer : Queried) (hits : List ℕ) (room : ℕ) → answer ≡ Ok found → AnswerFits answer hits room
+    → (found.count ≤ length hits) × (length (hits_text found.count found.searched (take found.count hits)) ≤ room)
 unfolding AnswerFits
-fits_hits count searched answer hits room e f = rw e at f
+fits_hits found answer hits room e f = rw e at f
 
 pub fits_more : (answer : Queried) (hits : List ℕ) (room : ℕ) → most_output ≤ room → AnswerFits answer hits most_output → AnswerFits answer hits room
 unfolding AnswerFits
-fits_more (Hits count searched) hits room l f = (f.0, omega (arith, f.1))
-fits_more (NotQueried r) hits room l f = l
+fits_more (Ok found) hits room l f = (f.0, omega (arith, f.1))
+fits_more (Err r) hits room l f = l
 
-pub put_refused : (r : Refusal) (answer : Queried) (hits : List ℕ) {x y : List ℕ} {n : ℕ} → answer ≡ NotQueried r
-    → TextPut (refused_text r.number r.side r.place) x y 0 n → TextPut (answer_text answer hits) x y 0 n
+pub put_refused : (r : Refusal) (answer : Queried) (hits : List ℕ) {x y : List ℕ} {n : ℕ} → answer ≡ Err r
+    → TextPut (refused_text (number_of r.rule) (number_of_side r.side) r.place) x y 0 n → TextPut (answer_text answer hits) x y 0 n
 unfolding answer_text
 put_refused r answer hits e p = rw e p
 
-pub put_hits : (count searched : ℕ) (answer : Queried) (hits : List ℕ) {x y : List ℕ} {n : ℕ} → answer ≡ Hits count searched
-    → TextPut (hits_text count searched (take count hits)) x y 0 n → TextPut (answer_text answer hits) x y 0 n
+pub put_hits : (found : Hits) (answer : Queried) (hits : List ℕ) {x y : List ℕ} {n : ℕ} → answer ≡ Ok found
+    → TextPut (hits_text found.count found.searched (take found.count hits)) x y 0 n → TextPut (answer_text answer hits) x y 0 n
 unfolding answer_text
-put_hits count searched answer hits e p = rw e p
+put_hits found answer hits e p = rw e p
 
 -- ---- the output of an input
 

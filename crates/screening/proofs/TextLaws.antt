@@ -8,8 +8,8 @@ use native.Mathlib.Nat.{not-suc-le-zero}
 use native.Mathlib.Numerals.{add-one}
 use native.Mathlib.Decide.{dec_lt}
 use borrow.Author.Tests.{lt-ltb, le-ltb}
-use lib.ListN.{length, take, drop, set, length-append, take-append-drop}
-use lib.Seq.{set_split, take_at, drop_at, drop-drop, take-suc, take-add, length-take-le, take-length, paste, paste-suc}
+use lib.ListN.{length, take, drop, length-append, take-append-drop}
+use lib.Seq.{take_at, drop_at, drop-drop, take-suc, take-add, length-take-le}
 use Rattle.lists.specs.Vocabulary.{nth, choose, select}
 use Rattle.screening.specs.Text.{newline, digit, digits_in, digits, spaced, line, lines, hits_text, refused_text, most_output, TextPut}
 use Rattle.screening.specs.Statements.{value_from, DigitsSay}
@@ -21,9 +21,6 @@ put_none x at = record {
   past = omega arith;
   written = sym (ap (λ (k : ℕ). take at x ++ drop k x) (let z : at + 0 ≡ at = omega arith in z) ∙ take-append-drop at x);
 }
-
-pub put_one : (b : ℕ) (x : List ℕ) (at : ℕ) → at < length x → TextPut (b ∷ []) x (set x at b) at (at + 1)
-put_one b x at h = record { past = refl; written = rw add-one (set_split x at b h) }
 
 module _ {s t x y z : List ℕ} {a b c : ℕ} (h : a + length s ≤ length x) (p : TextPut s x y a b) (q : TextPut t y z b c) where
   front_length : length (take a x ++ s) ≡ b
@@ -62,30 +59,6 @@ module _ {s t x y z : List ℕ} {a b c : ℕ} (h : a + length s ≤ length x) (p
 -- From the start: the text, then what stood past it.
 pub put_first : {s x y : List ℕ} {c : ℕ} → TextPut s x y 0 c → (c ≡ length s) × (y ≡ s ++ drop (length s) x)
 put_first {s} {x} p = (omega (arith, p.past), p.written ∙ ap (λ (k : ℕ). s ++ drop k x) (let z : 0 + length s ≡ length s = omega arith in z))
-
--- ---- a copy of a word: its first i bytes are written
-
-module _ (d s : List ℕ) (at i : ℕ) {x : List ℕ} (e : x ≡ paste d at s i) where
-  pub copy_more : at + length s ≤ length d → i < length s → set x (at + i) (nth s i) ≡ paste d at s (i + 1)
-  copy_more h l =
-      ap (λ (r : List ℕ). set r (at + i) (nth s i)) e
-      ∙ paste-suc d at s i 0 (omega arith) l
-      ∙ ap (λ (k : ℕ). paste d at s k) (sym (add-one i))
-
-  pub copy_end : i ≤ length s → length s ≤ i → TextPut s d x at (at + i)
-  copy_end a b = record {
-    past = omega arith;
-    written = e ∙ copied;
-  }
-    where
-      whole : i ≡ length s
-      whole = omega arith
-
-      copied : paste d at s i ≡ take at d ++ (s ++ drop (at + length s) d)
-      copied =
-          ap (λ (k : ℕ). paste d at s k) whole
-          ∙ append_assoc (take at d) (take (length s) s) (drop (at + length s) d)
-          ∙ ap (λ (l : List ℕ). take at d ++ (l ++ drop (at + length s) d)) (take-length s)
 
 -- ---- digits
 
@@ -144,14 +117,6 @@ value_within (suc k) n h =
 pub digits_value : DigitsSay
 digits_value n = value_within (suc n) n (omega arith)
 
-module _ (n : ℕ) {x y : List ℕ} {a b : ℕ} where
-  pub number_small : n < 10 → TextPut (digit n ∷ []) x y a b → TextPut (digits n) x y a b
-  number_small h p = rw (digits_small n h) p
-
-  pub number_more : {z : List ℕ} {c : ℕ} → 10 ≤ n → a + length (digits n) ≤ length x → TextPut (digits (n / 10)) x y a b
-      → TextPut (digit (n % 10) ∷ []) y z b c → TextPut (digits n) x z a c
-  number_more h r p q = rw (digits_more n h) (put_then (omega (arith, digits_length n h)) p q)
-
 -- ---- lines
 
 pub line_length : (t : List ℕ) → length (line t) ≡ length t + 1
@@ -181,29 +146,6 @@ lines_within ns i n h =
     let x : lines (take n ns) ≡ lines (take i ns) ++ lines (take (n - i) (drop i ns)) =
     ap (λ (k : ℕ). lines (take k ns)) e ∙ ap lines (take-add i (n - i) ns) ∙ lines_append (take i ns) (take (n - i) (drop i ns)) in
     omega (arith, ap length x, length-append (lines (take i ns)) (lines (take (n - i) (drop i ns))))
-
-module _ (ns : List ℕ) where
-  pub lines_none : (x : List ℕ) (at : ℕ) → TextPut (lines (take 0 ns)) x x at at
-  unfolding lines
-  lines_none x at = put_none x at
-
-  module _ {x y : List ℕ} {i n at past : ℕ} (l : i < n) (k : n ≤ length ns) (r : at + length (lines (take n ns)) ≤ length x)
-      (p : TextPut (lines (take i ns)) x y at past) where
-    pub lines_room_lem : past + length (line (digits (nth ns i))) ≤ length x
-    lines_room_lem =
-        omega (
-          arith,
-          p.past,
-          ap length (lines_more ns i (omega arith)),
-          length-append (lines (take i ns)) (line (digits (nth ns i))),
-          lines_within ns (i + 1) n (omega arith),
-        )
-
-    pub lines_next : {z : List ℕ} {next : ℕ} → TextPut (line (digits (nth ns i))) y z past next → TextPut (lines (take (i + 1) ns)) x z at next
-    lines_next q = rw (lines_more ns i (omega arith)) (put_then (omega (arith, lines_within ns i n (omega arith))) p q)
-
-  pub lines_end : {x y : List ℕ} {at past : ℕ} (i n : ℕ) → i ≤ n → n ≤ i → TextPut (lines (take i ns)) x y at past → TextPut (lines (take n ns)) x y at past
-  lines_end i n a b p = let e : n ≡ i = omega arith in rw e p
 
 -- ---- the outputs, by their parts
 

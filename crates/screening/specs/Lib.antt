@@ -1,3 +1,4 @@
 pub mod Text
 pub mod Screen
 pub mod Statements
+pub mod Writing

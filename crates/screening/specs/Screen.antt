@@ -1,18 +1,14 @@
 -- What the screen program prints for the bytes of its input.
-use Rattle.std.specs.Prelude.{ℕ, ◌+◌, ◌%◌, ◌≤◌, List, ◌++◌, Bool, not, ◌&&◌, eqb, leb, length, take, drop, replicate}
+use Rattle.std.specs.Prelude.{ℕ, ◌+◌, ◌%◌, ◌≤◌, List, ◌++◌, Bool, not, ◌&&◌, eqb, leb, length, take, drop, replicate, Option, Some, None, Ok, Err}
 use Rattle.lists.specs.Vocabulary.{choose}
 use Rattle.strand.specs.Strands.{Strand}
 use Rattle.block.specs.Content.{block_size, empty_block}
 use Rattle.block.specs.Motif.{motif_handed_in, holds_motif}
 use Rattle.block.specs.Block.{block_count}
-use Rattle.refusals.specs.Rules.{work_size}
+use Rattle.refusals.specs.Rules.{work_size, Verdict, number_of, number_of_side}
+use Rattle.calls.specs.Answers.{Queried}
 use Rattle.calls.specs.Buffers.{most_molecule_bases, most_motif_bases}
 use Rattle.calls.specs.Calls.{QueryEffect, query_verdict, query_outcome}
-use Rattle.refusals.specs.declared.Verdict.{Verdict}
-use Rattle.calls.specs.declared.Queried.{Queried}
-use Rattle.calls.specs.declared.Queried.TheVariants.{Hits, Refused}
-use Rattle.screening.specs.declared.Screened.{Screened}
-use Rattle.screening.specs.declared.Screened.TheVariants.{Written, NoRoom}
 use Rattle.screening.specs.Text.{hits_text, refused_text, bad_length_text, bad_motif_text, most_output}
 
 -- The input is a block handed in as a motif, then 1 to 64 catalog blocks.
@@ -36,13 +32,14 @@ screen_work = work_size most_motif_bases most_molecule_bases
 
 -- The text of an answer; `hits` is the slice of the hits afterwards.
 unfoldable pub answer_text : Queried → List ℕ → List ℕ
-answer_text (Hits count searched) hits = hits_text count searched (take count hits)
-answer_text (Refused r) hits = refused_text r.number r.side r.place
+answer_text (Ok found) hits = hits_text found.count found.searched (take found.count hits)
+answer_text (Err r) hits = refused_text (number_of r.rule) (number_of_side r.side) r.place
 
 -- Room for an answer's text: that of an answered query fits; for a refusal there are most_output bytes, enough for any.
 unfoldable pub AnswerFits : Queried → List ℕ → ℕ → Type 0
-AnswerFits (Hits count searched) hits room = (count ≤ length hits) × (length (hits_text count searched (take count hits)) ≤ room)
-AnswerFits (Refused r) hits room = most_output ≤ room
+AnswerFits (Ok found) hits room =
+    (found.count ≤ length hits) × (length (hits_text found.count found.searched (take found.count hits)) ≤ room)
+AnswerFits (Err r) hits room = most_output ≤ room
 
 -- The text of the answer of a query with these effects.
 abbrev pub effect_text : QueryEffect → List ℕ
@@ -54,12 +51,12 @@ has_room out cache work hits = leb most_output out && eqb cache block_size && le
 
 -- The effect of `screen`: its answer, and the output buffer, the cache and the slice of the hits afterwards.
 pub record ScreenEffect : Type 0 where
-  pub answer : Screened
+  pub answer : Option ℕ
   pub out : List ℕ
   pub cache : List ℕ
   pub hits : List ℕ
 
-abbrev pub screened : Screened → List ℕ → List ℕ → List ℕ → ScreenEffect
+abbrev pub screened : Option ℕ → List ℕ → List ℕ → List ℕ → ScreenEffect
 screened answer out cache hits = record { answer = answer; out = out; cache = cache; hits = hits }
 
 -- The input comes to a query.
@@ -94,6 +91,6 @@ module _ (embeds : Strand → Strand → Bool) where
   unfoldable pub screen_outcome : List ℕ → List ℕ → List ℕ → ℕ → List ℕ → ScreenEffect
   screen_outcome input out cache work hits =
       choose (has_room (length out) (length cache) work (length hits))
-      (screened (Written (length (screen_output input))) (screen_output input ++ drop (length (screen_output input)) out)
+      (screened (Some (length (screen_output input))) (screen_output input ++ drop (length (screen_output input)) out)
       (cache_left input cache work hits) (hits_left input work hits))
-      (screened NoRoom out cache hits)
+      (screened None out cache hits)

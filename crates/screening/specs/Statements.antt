@@ -1,8 +1,8 @@
 -- What is claimed of the text that the screen program prints, for all inputs; `claims`, in proofs/Claims, proves it.
-use Rattle.std.specs.Prelude.{ℕ, ◌+◌, ◌-◌, ◌*◌, ◌≤◌, ◌≡◌, List, [], ◌∷◌, Bool, true, false, ◌&&◌, length}
+use Rattle.std.specs.Prelude.{ℕ, ◌+◌, ◌-◌, ◌*◌, ◌≤◌, ◌≡◌, List, [], ◌∷◌, Bool, true, false, ◌&&◌, length, Ok, Err}
 use Rattle.lists.specs.Vocabulary.{select}
 use Rattle.refusals.specs.declared.Refusal.{Refusal}
-use Rattle.refusals.specs.declared.Verdict.TheVariants.{Accepted, Refused}
+use Rattle.refusals.specs.Rules.{number_of, number_of_side}
 use Rattle.block.specs.Motif.{holds_motif, motif_handed_in}
 use Rattle.block.specs.Block.{block_count}
 use Rattle.embedding.specs.Longest.{embeds}
@@ -40,11 +40,11 @@ pub record Prints (input : List ℕ) : Type 0 where
   pub bad_length : is_input input ≡ false → screen_output embeds input ≡ bad_length_text
   -- else an unsound or empty first block `bad motif`
   pub bad_motif : is_input input ≡ true → holds_motif (first_block input) ≡ false → screen_output embeds input ≡ bad_motif_text
-  -- a refused query prints `refused` and number, side, place
-  pub refused : is_asked input ≡ true → (r : Refusal) → screen_verdict input screen_work most_screened ≡ Refused r
-      → screen_output embeds input ≡ refused_text r.number r.side r.place
+  -- a refused query prints `refused` and the numbers of rule and side, and the place
+  pub refused : is_asked input ≡ true → (r : Refusal) → screen_verdict input screen_work most_screened ≡ Err r
+      → screen_output embeds input ≡ refused_text (number_of r.rule) (number_of_side r.side) r.place
   -- an accepted one the count of the found, the count of the held, all of which are searched, for the cache is zeroed, and each of the found
-  pub answered : is_asked input ≡ true → screen_verdict input screen_work most_screened ≡ Accepted
+  pub answered : is_asked input ≡ true → screen_verdict input screen_work most_screened ≡ Ok tt
       → screen_output embeds input ≡ hits_text (length (found_in input)) (length (held_in input)) (found_in input)
 
 -- All the claims.

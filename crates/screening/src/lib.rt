@@ -6,7 +6,7 @@ mod text;
 ghost use Rattle.std.specs.Prelude.{◌≡◌, true, false, ◌&&◌, ◌≤◌, length};
 ghost use Rattle.block.specs.Motif.{holds_motif, motif_handed_in};
 ghost use Rattle.block.specs.Content.{block_bases, empty_block, block_size};
-ghost use Rattle.refusals.specs.Rules.{WorkKept};
+ghost use Rattle.refusals.specs.Rules.{WorkKept, number_of, number_of_side};
 ghost use Rattle.calls.specs.Calls.{queried, query_verdict, query_outcome};
 ghost use Rattle.screening.specs.Text.{refused_text, most_output, TextPut};
 ghost use Rattle.screening.specs.Screen.{is_input, first_block, catalog_in, answer_text, AnswerFits, is_asked, screen_output, has_room, screened, cache_left};
@@ -15,13 +15,7 @@ ghost use Rattle.embedding.specs.Longest.{embeds};
 
 use block::layout;
 use catalog::Queried;
-
-// What screen answers: how many bytes of output it wrote, or that a borrowed buffer is too short or the cache not one block.
-#[derive(Drop)]
-pub enum Screened {
-    Written(usize),
-    NoRoom,
-}
+use refusals::Refusal;
 
 // The most bytes of an output, the entries of work that any motif's query asks for, the most catalog blocks of an input, and its most blocks
 // with the motif's (specs/Text and specs/Screen have the same numbers).
@@ -80,7 +74,8 @@ fn ask_lent(
         × WorkKept (query_verdict (catalog_in input.now) cache.old (motif_handed_in (first_block input.now)) (length work.old) (length hits.old))
         work.old work.new }
 {
-    let n = codec::molecule::decode_motif(&input[..layout::BLOCK_SIZE], bases, mates);
+    let decoded = codec::molecule::decode_motif(&input[..layout::BLOCK_SIZE], bases, mates);
+    let n = decoded.unwrap();
     catalog::query(
         &input[layout::BLOCK_SIZE..],
         cache,
@@ -102,16 +97,21 @@ fn ask(input: &[u8], cache: &mut [u8], work: &mut [u16], hits: &mut [u16]) -> Qu
 {
     let mut bases = [0u8; layout::BLOCK_BASES];
     let mut mates = [0u16; layout::BLOCK_BASES];
-    octets::scan::zero(cache);
+    cache.fill(0);
     ask_lent(input, cache, work, hits, &mut bases, &mut mates)
 }
 
 // The text of any refusal.
-fn put_refusal(out: &mut [u8], number: u8, side: u8, place: usize) -> usize
+fn put_refusal(out: &mut [u8], refusal: Refusal) -> usize
     requires { most_output ≤ length out.old }
-    ensures { TextPut (refused_text number side place) out.old out.new 0 result }
+    ensures { TextPut (refused_text (number_of refusal.rule) (number_of_side refusal.side) refusal.place) out.old out.new 0 result }
 {
-    text::put_refused(out, number, side, place)
+    text::put_refused(
+        out,
+        refusal.rule.number(),
+        refusal.side.number(),
+        refusal.place,
+    )
 }
 
 // The text of a query's answer.
@@ -121,8 +121,8 @@ fn put_answer(out: &mut [u8], answer: Queried, hits: &[u16]) -> usize
     ensures { TextPut (answer_text answer hits.now) out.old out.new 0 result }
 {
     match answer {
-        Queried::Refused(x) => put_refusal(out, x.number, x.side, x.place),
-        Queried::Hits { count, searched } => text::put_hits(out, count, searched, hits),
+        Err(x) => put_refusal(out, x),
+        Ok(found) => text::put_hits(out, found.count, found.searched, hits),
     }
 }
 
@@ -142,25 +142,25 @@ fn write_output(
         × (is_asked input.now ≡ false → work.new ≡ work.old) }
 {
     if !is_input(input) {
-        return text::put_word(out, 0, b"bad length\n");
+        return text::put_text(out, b"bad length\n");
     }
     if !block::sound::holds_motif(&input[..layout::BLOCK_SIZE]) {
-        return text::put_word(out, 0, b"bad motif\n");
+        return text::put_text(out, b"bad motif\n");
     }
     let answer = ask(input, cache, work, hits);
     put_answer(out, answer, hits)
 }
 
-// From the whole input to the whole output. The cache, the work slice and the hits are scratch: their contents show neither in the answer nor in the
-// output. Where a query is asked, they are as the query leaves them, and elsewhere as they were. Where a buffer is too short, or the cache is not one
-// block, nothing is written in any. No output is longer than most_output (`OutputSays`).
+// From the whole input to the whole output. The answer is how many bytes of output were written, or None: a buffer is too short or the cache is not one
+// block, and nothing is written in any. The cache, the work slice and the hits are scratch: their contents show neither in the answer nor in the output.
+// Where a query is asked, they are as the query leaves them, and elsewhere as they were. No output is longer than most_output (`OutputSays`).
 pub fn screen(
     input: &[u8],
     out: &mut [u8],
     cache: &mut [u8],
     work: &mut [u16],
     hits: &mut [u16],
-) -> Screened
+) -> Option<usize>
     ensures outcome { screened result out.new cache.new hits.new ≡ screen_outcome embeds input.now out.old cache.old (length work.old) hits.old }
     ensures work_kept { ((has_room (length out.old) (length cache.old) (length work.old) (length hits.old) && is_asked input.now) ≡ true
         → WorkKept (screen_verdict input.now (length work.old) (length hits.old)) work.old work.new)
@@ -168,8 +168,7 @@ pub fn screen(
         → work.new ≡ work.old) }
 {
     if !has_room(out.len(), cache.len(), work.len(), hits.len()) {
-        return Screened::NoRoom;
+        return None;
     }
-    let n = write_output(input, out, cache, work, hits);
-    Screened::Written(n)
+    Some(write_output(input, out, cache, work, hits))
 }

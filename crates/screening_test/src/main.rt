@@ -1,141 +1,151 @@
 // Tests of the crate screening. The input has lines of 14 bytes: a letter, two numbers of five digits. `B d n` writes n times A without bonds into
-// block d, `Z d` empties it, `S i v` sets byte i to v, and `R n k` screens the first n bytes with buffer k too short; its line is
+// block d, `Z d` empties it, `S i v` sets byte i to v, and `R n k` screens the first n bytes with buffer k too short (1 the output, 2
+// the cache, 3 the work, 4 the hits, 0 none); its line is
 // written, then what the call answers. tools/screening_cases.py makes the lines and what they must give.
 #![tactic(auto)]
 
-use screening::Screened;
+use std::alloc::{AllocError, Global};
 use std::io;
 use std::io::Read;
-use testing::input::{kind, number};
-use testing::output::say;
-use testing::slices::{first, part, set_byte, set_entry};
+use testing::input::{field, number};
+use testing::slices::{byte, first, set};
+use testing::strands::Strand;
 
-fn image_buffer() -> [u8; 33281] {
-    [0u8; 33281]
+// The bytes of a line, with its end.
+const LINE: usize = 14;
+
+// How many lines are read; behind them the first come again.
+const MOST_LINES: usize = 65536;
+
+// The most bases that are written.
+const MOST_BASES: u16 = 160;
+
+// Which buffer is too short.
+#[derive(Clone, Copy, Debug, PartialEq, Eq)]
+enum Short {
+    Output,
+    Cache,
+    Work,
+    Hits,
+    Nothing,
 }
 
-fn work_buffer() -> [u16; 9024] {
-    [0u16; 9024]
+#[derive(Clone, Copy, Debug)]
+enum Command {
+    Put(usize, usize),
+    Zero(usize),
+    SetByte(usize, u8),
+    Screen(usize, Short),
 }
 
-fn short_buffer() -> [u16; 9023] {
-    [0u16; 9023]
-}
-
-// No bonds.
-fn fill(mates: &mut [u16]) {
-    let mut i = 0;
-    while i < 160 {
-        set_entry(mates, i, i);
-        i += 1;
-    }
-}
-
-fn put(image: &mut [u8], d: usize, n: usize) {
-    let bases = [65u8; 160];
-    let mut mates = [0u16; 160];
-    fill(&mut mates);
-    buffer::put_molecule(image, d, part(&bases, 0, n), first(&mates, n));
-}
-
-fn tell<P: Print>(
-    to: &P,
-    input: &[u8],
-    out: &mut [u8],
-    cache: &mut [u8],
-    work: &mut [u16],
-    hits: &mut [u16],
-) -> io::Result<()> {
-    if let Screened::Written(n) = screening::screen(input, out, cache, work, hits) {
-        return say(to, part(out, 0, n));
-    }
-    say(to, b"no room\n")
-}
-
-// The buffers, with other bytes than zero in them. One has an entry too few: 1 the output, 2 the cache, 3 the work, 4 the hits.
-fn lend_out<P: Print>(
-    to: &P,
-    input: &[u8],
-    wrong: usize,
-    cache: &mut [u8],
-    work: &mut [u16],
-    hits: &mut [u16],
-) -> io::Result<()> {
-    let mut out = [7u8; 202];
-    if wrong == 1 {
-        return tell(to, input, &mut out[..201], cache, work, hits);
-    }
-    tell(to, input, &mut out, cache, work, hits)
-}
-
-fn lend_cache<P: Print>(
-    to: &P,
-    input: &[u8],
-    wrong: usize,
-    work: &mut [u16],
-    hits: &mut [u16],
-) -> io::Result<()> {
-    let mut cache = [7u8; 512];
-    if wrong == 2 {
-        return lend_out(to, input, wrong, &mut cache[..511], work, hits);
-    }
-    lend_out(to, input, wrong, &mut cache, work, hits)
-}
-
-fn short_work<P: Print>(to: &P, input: &[u8], hits: &mut [u16]) -> io::Result<()> {
-    let mut work = short_buffer();
-    lend_cache(to, input, 0, &mut work, hits)
-}
-
-fn lend_work<P: Print>(to: &P, input: &[u8], wrong: usize, hits: &mut [u16]) -> io::Result<()> {
-    if wrong == 3 {
-        return short_work(to, input, hits);
-    }
-    let mut work = work_buffer();
-    lend_cache(to, input, wrong, &mut work, hits)
-}
-
-fn screen<P: Print>(to: &P, input: &[u8], wrong: usize) -> io::Result<()> {
-    let mut hits = [7u16; 64];
-    if wrong == 4 {
-        return lend_work(to, input, wrong, &mut hits[..63]);
-    }
-    lend_work(to, input, wrong, &mut hits)
-}
-
-fn step<P: Print>(to: &P, line: &[u8], image: &mut [u8]) -> io::Result<()> {
-    let a = number(line, 2, 5);
-    let b = number(line, 8, 5);
-    match kind(line) {
-        b'B' => put(image, a, b),
-        b'Z' => {
-            buffer::zero_at(image, a);
-        }
-        b'S' => set_byte(image, a, b),
-        _ => {
-            say(to, line)?;
-            screen(to, part(image, 0, a), b)?;
+impl Command {
+    fn of(line: &[u8]) -> Option<Command> {
+        let a = number(line, 2..7);
+        let b = number(line, 8..13);
+        match line.first()? {
+            b'B' => Some(Command::Put(a, b)),
+            b'Z' => Some(Command::Zero(a)),
+            b'S' => Some(Command::SetByte(a, byte(b))),
+            _ => Some(Command::Screen(a, Short::of(b))),
         }
     }
-    Ok(())
 }
 
-fn steps<P: Print>(to: &P, text: &[u8], image: &mut [u8]) -> io::Result<()> {
-    let mut i = 0;
-    while i < text.len() / 14 {
-        step(to, part(text, i % 65536 * 14, 14), image)?;
-        i += 1;
+impl Short {
+    // The buffer of a number.
+    fn of(number: usize) -> Short {
+        match number {
+            1 => Short::Output,
+            2 => Short::Cache,
+            3 => Short::Work,
+            4 => Short::Hits,
+            _ => Short::Nothing,
+        }
+    }
+}
+
+// The buffers of a screening.
+#[derive(Debug, Drop)]
+struct Buffers {
+    output: Vec<u8>,
+    cache: Vec<u8>,
+    work: Vec<u16>,
+    hits: Vec<u16>,
+}
+
+impl Buffers {
+    // With other bytes than zero in them, and an entry too few in one.
+    fn new(alloc: Global, short: Short) -> Result<Buffers, AllocError> {
+        let mut buffers = Buffers {
+            output: vec![in alloc; 7; 202]?,
+            cache: vec![in alloc; 7; 512]?,
+            work: vec![in alloc; 0; 9024]?,
+            hits: vec![in alloc; 7; 64]?,
+        };
+        match short {
+            Short::Output => buffers.output.truncate(201),
+            Short::Cache => buffers.cache.truncate(511),
+            Short::Work => buffers.work.truncate(9023),
+            Short::Hits => buffers.hits.truncate(63),
+            Short::Nothing => {}
+        }
+        Ok(buffers)
+    }
+
+    // What the call writes, if there is room.
+    fn screen(&mut self, input: &[u8]) -> Option<&[u8]> {
+        let n = screening::screen(
+            input,
+            &mut self.output,
+            &mut self.cache,
+            &mut self.work,
+            &mut self.hits,
+        )?;
+        Some(first(&self.output, n))
+    }
+}
+
+fn screen<R: Print + AllocGlobal>(rt: &R, input: &[u8], short: Short) -> io::Result<()> {
+    let mut buffers = Buffers::new(rt.alloc(), short)?;
+    rt.write_all(buffers.screen(input).unwrap_or(b"no room\n"))
+}
+
+// So many bases without bonds, or the most.
+fn unbonded(alloc: Global, n: usize) -> Result<Strand, AllocError> {
+    let n = u16::try_from(n).unwrap_or(MOST_BASES).min(MOST_BASES);
+    Ok(Strand {
+        bases: vec![in alloc; b'A'; usize::from(n)]?,
+        mates: (0..n).collect(alloc)?,
+    })
+}
+
+fn step<R: Print + AllocGlobal>(rt: &R, line: &[u8], image: &mut Vec<u8>) -> io::Result<()> {
+    match Command::of(line) {
+        Some(Command::Put(d, n)) => {
+            let strand = unbonded(rt.alloc(), n)?;
+            buffer::put_molecule(image, d, &strand.bases, &strand.mates);
+        }
+        Some(Command::Zero(d)) => {
+            buffer::zero_at(image, d);
+        }
+        Some(Command::SetByte(i, x)) => set(image, i, x),
+        Some(Command::Screen(n, short)) => {
+            rt.write_all(line)?;
+            screen(rt, first(image, n), short)?;
+        }
+        None => {}
     }
     Ok(())
-}
-
-fn over<P: Print>(to: &P, text: &[u8]) -> io::Result<()> {
-    let mut image = image_buffer();
-    steps(to, text, &mut image)
 }
 
 fn main(rt: HostRuntime) -> io::Result<()> {
-    let mut text = Vec::new(rt.alloc());
+    let alloc = rt.alloc();
+    let mut image = vec![in alloc; 0; 33281]?;
+    let mut text = Vec::new(alloc);
     rt.reader().read_to_end(&mut text)?;
-    over(&rt, &text)
+    for i in 0..text.len() / LINE {
+        let at = i % MOST_LINES * LINE;
+        step(&rt, field(&text, at..at + LINE), &mut image)?;
+    }
+    Ok(())
 }

@@ -1,4 +1,5 @@
 -- From the maps of a query to its answer and to what it leaves.
+use Rattle.std.specs.Prelude.{Ok}
 use mathlib.Core.Path.{◌≡◌, sym, ap, ap₂, ◌∙◌}
 use mathlib.Core.Bool.{Bool, true, false, not, ◌&&◌, ◌||◌}
 use mathlib.Core.List.{List, [], ◌++◌}
@@ -17,7 +18,7 @@ use Rattle.block.specs.Block.{block_of, block_count, put_block}
 use Rattle.block.specs.Content.{entry_with, keeps_motif, searched_in}
 use Rattle.block.proofs.ContentLaws.{entry_of_maps}
 use Rattle.embedding.specs.Longest.{embeds}
-use Rattle.calls.specs.declared.Queried.TheVariants.{Hits}
+use Rattle.calls.specs.Answers.{hits_of}
 use Rattle.calls.specs.Buffers.{held, molecule_at}
 use Rattle.calls.specs.Calls.{to_search, is_hit, queried, query_accepted}
 use Rattle.calls.specs.Calls.{slot_in}
@@ -64,7 +65,7 @@ module _ (cat cache entry : List ℕ) (s : ℕ) (p pm hits : List ℕ) (small : 
   -- k were searched; c hits stand at the start of y; x is the cache with the new entry
   pub answer_is : (c k : ℕ) (x y : List ℕ) → k ≡ length (select (block_count cat) (to_search cat entry (strand_of p pm)))
       → (c ≡ length (select (block_count cat) (map_bit found 0))) × (y ≡ select (block_count cat) (map_bit found 0) ++ drop c hits)
-      → x ≡ put_block s (entry_with [] p pm taken found) cache → queried (Hits c k) x y ≡ answered cat cache (strand_of p pm) hits
+      → x ≡ put_block s (entry_with [] p pm taken found) cache → queried (Ok (hits_of c k)) x y ≡ answered cat cache (strand_of p pm) hits
   answer_is c k x y ek listed ex =
       let q : Strand = strand_of p pm in
       let hit : select (block_count cat) (map_bit found 0) ≡ select (block_count cat) (is_hit embeds cat entry q)

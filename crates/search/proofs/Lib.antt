@@ -1,4 +1,3 @@
-pub mod ReadyLaws
 pub mod MatchLaws
 pub mod MarkLaws
 pub mod ListingLaws

@@ -8,8 +8,6 @@ use native.Mathlib.Decide.{ℕ_discrete, dec_lt}
 use lib.ListN.{replicate}
 use lib.Dec.{eqb, ltb}
 use borrow.Author.Tests.{eq-eqb, ne_eqb, lt-ltb, le-ltb}
-use Rattle.lists.specs.Vocabulary.{choose}
-use Rattle.lists.proofs.ListLaws.{choose_yes, choose_no}
 use Rattle.octets.specs.Bits.{set_map}
 use Rattle.octets.specs.Octets.{map_bytes}
 use Rattle.octets.proofs.MapLaws.{map_set, map_ext, map_none}
@@ -62,16 +60,15 @@ module _ (f p : ℕ → Bool) where
   unfolding with_up_to
   mark_none d w h e = e ∙ map_ext (with_up_to f d p) (with_up_to f (d + 1) p) (λ x m. ap (λ (b : Bool). f x || b) (up_no d p h x))
 
-  pub mark_next : (d : ℕ) (b : Bool) (w w' : List ℕ) → d < 512 → b ≡ p d → w ≡ map_bytes (with_up_to f d p)
-      → w' ≡ choose b (set_map w 0 d) w → w' ≡ map_bytes (with_up_to f (d + 1) p)
+  -- Number d, which is a number of p, is put into the map.
+  pub mark_yes : (d : ℕ) (w w' : List ℕ) → d < 512 → p d ≡ true → w ≡ map_bytes (with_up_to f d p)
+      → w' ≡ set_map w 0 d → w' ≡ map_bytes (with_up_to f (d + 1) p)
   unfolding with_up_to
-  mark_next d true w w' l h e k =
+  mark_yes d w w' l h e k =
       k
-      ∙ choose_yes true (set_map w 0 d) w refl
       ∙ ap (λ (s : List ℕ). set_map s 0 d) e
       ∙ map_set (with_up_to f d p) d l
-      ∙ map_ext _ (with_up_to f (d + 1) p) (λ x m. or_assoc (f x) (up_to d p x) (eqb x d) ∙ ap (λ (b : Bool). f x || b) (up_yes d p (sym h) x))
-  mark_next d false w w' l h e k = k ∙ choose_no false (set_map w 0 d) w refl ∙ mark_none d w (sym h) e
+      ∙ map_ext _ (with_up_to f (d + 1) p) (λ x m. or_assoc (f x) (up_to d p x) (eqb x d) ∙ ap (λ (b : Bool). f x || b) (up_yes d p h x))
 
   pub mark_end : (n d : ℕ) (w : List ℕ) → n ≤ d → d ≤ n → ((e : ℕ) → n ≤ e → p e ≡ false) → w ≡ map_bytes (with_up_to f d p)
       → w ≡ map_bytes (λ e. f e || p e)

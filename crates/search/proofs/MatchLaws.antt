@@ -2,6 +2,7 @@
 use mathlib.Core.Path.{◌≡◌, sym, ap, ap₂, ◌∙◌}
 use mathlib.Core.Bool.{Bool, true, false}
 use mathlib.Core.List.{List, ◌++◌}
+use Rattle.std.specs.Prelude.{Option, Some}
 use Prim.Native.Nat.{ℕ, ◌≤◌}
 use native.Mathlib.Omega.{arith}
 use lib.ListN.{length, take}
@@ -15,7 +16,7 @@ use Rattle.block.specs.Block.{block_of, sound_molecule}
 use Rattle.block.specs.Content.{block_bases, is_empty, molecule_in}
 use Rattle.block.proofs.ContentLaws.{molecule_fits, molecule_count, molecule_proper}
 use Rattle.codec.specs.Outcomes.{decoded, molecule_decoded}
-use Rattle.codec.proofs.OutcomeLaws.{decoded_there}
+use Rattle.codec.proofs.OutcomeLaws.{decoded_some, decoded_there}
 use Rattle.calls.specs.Buffers.{most_molecule_bases, most_motif_bases, held, molecule_at}
 use Rattle.calls.proofs.FactLaws.{held_facts, molecule_at_lem}
 use Rattle.judge.specs.Judge.{SoundCatalog}
@@ -39,11 +40,18 @@ pub record Read (q : Strand) (n : ℕ) (x y : List ℕ) : Type 0 where
   pub bonds : take n y ≡ q.mates
   pub proper : Proper molecule_side least_molecule most_molecule_bases q.bases q.mates
 
-module _ (b l m x y : List ℕ) (n : ℕ) (hl : 160 ≤ length l) (hm : 160 ≤ length m) (e : decoded n x y ≡ molecule_decoded b l m) where
+-- The decoder finds the molecule of a block that is held.
+pub found_at : (b l m x y : List ℕ) (n : Option ℕ) → 160 ≤ length l → 160 ≤ length m → decoded n x y ≡ molecule_decoded b l m
+    → (cat : List ℕ) (d : ℕ) → SoundCatalog cat → held cat d ≡ true → b ≡ block_of d cat → n ≡ Some (length (molecule_in b).bases)
+found_at b l m x y n hl hm e cat d ok there eb =
+    decoded_some b l m n x y (ap sound_molecule eb ∙ ok.sound d (held_facts cat d there).0) hl hm e
+
+module _ (b l m x y : List ℕ) (r : Option ℕ) (n : ℕ) (er : r ≡ Some n) (hl : 160 ≤ length l) (hm : 160 ≤ length m) (e : decoded r x y ≡
+    molecule_decoded b l m) where
   -- The decoder leaves the molecule of a sound block that is not empty in the slices l and m.
   read_block : sound_molecule b ≡ true → is_empty b ≡ false → Read (molecule_in b) n x y
   read_block sound full =
-      let f = decoded_there b l m n x y sound hl hm e in
+      let f = decoded_there b l m n x y sound hl hm (ap (λ (s : Option ℕ). decoded s x y) (sym er) ∙ e) in
       let z = molecule_proper b sound full in
       record {
         short = let u = molecule_count b sound in let v = molecule_fits b sound in let w = f.0 in omega arith;

@@ -5,7 +5,7 @@ use mathlib.Core.List.{List}
 use Prim.Native.Nat.{ℕ, ◌+◌, ◌<◌, ◌≤◌}
 use native.Mathlib.Omega.{arith}
 use lib.ListN.{length}
-use Rattle.lists.specs.Vocabulary.{choose, select}
+use Rattle.lists.specs.Vocabulary.{select}
 use Rattle.lists.proofs.ListLaws.{select_none, never}
 use Rattle.octets.specs.Bits.{set_map}
 use Rattle.octets.specs.Octets.{Bytes, map_bit, map_bytes}
@@ -14,7 +14,7 @@ use Rattle.block.specs.Block.{block_count}
 use Rattle.calls.proofs.JudgeLaws.{above_not_held}
 use Rattle.search.specs.Search.{AllHeld}
 use Rattle.search.proofs.ListingLaws.{count_yes, count_no}
-use Rattle.search.proofs.MarkLaws.{with_up_to, mark_start, mark_none, mark_next, mark_end}
+use Rattle.search.proofs.MarkLaws.{with_up_to, mark_start, mark_none, mark_yes, mark_end}
 
 -- The map has the hits known before and those below d, and so many were searched.
 pub record Searched (f t e : ℕ → Bool) (n : ℕ) (map : List ℕ) (d searched : ℕ) : Type 0 where
@@ -31,14 +31,21 @@ searched_start t e n map l small =
     }
 
 module _ (f t e : ℕ → Bool) (n : ℕ) (map : List ℕ) (d searched : ℕ) (s : Searched f t e n map d searched) (l : d < n) where
-  -- Number d is searched; b says whether it is a hit.
-  pub searched_yes : n ≤ 512 → t d ≡ true → (b : Bool) (m : List ℕ) → b ≡ e d → m ≡ choose b (set_map map 0 d) map → Searched f t e n m (d + 1) (searched + 1)
-  searched_yes small h b m q k =
+  -- Number d is searched and is a hit, or is none.
+  pub searched_hit : n ≤ 512 → t d ≡ true → e d ≡ true → (m : List ℕ) → m ≡ set_map map 0 d → Searched f t e n m (d + 1) (searched + 1)
+  searched_hit small h y m k =
       record {
         below = omega arith;
         counted = count_yes t d searched s.counted h;
-        mapped =
-            mark_next f (λ x. t x && e x) d b map m (omega arith) (q ∙ ap (λ (a : Bool). a && e d) (sym h)) s.mapped k;
+        mapped = mark_yes f (λ x. t x && e x) d map m (omega arith) (rw (h, y)) s.mapped k;
+      }
+
+  pub searched_miss : t d ≡ true → e d ≡ false → Searched f t e n map (d + 1) (searched + 1)
+  searched_miss h y =
+      record {
+        below = omega arith;
+        counted = count_yes t d searched s.counted h;
+        mapped = mark_none f (λ x. t x && e x) d map (rw (h, y)) s.mapped;
       }
 
   -- Number d is not to be searched.

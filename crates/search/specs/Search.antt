@@ -3,8 +3,7 @@
 use Rattle.std.specs.Prelude.{ℕ, ◌+◌, ◌*◌, ◌≤◌, ◌≡◌, Bool, true, ◌&&◌, List, length}
 use Rattle.strand.specs.Strands.{Strand, least_motif, Proper}
 use Rattle.refusals.specs.Rules.{motif_side, work_size}
-use Rattle.walk.specs.Walk.{TablesFor}
-use Rattle.octets.specs.Octets.{map_size, map_bit}
+use Rattle.octets.specs.Octets.{map_bit}
 use Rattle.block.specs.Block.{block_of, block_count}
 use Rattle.block.specs.Content.{block_bases, keeps_motif, searched_in, hit_in}
 use Rattle.embedding.specs.Longest.{embeds}
@@ -23,21 +22,6 @@ pub record Judged (catalog p pm : List ℕ) (work : ℕ) : Type 0 where
 -- Room for the tables of every motif of a query, five rows of 121 entries, and for the bounds of a molecule of 160 bases.
 abbrev pub tables_size : ℕ
 tables_size = 5 * (most_motif_bases + 1) + (block_bases + 1)
-
--- The lengths of the slices that a query makes: its three maps, the motif's tables, and the bases and mates of a molecule.
-pub record Sized (held todo found tables letters bonds : ℕ) : Type 0 where
-  pub held_size : held ≡ map_size
-  pub todo_size : todo ≡ map_size
-  pub found_size : found ≡ map_size
-  pub tables_size_lem : tables ≡ tables_size
-  pub letters_size : letters ≡ block_bases
-  pub bonds_size : bonds ≡ block_bases
-
--- What each search of a molecule uses: the motif's tables, and slices that the molecule of a block is decoded into.
-pub record Prepared (p pm tables : List ℕ) (letters bonds : ℕ) : Type 0 where
-  pub tables_of : TablesFor p pm block_bases tables
-  pub letters_size : letters ≡ block_bases
-  pub bonds_size : bonds ≡ block_bases
 
 -- Every number of the map is held.
 abbrev pub AllHeld : List ℕ → List ℕ → Type 0

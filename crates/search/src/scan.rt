@@ -1,65 +1,95 @@
 // The molecules that are to be searched, one after the other.
-ghost use Rattle.std.specs.Prelude.{◌≡◌, true, ◌&&◌, ◌||◌, length};
+ghost use Rattle.std.specs.Prelude.{◌≡◌, true, ◌&&◌, ◌||◌, ◌≤◌, length};
 ghost use Rattle.lists.specs.Vocabulary.{select};
-ghost use Rattle.strand.specs.Strands.{strand_of};
+ghost use Rattle.strand.specs.Strands.{strand_of, Proper, least_motif};
+ghost use Rattle.refusals.specs.Rules.{motif_side, work_size};
 ghost use Rattle.octets.specs.Octets.{map_size, map_bit, map_bytes};
 ghost use Rattle.block.specs.Block.{block_count};
 ghost use Rattle.block.specs.Content.{block_bases};
 ghost use Rattle.embedding.specs.Longest.{embeds};
 ghost use Rattle.walk.specs.Walk.{TablesFor};
-ghost use Rattle.calls.specs.Buffers.{held, molecule_at};
-ghost use Rattle.search.specs.Search.{Judged, Prepared, AllHeld};
+ghost use Rattle.calls.specs.Buffers.{most_catalog_blocks, most_molecule_bases, most_motif_bases, held, molecule_at};
+ghost use Rattle.judge.specs.Judge.{SoundCatalog};
+ghost use Rattle.search.specs.Search.{AllHeld};
 
 use block::layout;
 
-// Whether the motif, whose tables these are, embeds in molecule d, which is decoded into the two slices. Neither strand is checked again.
-fn embeds_at(
-    catalog: &[u8],
-    d: usize,
-    p: &[u8],
-    pm: &[u16],
-    tables: &mut [u16],
-    work: &mut [u16],
-    letters: &mut [u8],
-    bonds: &mut [u16],
-) -> bool
-    requires { Judged catalog.now p.now pm.now (length work.old) × Prepared p.now pm.now tables.old (length letters.old) (length bonds.old)
-        × (held catalog.now d ≡ true) }
-    ensures { (result ≡ embeds (strand_of p.now pm.now) (molecule_at catalog.now d))
-        × TablesFor p.now pm.now block_bases tables.new }
-{
-    let n = codec::molecule::decode_molecule(layout::block_at(catalog, d), letters, bonds);
-    walk::embeds(p, pm, tables, &letters[..n], &bonds[..n], work)
+// Room for the molecule of a block: beside the searcher, for no part of an array is lent by a struct that has a ghost field. No Clone: nobody copies it.
+#[derive(Drop)]
+struct Room {
+    bases: [u8; layout::BLOCK_BASES],
+    mates: [u16; layout::BLOCK_BASES],
 }
 
-// Search every molecule of the map `todo` and put the hits into the map `found`; how many were searched.
-pub(crate) fn search_all(
-    catalog: &[u8],
-    todo: &[u8],
-    p: &[u8],
-    pm: &[u16],
-    tables: &mut [u16],
-    work: &mut [u16],
-    letters: &mut [u8],
-    bonds: &mut [u16],
-    found: &mut [u8],
-) -> usize
-    requires { Judged catalog.now p.now pm.now (length work.old) × Prepared p.now pm.now tables.old (length letters.old) (length bonds.old)
-        × (length found.old ≡ map_size) × AllHeld catalog.now todo.now }
-    ensures { (result ≡ length (select (block_count catalog.now) (map_bit todo.now 0)))
-        × (found.new ≡ map_bytes (λ d. map_bit found.old 0 d
-        || (map_bit todo.now 0 d && embeds (strand_of p.now pm.now) (molecule_at catalog.now d)))) }
-{
-    let n = catalog.len() / layout::BLOCK_SIZE;
-    let mut searched = 0;
-    let mut d = 0;
-    while d < n {
-        if octets::bits::test(todo, 0, d) {
-            let hit = embeds_at(catalog, d, p, pm, tables, work, letters, bonds);
-            crate::maps::mark(hit, d, found);
-            searched += 1;
+// What searches for a motif: the motif, its tables, and a work slice that is long enough. No Clone, since it lends a slice to write.
+#[derive(Drop)]
+pub(crate) struct Searcher<'a> {
+    bases: &'a [u8],
+    mates: &'a [u16],
+    work: &'a mut [u16],
+    tables: [u16; walk::QUERY_TABLES],
+    ghost motif: { Proper motif_side least_motif most_motif_bases bases.now mates.now },
+    ghost tables_of: { TablesFor bases.now mates.now block_bases tables },
+    ghost room: { work_size (length bases.now) most_molecule_bases ≤ length work.now },
+}
+
+impl<'a> Searcher<'a> {
+    // The tables of the motif are made here.
+    pub(crate) fn new(bases: &'a [u8], mates: &'a [u16], work: &'a mut [u16]) -> Searcher<'a>
+        requires motif { Proper motif_side least_motif most_motif_bases bases.now mates.now }
+        requires room { work_size (length bases.now) most_molecule_bases ≤ length work.old }
+        ensures { (result.bases.now ≡ bases.now) × (result.mates.now ≡ mates.now) }
+    {
+        let mut tables = [0u16; walk::QUERY_TABLES];
+        walk::prepare(bases, mates, &mut tables);
+        Searcher {
+            bases,
+            mates,
+            work,
+            tables,
         }
-        d += 1;
     }
-    searched
+
+    // Whether the motif embeds in molecule d, which is decoded into the room. Neither strand is checked again.
+    fn embeds_at(&mut self, catalog: &[u8], d: usize, room: &mut Room) -> bool
+        requires { SoundCatalog catalog.now × (held catalog.now d ≡ true) }
+        ensures { (result ≡ embeds (strand_of self.old.bases.now self.old.mates.now) (molecule_at catalog.now d))
+            × (self.new.bases ≡ self.old.bases) × (self.new.mates ≡ self.old.mates) }
+    {
+        let block = layout::block_at(catalog, d);
+        let decoded = codec::molecule::decode_molecule(block, &mut room.bases, &mut room.mates);
+        let n = decoded.unwrap();
+        walk::embeds(
+            self.bases,
+            self.mates,
+            &mut self.tables,
+            &room.bases[..n],
+            &room.mates[..n],
+            self.work,
+        )
+    }
+
+    // Search every molecule of the map `todo` and put the hits into the map `found`; how many were searched.
+    pub(crate) fn search_all(&mut self, catalog: &[u8], todo: &[u8], found: &mut [u8]) -> usize
+        requires { SoundCatalog catalog.now × (block_count catalog.now ≤ most_catalog_blocks) × (length found.old ≡ map_size)
+            × AllHeld catalog.now todo.now }
+        ensures { (result ≡ length (select (block_count catalog.now) (map_bit todo.now 0)))
+            × (found.new ≡ map_bytes (λ d. map_bit found.old 0 d
+            || (map_bit todo.now 0 d && embeds (strand_of self.old.bases.now self.old.mates.now) (molecule_at catalog.now d)))) }
+    {
+        let mut room = Room {
+            bases: [0; layout::BLOCK_BASES],
+            mates: [0; layout::BLOCK_BASES],
+        };
+        let mut searched = 0;
+        for d in 0..layout::block_count(catalog) {
+            if octets::bits::test(todo, 0, d) {
+                if self.embeds_at(catalog, d, &mut room) {
+                    octets::bits::set(found, 0, d);
+                }
+                searched += 1;
+            }
+        }
+        searched
+    }
 }

@@ -5,15 +5,14 @@ use mathlib.Core.Bool.{Bool, true}
 use mathlib.Core.List.{List}
 use native.Mathlib.Omega.{arith}
 use Rattle.lists.specs.Vocabulary.{total}
-use Rattle.refusals.specs.declared.Verdict.{Verdict}
-use Rattle.refusals.specs.declared.Verdict.TheVariants.{Accepted, Refused}
-use Rattle.refusals.specs.Rules.{molecule_side, by_verdict, Refuses}
+use Rattle.std.specs.Prelude.{Ok, Err}
+use Rattle.refusals.specs.declared.Side.{Side}
+use Rattle.refusals.specs.Rules.{Verdict, molecule_side, by_verdict, Refuses}
 use Rattle.refusals.proofs.RuleLaws.{by_accepted}
 use Rattle.refusals.proofs.Refusing.{refuses_by}
 use Rattle.strand.specs.declared.Fold.{Fold}
-use Rattle.strand.specs.declared.Checked.TheVariants as checked
 use Rattle.strand.specs.Folds.{fold_of}
-use Rattle.strand.specs.Strands.{Strand, same_strand, key, least_molecule, greatest_length, check_verdict, check_answer, CheckAccepts, CheckSays}
+use Rattle.strand.specs.Strands.{Checked, Strand, same_strand, key, least_molecule, greatest_length, check_verdict, check_answer, CheckAccepts, CheckSays}
 use Rattle.strand.specs.Statements.{NestedSays, StrandSays, LowestSays, EmptyMotifSays, FoldSays, Claims}
 use Rattle.lists.proofs.ListLaws.{lowest_before, lowest_upto, lowest_passes}
 use Rattle.strand.proofs.FoldLaws.{arcs_most, depth_most, fold_is, fold_only, depth_none}
@@ -29,13 +28,13 @@ same_strand_refl p = rw (same_refl p.bases) (same_refl p.mates)
 nested_says : (mates : List ℕ) → NestedSays mates
 nested_says mates = (nested_yes mates, nested_test mates)
 
-strand_says : (side least greatest : ℕ) (bases mates : List ℕ) → StrandSays side least greatest bases mates
+strand_says : (side : Side) (least greatest : ℕ) (bases mates : List ℕ) → StrandSays side least greatest bases mates
 strand_says side least greatest bases mates = (accepted_proper side least greatest bases mates, proper_accepted side least greatest bases mates)
 
-nested_answered : (v : Verdict) (f g : Fold) → by_verdict v checked.Refused (checked.Nested g) ≡ checked.Nested f → (v ≡ Accepted) × (f ≡ g)
+nested_answered : (v : Verdict) (f g : Fold) → ◌≡◌ {A = Checked} (by_verdict v Err (Ok g)) (Ok f) → (v ≡ Ok tt) × (f ≡ g)
 unfolding by_verdict
-nested_answered Accepted f g e = (refl, cc)
-nested_answered (Refused x) f g e = let z : ◌≡◌ {A = ℕ} 0 1 = cc in absurd (omega arith)
+nested_answered (Ok u) f g e = (refl, cc)
+nested_answered (Err x) f g e = cc
 
 check_accepts : (bases mates : List ℕ) → CheckAccepts bases mates
 unfolding check_verdict
@@ -46,14 +45,14 @@ unfolding check_answer check_verdict
 check_says bases mates f =
     let r = strand_says molecule_side least_molecule greatest_length bases mates in (
       (λ e. let a = nested_answered _ f (fold_of mates) e in (r.0 a.0, rw a.1 (fold_is mates))),
-      (λ w. by_accepted _ _ _ (r.1 w.0) ∙ ap (λ g. checked.Nested g) (sym (fold_only mates f w.1))),
+      (λ w. by_accepted _ _ _ (r.1 w.0) ∙ ap (λ (g : Fold). let a : Checked = Ok g in a) (sym (fold_only mates f w.1))),
     )
 
-check_refuses : (bases mates : List ℕ) → Refuses (check_verdict bases mates) checked.Refused (check_answer bases mates)
+check_refuses : (bases mates : List ℕ) → Refuses (check_verdict bases mates) Err (check_answer bases mates)
 unfolding check_answer
 check_refuses bases mates =
-    refuses_by (check_verdict bases mates) checked.Refused (checked.Nested (fold_of mates)) (λ r. r) checked.Refused (λ r. refl)
-    (λ r e. let z : ◌≡◌ {A = ℕ} 0 1 = cc in omega arith) (check_numbered bases mates) (λ r s e. cc)
+    refuses_by {E = Checked} (check_verdict bases mates) Err (Ok (fold_of mates)) (λ r. r) Err (λ r. refl)
+    (λ r e. cc) (check_numbered bases mates) (λ r s e. cc)
 
 empty_motif_says : EmptyMotifSays
 unfolding key total

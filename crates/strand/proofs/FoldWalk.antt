@@ -6,6 +6,9 @@ use native.Mathlib.Omega.{arith}
 use native.Mathlib.Numerals.{add-one}
 use native.Mathlib.Decide.{dec_lt, dec_le, ℕ_discrete}
 use lib.ListN.{length}
+use lib.Dec.{ltb}
+use mathlib.Core.Bool.{Bool, true, false}
+use mir.Val.{bool_byte}
 use borrow.Author.Tests.{lt-ltb, le-ltb}
 use Rattle.lists.specs.Vocabulary.{nth, select}
 use Rattle.lists.proofs.ListLaws.{select_short}
@@ -14,9 +17,17 @@ use Rattle.strand.specs.Strands.{Nested}
 use Rattle.strand.specs.Folds.{begins, arc_count, depth_of, Chain}
 use Rattle.strand.proofs.FoldLaws.{opened, open_at, open_left, open_none, open_right, open_chain, chain_bound, depth_only}
 
--- 1 exactly where a is below b, else 0: what `depth::below` and `depth::narrow_below` answer.
+-- 1 exactly where a is below b, else 0.
 abbrev pub Below : ℕ → ℕ → ℕ → Type 0
 Below a b r = (a < b → r ≡ 1) × (b ≤ a → r ≡ 0)
+
+-- What `usize::from(a < b)` answers.
+pub below_bit : (a b : ℕ) → Below a b (bool_byte (ltb a b))
+below_bit a b = ((λ h. ap bool_byte (lt-ltb a b h)), (λ h. ap bool_byte (le-ltb a b h)))
+
+pub bit_most : (b : Bool) → bool_byte b ≤ 1
+bit_most true = omega arith
+bit_most false = omega arith
 
 -- ---- the arcs
 

@@ -1,6 +1,7 @@
 -- The walks of the test by levels: the one that counts what differs, and the one that puts the names. How far each has come, one step, and its end.
 use mathlib.Core.Path.{◌≡◌, refl, sym, ap, ◌∙◌}
-use mathlib.Core.Bool.{Bool, true, false}
+use mathlib.Core.Bool.{Bool, true, false, not}
+use mir.Val.{bool_byte}
 use mathlib.Core.List.{List, ◌++◌, append-nil}
 use Prim.Native.Nat.{ℕ, suc, ◌+◌, ◌-◌, ◌*◌, ◌≤◌, ◌<◌}
 use native.Mathlib.Omega.{arith}
@@ -22,11 +23,11 @@ use Rattle.strand.proofs.LevelLaws.{begun_yes, begun_no, ended_yes, ended_no, en
 
 -- ---- what differs
 
--- What `levels::differs` answers is at most 1.
-pub differ_one : (b : Bool) {d : ℕ} → d ≡ choose b 0 1 → d ≤ 1
+-- What `u32::from(a != b)` answers, b saying whether the numbers are the same.
+pub differ_bit : (b : Bool) → bool_byte (not b) ≡ choose b 0 1
 unfolding choose
-differ_one true e = omega (arith, e)
-differ_one false e = omega (arith, e)
+differ_bit true = refl
+differ_bit false = refl
 
 -- k tells whether the first i numbers pass: it has counted those that do not.
 pub record Differing (p : ℕ → Bool) (i k : ℕ) : Type 0 where

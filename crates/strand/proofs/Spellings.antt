@@ -4,11 +4,11 @@ use mathlib.Core.Path.{◌≡◌, refl, ap₂, fun_ext}
 use mathlib.Core.List.{List, [], ◌∷◌}
 use Rattle.letters.specs.Letters.{not_letter, ReadAlike}
 use Rattle.letters.proofs.LetterLaws.{alike_letter}
-use Rattle.refusals.specs.declared.Verdict.{Verdict}
-use Rattle.refusals.specs.Rules.{motif_side, molecule_side, first}
+use Rattle.refusals.specs.declared.Side.{Side}
+use Rattle.refusals.specs.Rules.{Verdict, motif_side, molecule_side, first}
 use Rattle.strand.specs.Strands.{strand_verdict, check_verdict, check_answer, pair_verdict, least_motif, least_molecule, greatest_length}
 
-pub alike_verdict : {a b : List ℕ} → ReadAlike a b → (side least greatest : ℕ) (ms : List ℕ)
+pub alike_verdict : {a b : List ℕ} → ReadAlike a b → (side : Side) (least greatest : ℕ) (ms : List ℕ)
     → strand_verdict side least greatest a ms ≡ strand_verdict side least greatest b ms
 unfolding strand_verdict
 alike_verdict {a} {b} R side least greatest ms =

@@ -6,13 +6,14 @@ use Prim.Native.Nat.{ℕ, ◌≤◌, ◌<◌}
 use native.Mathlib.Omega.{arith}
 use lib.ListN.{length}
 use borrow.Author.Tests.{eq-eqb, ltb-true, ltb-false, eqb-true, lt-leb}
-use Rattle.refusals.specs.declared.Verdict.TheVariants.{Accepted}
+use Rattle.std.specs.Prelude.{Ok}
+use Rattle.refusals.specs.declared.Side.{Side}
 use Rattle.lists.specs.Vocabulary.{nth, some, every, same_list}
 use Rattle.letters.specs.Letters.{not_letter}
 use Rattle.strand.specs.Strands.{Strand, same_strand, mate_outside, not_mutual, crossed_at, is_nested, Nested, Proper, strand_verdict}
 use Rattle.strand.specs.Strands.{check_verdict, pair_verdict, Pair, least_motif, least_molecule, greatest_length}
 use Rattle.refusals.specs.Rules.{unequal_lengths, no_bases, too_long, bad_letter, bad_mate, mates_not_mutual, arcs_cross}
-use Rattle.refusals.specs.Rules.{motif_side, molecule_side, first, Numbered}
+use Rattle.refusals.specs.Rules.{number_of, number_of_side, motif_side, molecule_side, first, Numbered}
 use Rattle.refusals.proofs.Refusing.{Numbering, strand_number, when_numbered, if_numbered, lowest_numbered, none_numbered, first_numbered}
 use Rattle.refusals.proofs.RuleLaws.{first_one, first_pass, rule_pass, rule_at_pass}
 use Rattle.lists.proofs.ListLaws.{and_true, not_not, true_not, every_true, some_no, some_none, lowest_all, same_eq}
@@ -59,8 +60,8 @@ module _ (ms : List ℕ) where
 
 -- ---- an accepted strand
 
-module _ (side least greatest : ℕ) (bs ms : List ℕ) where
-  pub accepted_proper : strand_verdict side least greatest bs ms ≡ Accepted → Proper side least greatest bs ms
+module _ (side : Side) (least greatest : ℕ) (bs ms : List ℕ) where
+  pub accepted_proper : strand_verdict side least greatest bs ms ≡ Ok tt → Proper side least greatest bs ms
   unfolding strand_verdict
   accepted_proper e =
       let a1 = first_pass _ _ e in
@@ -80,7 +81,7 @@ module _ (side least greatest : ℕ) (bs ms : List ℕ) where
             (rule_at_pass arcs_cross side _ _ a7.0));
       }
 
-  pub proper_accepted : Proper side least greatest bs ms → strand_verdict side least greatest bs ms ≡ Accepted
+  pub proper_accepted : Proper side least greatest bs ms → strand_verdict side least greatest bs ms ≡ Ok tt
   proper_accepted P =
       sym (accepted_strand side least greatest bs ms P.same P.enough P.small
       (length bs) (sym (lowest_all (not_letter side bs) (length bs) (none_other side bs P.letters))) (omega arith)
@@ -92,18 +93,18 @@ module _ (side least greatest : ℕ) (bs ms : List ℕ) where
       N = rw P.same P.nested
 
 -- What `depth::fold_of` asks: the mates of a proper strand are nested, by their own number, and not too many.
-pub proper_mates : {side least greatest : ℕ} {bs ms : List ℕ} → greatest ≤ greatest_length → Proper side least greatest bs ms
+pub proper_mates : {side : Side} {least greatest : ℕ} {bs ms : List ℕ} → greatest ≤ greatest_length → Proper side least greatest bs ms
     → Nested (nth ms) (length ms) × (length ms ≤ greatest_length)
 proper_mates h P = (rw P.same P.nested, omega (arith, P.same, P.small))
 
 -- A strand that is proper with one greatest length is proper with a larger one.
-pub proper_within : {side least small large : ℕ} {bs ms : List ℕ} → small ≤ large → Proper side least small bs ms → Proper side least large bs ms
+pub proper_within : {side : Side} {least small large : ℕ} {bs ms : List ℕ} → small ≤ large → Proper side least small bs ms → Proper side least large bs ms
 proper_within h P =
     record { same = P.same; enough = P.enough; small = (let z = P.small in omega arith); letters = P.letters; nested = P.nested }
 
 -- ---- a motif and a molecule
 
-pub pair_proper : (p pm q qm : List ℕ) → pair_verdict p pm q qm ≡ Accepted → Pair p pm q qm
+pub pair_proper : (p pm q qm : List ℕ) → pair_verdict p pm q qm ≡ Ok tt → Pair p pm q qm
 unfolding pair_verdict
 pair_proper p pm q qm e =
     let a = first_pass _ _ e in
@@ -113,7 +114,7 @@ pair_proper p pm q qm e =
       molecule = accepted_proper molecule_side least_molecule greatest_length q qm b.0;
     }
 
-pub proper_pair : (p pm q qm : List ℕ) → Pair p pm q qm → pair_verdict p pm q qm ≡ Accepted
+pub proper_pair : (p pm q qm : List ℕ) → Pair p pm q qm → pair_verdict p pm q qm ≡ Ok tt
 unfolding pair_verdict first
 proper_pair p pm q qm P =
     rw (
@@ -123,7 +124,7 @@ proper_pair p pm q qm P =
 
 -- ---- the motif with no bases
 
-pub empty_passes : (greatest : ℕ) → strand_verdict motif_side least_motif greatest [] [] ≡ Accepted
+pub empty_passes : (greatest : ℕ) → strand_verdict motif_side least_motif greatest [] [] ≡ Ok tt
 unfolding every
 empty_passes greatest =
     proper_accepted motif_side least_motif greatest [] []
@@ -151,26 +152,28 @@ same_strand_eq p q e =
 
 -- ---- the refusals of a strand are those of the table
 
-module _ (side : ℕ) (known : side ≤ molecule_side) where
+module _ (side : Side) (known : number_of_side side ≤ number_of_side molecule_side) where
   -- rules 1 to 3 name no place, rules 4 to 7 the lowest
-  plain : (number : ℕ) → 1 ≤ number → number ≤ arcs_cross → (number ≡ no_bases → side ≡ molecule_side) → Numbered number side 0
-  plain number a b two = strand_number number side 0 a b known two (λ h. refl)
+  plain : (number : ℕ) → 1 ≤ number → number ≤ number_of arcs_cross → (number ≡ number_of no_bases → number_of_side side ≡ number_of_side molecule_side)
+      → Numbered number (number_of_side side) 0
+  plain number a b two = strand_number number (number_of_side side) 0 a b known two (λ h. refl)
 
-  placed : (number : ℕ) → bad_letter ≤ number → number ≤ arcs_cross → (place : ℕ) → Numbered number side place
-  placed number a b place = strand_number number side place (omega arith) b known (λ e. absurd (omega arith)) (λ h. absurd (omega arith))
+  placed : (number : ℕ) → number_of bad_letter ≤ number → number ≤ number_of arcs_cross → (place : ℕ) → Numbered number (number_of_side side) place
+  placed number a b place = strand_number number (number_of_side side) place (omega arith) b known (λ e. absurd (omega arith)) (λ h. absurd (omega arith))
 
   -- rule 2 applies where a strand must have a base, and that is a molecule
-  pub strand_numbered : (least greatest : ℕ) (bases mates : List ℕ) → (0 < least → side ≡ molecule_side)
+  pub strand_numbered : (least greatest : ℕ) (bases mates : List ℕ) → (0 < least → number_of_side side ≡ number_of_side molecule_side)
       → Numbering (strand_verdict side least greatest bases mates)
   unfolding strand_verdict
   strand_numbered least greatest bases mates only =
-      first_numbered _ _ (if_numbered 1 side (plain 1 (omega arith) (omega arith) (λ e. absurd (omega arith))) _)
-      (first_numbered _ _ (when_numbered 2 side _ (λ t. plain 2 (omega arith) (omega arith) (λ e. only (omega (arith, ltb-true (length bases) least t)))))
-      (first_numbered _ _ (if_numbered 3 side (plain 3 (omega arith) (omega arith) (λ e. absurd (omega arith))) _)
-      (first_numbered _ _ (lowest_numbered 4 side (placed 4 (omega arith) (omega arith)) _ _)
-      (first_numbered _ _ (lowest_numbered 5 side (placed 5 (omega arith) (omega arith)) _ _)
-      (first_numbered _ _ (lowest_numbered 6 side (placed 6 (omega arith) (omega arith)) _ _)
-      (first_numbered _ _ (lowest_numbered 7 side (placed 7 (omega arith) (omega arith)) _ _) none_numbered))))))
+      first_numbered _ _ (if_numbered unequal_lengths side (plain 1 (omega arith) (omega arith) (λ e. absurd (omega arith))) _)
+      (first_numbered _ _ (when_numbered no_bases side _
+      (λ t. plain 2 (omega arith) (omega arith) (λ e. only (omega (arith, ltb-true (length bases) least t)))))
+      (first_numbered _ _ (if_numbered too_long side (plain 3 (omega arith) (omega arith) (λ e. absurd (omega arith))) _)
+      (first_numbered _ _ (lowest_numbered bad_letter side (placed 4 (omega arith) (omega arith)) _ _)
+      (first_numbered _ _ (lowest_numbered bad_mate side (placed 5 (omega arith) (omega arith)) _ _)
+      (first_numbered _ _ (lowest_numbered mates_not_mutual side (placed 6 (omega arith) (omega arith)) _ _)
+      (first_numbered _ _ (lowest_numbered arcs_cross side (placed 7 (omega arith) (omega arith)) _ _) none_numbered))))))
 
 pub check_numbered : (bases mates : List ℕ) → Numbering (check_verdict bases mates)
 unfolding check_verdict

@@ -1,11 +1,10 @@
 -- What is claimed of these definitions, for all lists; `claims`, in proofs/Claims, proves it.
-use Rattle.std.specs.Prelude.{ℕ, ◌≤◌, ◌<◌, ◌≡◌, Bool, true, false, ◌↔◌, List, [], length}
-use Rattle.refusals.specs.declared.Verdict.TheVariants.{Accepted}
+use Rattle.std.specs.Prelude.{ℕ, ◌≤◌, ◌<◌, ◌≡◌, Bool, true, false, ◌↔◌, List, [], length, Ok, Err}
 use Rattle.lists.specs.Vocabulary.{nth, lowest}
+use Rattle.refusals.specs.declared.Side.{Side}
 use Rattle.refusals.specs.Rules.{motif_side, Refuses}
 use Rattle.letters.specs.Letters.{ReadAlike}
 use Rattle.strand.specs.declared.Fold.{Fold}
-use Rattle.strand.specs.declared.Checked.TheVariants as checked
 use Rattle.strand.specs.Folds.{arc_count, depth_of, fold_of, IsArcCount, IsDepth, IsFold}
 use Rattle.strand.specs.Strands.{is_nested, Nested, Proper, strand_verdict, check_verdict, check_answer, CheckAccepts, CheckSays}
 use Rattle.strand.specs.Strands.{Strand, same_strand, empty_motif, least_motif, pair_verdict, key}
@@ -15,9 +14,9 @@ abbrev pub NestedSays : List ℕ → Type 0
 NestedSays mates = (is_nested mates ≡ true) ↔ Nested (nth mates) (length mates)
 
 -- Rules 1 to 7 let a strand pass exactly when it is proper: a nested strand of letters whose length lies within the limits.
-abbrev pub StrandSays : ℕ → ℕ → ℕ → List ℕ → List ℕ → Type 0
+abbrev pub StrandSays : Side → ℕ → ℕ → List ℕ → List ℕ → Type 0
 StrandSays side least greatest bases mates =
-    (strand_verdict side least greatest bases mates ≡ Accepted) ↔ Proper side least greatest bases mates
+    (strand_verdict side least greatest bases mates ≡ Ok tt) ↔ Proper side least greatest bases mates
 
 -- The place that a rule names: the test passes there, and nowhere below. It is n where the test passes nowhere.
 pub record LowestSays (n : ℕ) (test : ℕ → Bool) : Type 0 where
@@ -27,14 +26,14 @@ pub record LowestSays (n : ℕ) (test : ℕ → Bool) : Type 0 where
 
 -- 02, (iii), of the motif with no bases: rules 1 to 7 let it pass; so a direct call on it refuses first what check refuses of the molecule. Its key is 0.
 pub record EmptyMotifSays : Type 0 where
-  pub passes : (greatest : ℕ) → strand_verdict motif_side least_motif greatest [] [] ≡ Accepted
+  pub passes : (greatest : ℕ) → strand_verdict motif_side least_motif greatest [] [] ≡ Ok tt
   pub pair : (q qm : List ℕ) → pair_verdict [] [] q qm ≡ check_verdict q qm
   pub key_0 : key empty_motif ≡ 0
 
 -- 02, (vi): rules 1 to 7 take two spellings of the same bases alike: both are accepted, or both are refused with the same number, side and place.
 abbrev pub RespelledVerdict : List ℕ → List ℕ → List ℕ → Type 0
 RespelledVerdict a b mates =
-    ReadAlike a b → (side least greatest : ℕ) → strand_verdict side least greatest a mates ≡ strand_verdict side least greatest b mates
+    ReadAlike a b → (side : Side) (least greatest : ℕ) → strand_verdict side least greatest a mates ≡ strand_verdict side least greatest b mates
 
 -- 02, (i), for all mates, nested or not: `arc_count` and `depth_of` are the number of arcs and the depth as the propositions say them, and no other fold is;
 -- the depth is "0 without arcs".
@@ -47,10 +46,10 @@ pub record FoldSays (mates : List ℕ) : Type 0 where
 -- All the claims.
 pub record Claims : Type 0 where
   pub nested_says : (mates : List ℕ) → NestedSays mates
-  pub strand_says : (side least greatest : ℕ) (bases mates : List ℕ) → StrandSays side least greatest bases mates
+  pub strand_says : (side : Side) (least greatest : ℕ) (bases mates : List ℕ) → StrandSays side least greatest bases mates
   pub check_accepts : (bases mates : List ℕ) → CheckAccepts bases mates
   pub check_says : (bases mates : List ℕ) → CheckSays bases mates (check_answer bases mates)
-  pub check_refuses : (bases mates : List ℕ) → Refuses (check_verdict bases mates) checked.Refused (check_answer bases mates)
+  pub check_refuses : (bases mates : List ℕ) → Refuses (check_verdict bases mates) Err (check_answer bases mates)
   pub empty_motif_says : EmptyMotifSays
   pub fold_says : (mates : List ℕ) → FoldSays mates
   -- 02, (vi): "the shelf still compares motifs byte by byte": two motifs are the same for it exactly when all their bytes and mates are

@@ -1,14 +1,12 @@
 -- Strands: what molecules and motifs are made of, when one is nested and when proper, what it is refused for; the key of a motif.
-use Rattle.std.specs.Prelude.{ℕ, ◌+◌, ◌≤◌, ◌<◌, ◌≡◌, ◌↔◌, Bool, true, not, ◌&&◌, List, [], ◌∷◌, ltb, leb, eqb, length}
+use Rattle.std.specs.Prelude.{ℕ, ◌+◌, ◌≤◌, ◌<◌, ◌≡◌, ◌↔◌, Bool, true, not, ◌&&◌, List, [], ◌∷◌, ltb, leb, eqb, length, Result, Ok, Err}
 use Rattle.lists.specs.Vocabulary.{nth, some, all, same_list, total}
 use Rattle.letters.specs.Letters.{is_letter, not_letter, ReadAlike}
-use Rattle.refusals.specs.declared.Verdict.{Verdict}
-use Rattle.refusals.specs.declared.Verdict.TheVariants.{Accepted}
+use Rattle.refusals.specs.declared.Side.{Side}
+use Rattle.refusals.specs.declared.Refusal.{Refusal}
 use Rattle.refusals.specs.Rules.{motif_side, molecule_side, unequal_lengths, no_bases, too_long, bad_letter, bad_mate, mates_not_mutual, arcs_cross, refuse_if}
-use Rattle.refusals.specs.Rules.{refuse_at_lowest, first, by_verdict}
+use Rattle.refusals.specs.Rules.{Verdict, refuse_at_lowest, first, by_verdict}
 use Rattle.strand.specs.declared.Fold.{Fold}
-use Rattle.strand.specs.declared.Checked.{Checked}
-use Rattle.strand.specs.declared.Checked.TheVariants as checked
 use Rattle.strand.specs.Folds.{fold_of, IsFold}
 
 -- A molecule or a motif: bases as bytes, and for each base its mate, which is its own position where the base has no bond.
@@ -77,7 +75,7 @@ pub record Nested (mate : ℕ → ℕ) (n : ℕ) : Type 0 where
   pub apart : Apart mate n
 
 -- A nested strand of letters whose length lies within the limits.
-pub record Proper (side least greatest : ℕ) (bases mates : List ℕ) : Type 0 where
+pub record Proper (side : Side) (least greatest : ℕ) (bases mates : List ℕ) : Type 0 where
   pub same : length mates ≡ length bases
   pub enough : least ≤ length bases
   pub small : length bases ≤ greatest
@@ -85,7 +83,7 @@ pub record Proper (side least greatest : ℕ) (bases mates : List ℕ) : Type 0 
   pub nested : Nested (nth mates) (length bases)
 
 -- Rules 1 to 7 for a strand of one side whose length has limits.
-unfoldable pub strand_verdict : ℕ → ℕ → ℕ → List ℕ → List ℕ → Verdict
+unfoldable pub strand_verdict : Side → ℕ → ℕ → List ℕ → List ℕ → Verdict
 strand_verdict side least greatest bases mates =
     first
     (refuse_if unequal_lengths side (not (eqb (length mates) (length bases)))
@@ -114,15 +112,19 @@ check_verdict bases mates = strand_verdict molecule_side least_molecule greatest
 
 -- It is accepted exactly where no rule applies. 01, Check: it "accepts a nested molecule", of 1 to 4,096 letters, and nothing else.
 abbrev pub CheckAccepts : List ℕ → List ℕ → Type 0
-CheckAccepts bases mates = (check_verdict bases mates ≡ Accepted) ↔ Proper molecule_side least_molecule greatest_length bases mates
+CheckAccepts bases mates = (check_verdict bases mates ≡ Ok tt) ↔ Proper molecule_side least_molecule greatest_length bases mates
+
+-- An answer of the check: a refusal, or the fold of the molecule.
+abbrev pub Checked : Type 0
+Checked = Result Fold Refusal
 
 -- Its answer. 02, (i): the check of a molecule "also answers the number of arcs and the depth".
 unfoldable pub check_answer : List ℕ → List ℕ → Checked
-check_answer bases mates = by_verdict (check_verdict bases mates) checked.Refused (checked.Nested (fold_of mates))
+check_answer bases mates = by_verdict (check_verdict bases mates) Err (Ok (fold_of mates))
 
 -- The answer r is that the molecule is nested, with f, exactly when it is a nested one of 1 to 4,096 letters and f is its number of arcs and its depth.
 abbrev pub CheckSays : List ℕ → List ℕ → Checked → Type 0
-CheckSays bases mates r = (f : Fold) → (r ≡ checked.Nested f) ↔ (Proper molecule_side least_molecule greatest_length bases mates × IsFold mates f)
+CheckSays bases mates r = (f : Fold) → (r ≡ Ok f) ↔ (Proper molecule_side least_molecule greatest_length bases mates × IsFold mates f)
 
 -- What the direct calls on a motif and a molecule refuse first: the motif, then the molecule.
 unfoldable pub pair_verdict : List ℕ → List ℕ → List ℕ → List ℕ → Verdict

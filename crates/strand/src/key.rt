@@ -8,10 +8,8 @@ pub fn key(bases: &[u8], mates: &[u16]) -> usize
     ensures { result ≡ key (strand_of bases.now mates.now) }
 {
     let mut sum: usize = 0;
-    let mut i: usize = 0;
-    while i < bases.len() {
-        sum += bases[i] as usize + mates[i] as usize;
-        i += 1;
+    for (i, base) in bases.iter().enumerate() {
+        sum += *base as usize + mates[i] as usize;
     }
     sum
 }

@@ -9,7 +9,7 @@ mod nesting;
 ghost use Rattle.std.specs.Prelude.{◌≡◌};
 ghost use Rattle.strand.specs.Strands.{strand_verdict, check_answer, pair_verdict};
 
-use refusals::{Refusal, Verdict, numbers, refuse};
+use refusals::{Refusal, Rule, Side, Verdict, refuse};
 
 // The least lengths of a motif and of a molecule, and the greatest length in the direct calls (specs/Strands has the same names).
 pub const LEAST_MOTIF: usize = 0;
@@ -20,75 +20,71 @@ pub const GREATEST_LENGTH: usize = 4096;
 
 // The fold of a strand: the number of its arcs, and its depth, which is the largest number of arcs of which each lies inside the one before, and 0 without
 // arcs.
-#[derive(Drop)]
+#[derive(Clone, Copy, Debug, PartialEq, Eq)]
 pub struct Fold {
     pub arcs: usize,
     pub depth: usize,
 }
 
-// The answer of check: the fold of the molecule.
-#[derive(Drop)]
-pub enum Checked {
-    Nested(Fold),
-    Refused(Refusal),
-}
+// The answer of check: the fold of the molecule, which is nested, or a refusal.
+pub type Checked = Result<Fold, Refusal>;
 
 // The check of a strand of one side, its length from least to greatest. The place of a crossing, which takes quadratic time, is looked for
 // only where there is one.
-pub fn check_strand(bases: &[u8], mates: &[u16], side: u8, least: usize, greatest: usize) -> Verdict
+pub fn check_strand(
+    bases: &[u8],
+    mates: &[u16],
+    side: Side,
+    least: usize,
+    greatest: usize,
+) -> Verdict
     ensures { result ≡ strand_verdict side least greatest bases.now mates.now }
 {
     if mates.len() != bases.len() {
-        return refuse(numbers::UNEQUAL_LENGTHS, side, 0);
+        return refuse(Rule::UnequalLengths, side, 0);
     }
     if bases.len() < least {
-        return refuse(numbers::NO_BASES, side, 0);
+        return refuse(Rule::NoBases, side, 0);
     }
     if greatest < bases.len() {
-        return refuse(numbers::TOO_LONG, side, 0);
+        return refuse(Rule::TooLong, side, 0);
     }
     let letter = letters::lowest_non_letter(side, bases);
     if letter < bases.len() {
-        return refuse(numbers::BAD_LETTER, side, letter);
+        return refuse(Rule::BadLetter, side, letter);
     }
     let outside = nesting::lowest_outside(mates);
     if outside < mates.len() {
-        return refuse(numbers::BAD_MATE, side, outside);
+        return refuse(Rule::BadMate, side, outside);
     }
     let single = nesting::lowest_not_mutual(mates);
     if single < mates.len() {
-        return refuse(numbers::MATES_NOT_MUTUAL, side, single);
+        return refuse(Rule::MatesNotMutual, side, single);
     }
     if nesting::arcs_close(mates) {
-        return Verdict::Accepted;
+        return Ok(());
     }
-    refuse(numbers::ARCS_CROSS, side, nesting::lowest_crossed(mates))
+    refuse(Rule::ArcsCross, side, nesting::lowest_crossed(mates))
 }
 
 // The call check: whether a molecule is accepted, and its fold.
 pub fn check(bases: &[u8], mates: &[u16]) -> Checked
     ensures { result ≡ check_answer bases.now mates.now }
 {
-    let verdict = check_strand(
+    check_strand(
         bases,
         mates,
-        numbers::MOLECULE,
+        Side::Molecule,
         LEAST_MOLECULE,
         GREATEST_LENGTH,
-    );
-    if let Verdict::Refused(x) = verdict {
-        return Checked::Refused(x);
-    }
-    Checked::Nested(depth::fold_of(mates))
+    )?;
+    Ok(depth::fold_of(mates))
 }
 
 // What length, show, window and verify refuse first: the motif, then the molecule.
 pub fn check_pair(p: &[u8], pm: &[u16], q: &[u8], qm: &[u16]) -> Verdict
     ensures { result ≡ pair_verdict p.now pm.now q.now qm.now }
 {
-    let motif = check_strand(p, pm, numbers::MOTIF, LEAST_MOTIF, GREATEST_LENGTH);
-    if let Verdict::Refused(x) = motif {
-        return Verdict::Refused(x);
-    }
-    check_strand(q, qm, numbers::MOLECULE, LEAST_MOLECULE, GREATEST_LENGTH)
+    check_strand(p, pm, Side::Motif, LEAST_MOTIF, GREATEST_LENGTH)?;
+    check_strand(q, qm, Side::Molecule, LEAST_MOLECULE, GREATEST_LENGTH)
 }

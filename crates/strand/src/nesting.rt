@@ -1,26 +1,17 @@
 // Mates: in range, mutual, and no two arcs crossing.
-ghost use Rattle.std.specs.Prelude.{◌≡◌, not, ℕ, ◌≤◌, ◌<◌, max, length};
+ghost use Rattle.std.specs.Prelude.{◌≡◌, not, ℕ, ◌≤◌, ◌<◌, length};
 ghost use Rattle.lists.specs.Vocabulary.{nth, some, lowest};
 ghost use Rattle.lists.proofs.ListLaws.{Tells};
 ghost use Rattle.strand.specs.Strands.{mate_outside, not_mutual, crosses, crossed_at, Inside, Paired};
 ghost use Rattle.strand.specs.Nesting.{Closes};
-
-// The larger of two mates.
-fn larger(a: u16, b: u16) -> u16
-    ensures { result ≡ max a b }
-{
-    if a < b { b } else { a }
-}
 
 // The largest mate, and 0 without mates; its contract says only that no mate is above it. No branch depends on a mate.
 fn largest_mate(mates: &[u16]) -> u16
     ensures { (i : ℕ) → i < length mates.now → nth mates.now i ≤ result }
 {
     let mut largest: u16 = 0;
-    let mut i = 0;
-    while i < mates.len() {
-        largest = larger(largest, mates[i]);
-        i += 1;
+    for mate in mates {
+        largest = largest.max(*mate);
     }
     largest
 }
@@ -32,14 +23,10 @@ pub(crate) fn lowest_outside(mates: &[u16]) -> usize
     if (largest_mate(mates) as usize) < mates.len() {
         return mates.len();
     }
-    let mut i = 0;
-    while i < mates.len() {
-        if mates.len() <= mates[i] as usize {
-            return i;
-        }
-        i += 1;
-    }
-    i
+    mates
+        .iter()
+        .position(|mate| mates.len() <= *mate as usize)
+        .unwrap_or(mates.len())
 }
 
 // The lowest position whose mate's mate is another position, or the length. Callers have found the mates in range.
@@ -47,15 +34,12 @@ pub(crate) fn lowest_not_mutual(mates: &[u16]) -> usize
     requires { Inside (nth mates.now) (length mates.now) }
     ensures { result ≡ lowest (length mates.now) (not_mutual mates.now) }
 {
-    let mut i = 0;
-    while i < mates.len() {
-        let j = mates[i] as usize;
-        if mates[j] as usize != i {
+    for (i, mate) in mates.iter().enumerate() {
+        if mates[*mate as usize] as usize != i {
             return i;
         }
-        i += 1;
     }
-    i
+    mates.len()
 }
 
 // Whether the arc that begins at i, if any, holds the mate of each base inside it, where the arcs that begin later do. The walk jumps over
@@ -71,10 +55,7 @@ fn closes(mates: &[u16], i: usize) -> bool
     let mut k = i + 1;
     while k < end {
         let e = mates[k] as usize;
-        if e < k {
-            return false;
-        }
-        if end <= e {
+        if e < k || end <= e {
             return false;
         }
         k = e + 1;
@@ -88,9 +69,7 @@ pub(crate) fn arcs_close(mates: &[u16]) -> bool
     requires paired { Paired (nth mates.now) (length mates.now) }
     ensures { result ≡ not (some (length mates.now) (crossed_at mates.now)) }
 {
-    let mut i = mates.len();
-    while 0 < i {
-        i -= 1;
+    for i in (0..mates.len()).rev() {
         if !closes(mates, i) {
             return false;
         }
@@ -102,13 +81,7 @@ pub(crate) fn arcs_close(mates: &[u16]) -> bool
 fn cross(a: usize, b: usize, i: usize, j: usize) -> bool
     ensures { result ≡ crosses a b i j }
 {
-    if i <= a {
-        return false;
-    }
-    if b <= i {
-        return false;
-    }
-    b < j
+    a < i && i < b && b < j
 }
 
 // Whether an arc that begins below i crosses the arc that begins at i.
@@ -117,12 +90,10 @@ fn crossed(mates: &[u16], i: usize) -> bool
     ensures { result ≡ crossed_at mates.now i }
 {
     let j = mates[i] as usize;
-    let mut a = 0;
-    while a < i {
+    for a in 0..i {
         if cross(a, mates[a] as usize, i, j) {
             return true;
         }
-        a += 1;
     }
     false
 }
@@ -131,12 +102,10 @@ fn crossed(mates: &[u16], i: usize) -> bool
 pub(crate) fn lowest_crossed(mates: &[u16]) -> usize
     ensures { result ≡ lowest (length mates.now) (crossed_at mates.now) }
 {
-    let mut i = 0;
-    while i < mates.len() {
+    for i in 0..mates.len() {
         if crossed(mates, i) {
             return i;
         }
-        i += 1;
     }
-    i
+    mates.len()
 }

@@ -5,134 +5,142 @@
 // Long strands stay from line to line: `f a b` gives b bases mates of form a, `b a v` and `m a v` set a base and a mate, `c a b` checks the
 // first a bases with the first b mates, and `x` and `y` check all of them as the motif and as the molecule of a pair, `z` as the molecule for the
 // motif that has no bases.
-use super::{make, tell};
+use super::make::Form;
+use super::{ask, make};
 use std::io;
 use std::io::Read;
-use testing::input;
-use testing::input::{digit_at, digits, filled, number};
-use testing::output::say;
-use testing::slices::{first, part, set_byte, set_entry};
+use testing::answer::{Fold, Refusal};
+use testing::input::{digit_at, field, number};
+use testing::slices::{byte, entry, first, set};
+use testing::strands;
+use testing::strands::Strand;
 
-// The answers for a small strand.
-fn judge<P: Print>(
-    out: &P,
-    kind: u8,
-    bases: &[u8],
-    mates: &[u16],
-    least: usize,
-    greatest: usize,
-) -> io::Result<()> {
-    if kind == b's' {
-        return tell::both(out, bases, mates);
+// The bytes of a line, with its end and without.
+const LINE: usize = 48;
+
+const TEXT: usize = 47;
+
+// How many lines are read; behind them the first come again.
+const MOST_LINES: usize = 65536;
+
+// What is asked of a strand.
+#[derive(Clone, Copy, Debug, PartialEq, Eq)]
+enum Question {
+    Alone,
+    Limited(usize, usize),
+    Motif,
+    Molecule,
+    MoleculeForNoBases,
+    Both,
+}
+
+#[derive(Clone, Copy, Debug, PartialEq, Eq)]
+enum Command {
+    Small(Question),
+    Lay(Form, usize),
+    SetBase(usize, u8),
+    SetMate(usize, u16),
+    CheckFirst(usize, usize),
+    Long(Question),
+}
+
+impl Command {
+    // What a line asks for, if anything.
+    fn of(line: &[u8]) -> Option<Command> {
+        let a = number(line, 2..7);
+        let b = number(line, 8..13);
+        let limits = Question::Limited(
+            usize::from(digit_at(line, 24)),
+            usize::from(digit_at(line, 25)),
+        );
+        match line.first()? {
+            b's' => Some(Command::Small(Question::Alone)),
+            b'l' => Some(Command::Small(limits)),
+            b'p' => Some(Command::Small(Question::Motif)),
+            b'q' => Some(Command::Small(Question::Molecule)),
+            b'e' => Some(Command::Small(Question::MoleculeForNoBases)),
+            b'w' => Some(Command::Small(Question::Both)),
+            b'f' => Some(Command::Lay(Form::of(a), b)),
+            b'b' => Some(Command::SetBase(a, byte(b))),
+            b'm' => Some(Command::SetMate(a, entry(b))),
+            b'c' => Some(Command::CheckFirst(a, b)),
+            b'x' => Some(Command::Long(Question::Motif)),
+            b'y' => Some(Command::Long(Question::Molecule)),
+            b'z' => Some(Command::Long(Question::MoleculeForNoBases)),
+            _ => None,
+        }
     }
-    if kind == b'l' {
-        return tell::limited(out, bases, mates, least, greatest);
+}
+
+fn say_verdict<P: Print>(out: &P, told: Result<(), Refusal>) -> io::Result<()> {
+    match told {
+        Ok(()) => print!(out; " accepted"),
+        Err(refusal) => print!(out; " {refusal}"),
     }
-    if kind == b'p' {
-        return tell::pair(out, bases, mates, b"A", &[0]);
+}
+
+fn say_checked<P: Print>(out: &P, told: Result<Fold, Refusal>) -> io::Result<()> {
+    match told {
+        Ok(fold) => print!(out; " accepted {fold}"),
+        Err(refusal) => print!(out; " {refusal}"),
     }
-    if kind == b'q' {
-        return tell::pair(out, b"A", &[0], bases, mates);
-    }
-    if kind == b'e' {
-        return tell::pair(out, b"", &[], bases, mates);
-    }
-    if kind == b'w' {
-        return tell::pair(out, bases, mates, bases, mates);
+}
+
+// A strand as a molecule and as a motif.
+fn alone<P: Print>(out: &P, bases: &[u8], mates: &[u16]) -> io::Result<()> {
+    print!(out; " molecule")?;
+    say_checked(out, ask::check(bases, mates))?;
+    print!(out; ", motif")?;
+    say_verdict(out, ask::check_motif(bases, mates, 0, 120))
+}
+
+fn answer<P: Print>(out: &P, question: Question, s: &Strand) -> io::Result<()> {
+    let told = match question {
+        Question::Alone => return alone(out, &s.bases, &s.mates),
+        Question::Limited(least, greatest) => {
+            ask::check_motif(&s.bases, &s.mates, least, greatest)
+        }
+        Question::Motif => ask::check_pair(&s.bases, &s.mates, b"A", &[0]),
+        Question::Molecule => ask::check_pair(b"A", &[0], &s.bases, &s.mates),
+        Question::MoleculeForNoBases => ask::check_pair(b"", &[], &s.bases, &s.mates),
+        Question::Both => ask::check_pair(&s.bases, &s.mates, &s.bases, &s.mates),
+    };
+    say_verdict(out, told)
+}
+
+// Does what a line asks for; `long` is the long strand.
+fn act<R: Print + AllocGlobal>(rt: &R, line: &[u8], long: &mut Strand) -> io::Result<()> {
+    match Command::of(line) {
+        Some(Command::Small(question)) => {
+            answer(
+                rt,
+                question,
+                &strands::written(rt.alloc(), field(line, 2..23))?,
+            )?;
+        }
+        Some(Command::Lay(form, n)) => make::lay(form, n, &mut long.mates),
+        Some(Command::SetBase(i, base)) => set(&mut long.bases, i, base),
+        Some(Command::SetMate(i, mate)) => set(&mut long.mates, i, mate),
+        Some(Command::CheckFirst(a, b)) => {
+            alone(rt, first(&long.bases, a), first(&long.mates, b))?;
+        }
+        Some(Command::Long(question)) => answer(rt, question, long)?,
+        None => {}
     }
     Ok(())
-}
-
-fn small<P: Print>(out: &P, kind: u8, line: &[u8]) -> io::Result<()> {
-    let mut mates = [0u16; 10];
-    digits(line, 13, &mut mates);
-    judge(
-        out,
-        kind,
-        part(line, 2, filled(line, 2, 10)),
-        first(&mates, filled(line, 13, 10)),
-        digit_at(line, 24),
-        digit_at(line, 25),
-    )
-}
-
-fn long<P: Print>(
-    out: &P,
-    kind: u8,
-    a: usize,
-    b: usize,
-    bases: &mut [u8],
-    mates: &mut [u16],
-) -> io::Result<()> {
-    if kind == b'f' {
-        make::lay(a, b, mates);
-    }
-    if kind == b'b' {
-        set_byte(bases, a, b);
-    }
-    if kind == b'm' {
-        set_entry(mates, a, b);
-    }
-    if kind == b'c' {
-        return tell::both(out, part(bases, 0, a), first(mates, b));
-    }
-    if kind == b'x' {
-        return tell::pair(out, bases, mates, b"A", &[0]);
-    }
-    if kind == b'y' {
-        return tell::pair(out, b"A", &[0], bases, mates);
-    }
-    if kind == b'z' {
-        return tell::pair(out, b"", &[], bases, mates);
-    }
-    Ok(())
-}
-
-fn is_small(kind: u8) -> bool {
-    match kind {
-        b's' | b'l' | b'p' | b'q' | b'e' | b'w' => true,
-        _ => false,
-    }
-}
-
-fn case<P: Print>(out: &P, line: &[u8], bases: &mut [u8], mates: &mut [u16]) -> io::Result<()> {
-    let kind = input::kind(line);
-    if is_small(kind) {
-        return small(out, kind, line);
-    }
-    long(
-        out,
-        kind,
-        number(line, 2, 5),
-        number(line, 8, 5),
-        bases,
-        mates,
-    )
-}
-
-fn told<P: Print>(out: &P, line: &[u8], bases: &mut [u8], mates: &mut [u16]) -> io::Result<()> {
-    say(out, line)?;
-    case(out, line, bases, mates)?;
-    say(out, b"\n")
-}
-
-fn cases<P: Print>(out: &P, text: &[u8], bases: &mut [u8], mates: &mut [u16]) -> io::Result<()> {
-    let mut i = 0;
-    while i < text.len() / 48 {
-        told(out, part(text, i % 65536 * 48, 47), bases, mates)?;
-        i += 1;
-    }
-    Ok(())
-}
-
-fn over<P: Print>(out: &P, text: &[u8]) -> io::Result<()> {
-    let mut bases = [65u8; 4097];
-    let mut mates = [0u16; 4097];
-    cases(out, text, &mut bases, &mut mates)
 }
 
 pub fn run<R: Input + Print + AllocGlobal>(rt: &R) -> io::Result<()> {
-    let mut text = Vec::new(rt.alloc());
+    let alloc = rt.alloc();
+    let mut long = Strand::equal(alloc, 4097)?;
+    let mut text = Vec::new(alloc);
     rt.reader().read_to_end(&mut text)?;
-    over(rt, &text)
+    for i in 0..text.len() / LINE {
+        let at = i % MOST_LINES * LINE;
+        let line = field(&text, at..at + TEXT);
+        rt.write_all(line)?;
+        act(rt, line, &mut long)?;
+        println!(rt)?;
+    }
+    Ok(())
 }

@@ -5,11 +5,11 @@
 
 use std::io;
 
+mod ask;
 mod cases;
 mod make;
 mod naive;
 mod random;
-mod tell;
 
 fn main(rt: HostRuntime) -> io::Result<()> {
     cases::run(&rt)?;

@@ -1,45 +1,39 @@
-// Answers of calls as numbers, for lines of the input and for counts. One number alone (0 where there is nothing to tell) stays below 100000; a
-// refusal of a row from 1 to 99 has six or seven digits, two numbers have nine. What is no answer has eleven: no field of a line is so wide.
+// Answers of calls, by the numbers of the table: what a program expects and what it got are compared as these.
+use std::fmt;
 
-// A refusal's row (two digits), side (one) and place (four).
-pub fn refused(row: usize, side: usize, place: usize) -> usize {
-    row % 100 * 100000 + side % 10 * 10000 + place % 10000
+// A refusal: its row, its side (0 motif, 1 molecule, 2 neither) and its place.
+#[derive(Clone, Copy, Debug, PartialEq, Eq)]
+pub struct Refusal {
+    pub row: usize,
+    pub side: usize,
+    pub place: usize,
 }
 
-pub fn is_refused(a: usize) -> bool {
-    if a < 100000 {
-        return false;
+impl From<refusals::Refusal> for Refusal {
+    fn from(r: refusals::Refusal) -> Refusal {
+        Refusal {
+            row: usize::from(r.rule.number()),
+            side: usize::from(r.side.number()),
+            place: r.place,
+        }
     }
-    a < 10000000
 }
 
-pub fn row(a: usize) -> usize {
-    a / 100000
+impl fmt::Display for Refusal {
+    fn fmt<W: fmt::Write>(&self, f: &mut fmt::Formatter<W>) -> fmt::Result {
+        write!(f, "refused {} {} {}", self.row, self.side, self.place)
+    }
 }
 
-pub fn side(a: usize) -> usize {
-    a / 10000 % 10
+// What a call says of the molecule that it accepts.
+#[derive(Clone, Copy, Debug, PartialEq, Eq)]
+pub struct Fold {
+    pub arcs: usize,
+    pub depth: usize,
 }
 
-pub fn place(a: usize) -> usize {
-    a % 10000
+impl fmt::Display for Fold {
+    fn fmt<W: fmt::Write>(&self, f: &mut fmt::Formatter<W>) -> fmt::Result {
+        write!(f, "with arcs {} and depth {}", self.arcs, self.depth)
+    }
 }
-
-// Two numbers of four digits, and the first and the second of them.
-pub fn two(a: usize, b: usize) -> usize {
-    100000000 + a % 10000 * 10000 + b % 10000
-}
-
-pub fn first_of(a: usize) -> usize {
-    a / 10000 % 10000
-}
-
-pub fn second_of(a: usize) -> usize {
-    a % 10000
-}
-
-// An answer that is wrong, whatever it was.
-pub const WRONG: usize = 10000000000;
-
-// Nothing was asked.
-pub const NOTHING: usize = 10000000001;

@@ -1,89 +1,53 @@
 // The longest closed prefix that embeds, by trying every list of rising places.
-use super::slices::{byte_at, entry_at, set_entry};
+use super::slices::{entry, position_at, set};
+use super::strands::Strand;
 
 // No arc leaves the first k positions.
-fn closed(pm: &[u16], k: usize) -> bool {
-    let mut y = 0;
-    while y < k {
-        if k <= entry_at(pm, y) {
-            return false;
-        }
-        y += 1;
-    }
-    true
+fn closed(mates: &[u16], k: usize) -> bool {
+    (0..k).all(|y| position_at(mates, y).is_some_and(|mate| mate < k))
 }
 
 // A position whose mate is a may go to one whose mate is b, after the places of the first i positions: an arc to one of them exactly where
 // the places are an arc.
-fn arcs_fit(a: usize, b: usize, at: &[u16], i: usize) -> bool {
-    let mut x = 0;
-    while x < i {
-        if (a == x) != (b == entry_at(at, x)) {
-            return false;
-        }
-        x += 1;
-    }
-    true
+fn arcs_fit(a: Option<usize>, b: Option<usize>, places: &[u16], i: usize) -> bool {
+    (0..i).all(|x| (a == Some(x)) == (b == position_at(places, x)))
 }
 
-fn is_t_or_u(b: usize) -> bool {
-    match b {
-        84 | 85 => true,
+fn is_t_or_u(base: u8) -> bool {
+    matches!(base, b'T' | b'U')
+}
+
+// 02, (vi): "the same byte or both are among T and U".
+pub fn bases_match(a: u8, b: u8) -> bool {
+    a == b || is_t_or_u(a) && is_t_or_u(b)
+}
+
+// Position i may go to v after the places of those before it: a base that matches, and arcs that fit.
+fn fits(motif: &Strand, molecule: &Strand, places: &[u16], i: usize, v: usize) -> bool {
+    match (motif.bases.get(i), molecule.bases.get(v)) {
+        (Some(a), Some(b)) => {
+            bases_match(*a, *b)
+                && arcs_fit(
+                    position_at(&motif.mates, i),
+                    position_at(&molecule.mates, v),
+                    places,
+                    i,
+                )
+        }
         _ => false,
     }
 }
 
-// 02, (vi): "the same byte or both are among T and U".
-pub fn bases_match(a: usize, b: usize) -> bool {
-    if a == b {
-        return true;
-    }
-    if is_t_or_u(a) {
-        return is_t_or_u(b);
-    }
-    false
-}
-
-// Position i may go to v after the places of those before it: a base that matches, and arcs that fit.
-fn fits(p: &[u8], pm: &[u16], q: &[u8], qm: &[u16], at: &[u16], i: usize, v: usize) -> bool {
-    if !bases_match(byte_at(p, i), byte_at(q, v)) {
-        return false;
-    }
-    arcs_fit(entry_at(pm, i), entry_at(qm, v), at, i)
-}
-
-fn greater(a: usize, b: usize) -> usize {
-    if a < b { b } else { a }
-}
-
-// The first i positions as a prefix: how many they are if it is closed, else 0.
-fn prefix(pm: &[u16], i: usize) -> usize {
-    if closed(pm, i) {
-        return i;
-    }
-    0
-}
-
 // The longest closed prefix that is reached from the places of the first i positions, when later ones go to v or behind it.
-pub fn longest(
-    p: &[u8],
-    pm: &[u16],
-    q: &[u8],
-    qm: &[u16],
-    at: &mut [u16],
-    i: usize,
-    v: usize,
-) -> usize {
-    if q.len() <= v {
-        return prefix(pm, i);
+pub fn longest(motif: &Strand, molecule: &Strand, places: &mut [u16], i: usize, v: usize) -> usize {
+    let here = if closed(&motif.mates, i) { i } else { 0 };
+    if molecule.bases.len() <= v || motif.bases.len() <= i {
+        return here;
     }
-    if p.len() <= i {
-        return prefix(pm, i);
-    }
-    let behind = longest(p, pm, q, qm, at, i, v + 1);
-    if !fits(p, pm, q, qm, at, i, v) {
+    let behind = longest(motif, molecule, places, i, v + 1);
+    if !fits(motif, molecule, places, i, v) {
         return behind;
     }
-    set_entry(at, i, v);
-    greater(behind, longest(p, pm, q, qm, at, i + 1, v + 1))
+    set(places, i, entry(v));
+    behind.max(longest(motif, molecule, places, i + 1, v + 1))
 }

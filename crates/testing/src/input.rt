@@ -1,7 +1,8 @@
-// The fields of an input line, in fixed columns below 256.
-use super::slices::{byte_at, set_entry};
+// Lines of the input, and their fields in fixed columns.
+use std::alloc::{AllocError, Global};
 use std::io;
 use std::io::{ErrorKind, Read};
+use std::ops::Range;
 
 // How many lines an input that is read line by line has at most.
 pub const MOST_LINES: usize = 99999;
@@ -10,72 +11,49 @@ pub const MOST_LINES: usize = 99999;
 pub fn read<R: Read>(input: &mut R, line: &mut [u8]) -> io::Result<bool> {
     match input.read_exact(line) {
         Ok(()) => Ok(true),
-        Err(e) => ended(e),
+        Err(e) if e.kind() == ErrorKind::UnexpectedEof => Ok(false),
+        Err(e) => Err(e),
     }
 }
 
-// The input has ended, or it cannot be read.
-fn ended(e: io::Error) -> io::Result<bool> {
-    if e.kind() == ErrorKind::UnexpectedEof {
-        return Ok(false);
-    }
-    Err(e)
+// The letters in these columns; none where the line ends before.
+pub fn field(line: &[u8], columns: Range<usize>) -> &[u8] {
+    line.get(columns).unwrap_or(&[])
 }
 
-// The letter in column 0, and 0 for no bytes.
-pub fn kind(line: &[u8]) -> u8 {
-    if line.len() == 0 {
-        return 0;
-    }
-    line[0]
+// The letters in these columns before the first blank.
+pub fn word(line: &[u8], columns: Range<usize>) -> &[u8] {
+    let letters = field(line, columns);
+    let filled = letters.iter().position(|b| *b <= b' ');
+    letters
+        .get(..filled.unwrap_or(letters.len()))
+        .unwrap_or(letters)
 }
 
-// A digit's value, 0 for a blank, 10 and more for a to y, and 65535 for other letters.
-pub fn digit_at(line: &[u8], i: usize) -> usize {
-    let b = byte_at(line, i);
-    if b < 48 {
-        return 0;
-    }
-    if b < 58 {
-        return b - 48;
-    }
-    if b < 97 {
-        return 65535;
-    }
-    if b < 122 {
-        return b - 87;
-    }
-    65535
-}
-
-// The number of n digits or blanks from column i, 10 digits at most.
-pub fn number(line: &[u8], i: usize, n: usize) -> usize {
-    let mut v: usize = 0;
-    let mut k = 0;
-    while k < n {
-        v = v % 1000000000 * 10 + digit_at(line, i % 256 + k % 256) % 10;
-        k += 1;
-    }
-    v
-}
-
-// How many of the n bytes from column i come before the first blank or the end of the line.
-pub fn filled(line: &[u8], i: usize, n: usize) -> usize {
-    let mut k = 0;
-    while k < n {
-        if byte_at(line, i % 256 + k % 256) <= 32 {
-            return k;
-        }
-        k += 1;
+// The number of the digits in these columns, ten at most; of a letter's value the last digit counts.
+pub fn number(line: &[u8], columns: Range<usize>) -> usize {
+    let mut n = 0usize;
+    for i in columns {
+        n = n % 1000000000 * 10 + usize::from(digit_at(line, i) % 10);
     }
     n
 }
 
-// Fills the slice with the digits from column i on.
-pub fn digits(line: &[u8], i: usize, to: &mut [u16]) {
-    let mut k = 0;
-    while k < to.len() {
-        set_entry(to, k, digit_at(line, i % 256 + k % 256));
-        k += 1;
+// The value of a digit, 10 and more for a to y, 0 for a blank and what comes before the digits; other letters are no position.
+pub fn digit(letter: u8) -> u16 {
+    match letter {
+        0..=b'/' => 0,
+        b'0'..=b'9' => u16::from(letter - b'0'),
+        b'a'..=b'y' => u16::from(letter - b'a') + 10,
+        _ => u16::MAX,
     }
+}
+
+pub fn digits(alloc: Global, letters: &[u8]) -> Result<Vec<u16>, AllocError> {
+    letters.iter().map(|letter| digit(*letter)).collect(alloc)
+}
+
+// The digit in a column; 0 past the end.
+pub fn digit_at(line: &[u8], column: usize) -> u16 {
+    line.get(column).copied().map_or(0, digit)
 }

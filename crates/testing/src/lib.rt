@@ -1,10 +1,10 @@
-// What the test programs share. It stands on no crate that they test.
+// What the test programs share. It stands on no crate that they test: of the library it knows only the table of refusals.
 #![tactic(auto)]
 
 pub mod answer;
 pub mod brute;
 pub mod input;
-pub mod output;
+pub mod lent;
 pub mod pairs;
 pub mod random;
 pub mod slices;

@@ -1,11 +1,11 @@
-// What the test programs of length, show and window share: lines about a motif and a molecule, and the answers of the calls on them. In a line column 0
-// says what it asks for, `r` for random pairs; from columns 2 and 27 it has the two strands (see `strands`), or from column 2 the name of a group.
-use super::answer::{is_refused, two};
-use super::input::{kind, number};
-use super::output;
-use super::output::say;
-use super::slices::part;
-use std::io;
+// What the test programs of length, show and window share: lines about a motif and a molecule, and the answers of the calls on them. From columns 2 and
+// 27 such a line has the two strands (see `strands`), or from column 2 the name of a group.
+use super::answer::{Fold, Refusal};
+use super::input::field;
+use super::strands;
+use super::strands::Strand;
+use std::alloc::{AllocError, Global};
+use std::{fmt, io};
 
 // The bytes of a line, with its end and without.
 pub const LINE: usize = 112;
@@ -15,67 +15,90 @@ pub const TEXT: usize = 111;
 // More entries of work than any pair asks for.
 pub const WORK_ROOM: usize = 294980;
 
-const FIELD: usize = 24;
+// What slices are filled with before a call that may write them; no position.
+pub const FILL: u16 = 51966;
 
-const NAME: usize = 46;
-
-// An answer: one number for what it found or for its refusal (see `answer`), and the arcs and the depth that it has as one number, 0 after a refusal.
-#[derive(Clone, Copy)]
-pub struct Told {
-    pub got: usize,
-    pub fold: usize,
+#[derive(Debug, Drop)]
+pub struct Pair {
+    pub motif: Strand,
+    pub molecule: Strand,
 }
 
-pub fn with_fold(got: usize, arcs: usize, depth: usize) -> Told {
-    Told {
-        got,
-        fold: two(arcs, depth),
+// The pair of a line, in a round of those that it stands for.
+pub fn make(alloc: Global, line: &[u8], round: usize) -> Result<Pair, AllocError> {
+    Ok(Pair {
+        motif: strands::make(alloc, field(line, 2..26), round)?,
+        molecule: strands::make(alloc, field(line, 27..51), round)?,
+    })
+}
+
+// The name of a group.
+pub fn name(line: &[u8]) -> &[u8] {
+    field(line, 2..48)
+}
+
+// What a call found, and the fold of the molecule.
+#[derive(Clone, Copy, Debug, PartialEq, Eq)]
+pub struct Found<T> {
+    pub found: T,
+    pub fold: Fold,
+}
+
+pub type Told<T> = Result<Found<T>, Refusal>;
+
+// What is to be found, or the refusal; where the fold is not known, any is right.
+#[derive(Clone, Copy, Debug, PartialEq, Eq)]
+pub struct Wanted<T> {
+    pub found: Result<T, Refusal>,
+    pub fold: Option<Fold>,
+}
+
+impl<T: Copy + PartialEq> Wanted<T> {
+    pub fn is(&self, told: Told<T>) -> bool {
+        match (told, self.found) {
+            (Ok(told), Ok(found)) => {
+                told.found == found && self.fold.is_none_or(|fold| told.fold == fold)
+            }
+            (Err(refusal), Err(wanted)) => refusal == wanted,
+            _ => false,
+        }
     }
 }
 
-// A refusal, or a line that cannot be asked: it has no fold.
-pub fn without_fold(got: usize) -> Told {
-    Told { got, fold: 0 }
-}
+// A count; past a million it goes on with its last six digits.
+#[derive(Clone, Copy, Debug, Default)]
+pub struct Count(usize);
 
-// The fields of the motif and of the molecule.
-pub fn motif(line: &[u8]) -> &[u8] {
-    part(line, 2, FIELD)
-}
-
-pub fn molecule(line: &[u8]) -> &[u8] {
-    part(line, 27, FIELD)
-}
-
-// How many pairs a line stands for: for `r` as many as the n digits from column i say.
-pub fn rounds(line: &[u8], i: usize, n: usize) -> usize {
-    if kind(line) == b'r' {
-        return number(line, i, n);
+impl Count {
+    // A call adds to each count, if only 0.
+    pub fn add(&mut self, n: usize) {
+        self.0 = self.0 % 1000000 + n % 10000;
     }
-    1
 }
 
-// The arcs and the depth that the line wants, from column i on. Rounds `r` have none of their own: what they answer shows in the sums of their group.
-pub fn wanted_fold(line: &[u8], i: usize, told: Told) -> usize {
-    if kind(line) == b'r' {
-        return told.fold;
+impl fmt::Display for Count {
+    fn fmt<W: fmt::Write>(&self, f: &mut fmt::Formatter<W>) -> fmt::Result {
+        write!(f, "{}", self.0)
     }
-    if is_refused(told.got) {
-        return 0;
+}
+
+// Tells a wrong call: its line, then in digits what it found or its refusal, and the fold, 0 after a refusal. None is a call that was not made, as its
+// line asks for more than there is room; its number is none that a call can answer.
+pub fn tell<P: Print, T: Drop + fmt::Display>(
+    out: &P,
+    line: &[u8],
+    told: Option<Told<T>>,
+) -> io::Result<()> {
+    out.write_all(b"wrong: ")?;
+    out.write_all(line)?;
+    match told {
+        Some(Ok(Found { found, fold })) => {
+            println!(out; " gave {found} 1{:04}{:04}", fold.arcs, fold.depth)
+        }
+        Some(Err(refusal)) => println!(out;
+            " gave {}{}{:04} 0",
+            refusal.row, refusal.side, refusal.place
+        ),
+        None => println!(out; " gave 10000000000 0"),
     }
-    two(number(line, i, 4), number(line, i % 256 + 5, 4))
-}
-
-// Writes the name of a group.
-pub fn say_name<P: Print>(out: &P, line: &[u8]) -> io::Result<()> {
-    say(out, part(line, 2, NAME))
-}
-
-// Tells a wrong call: its line, then the numbers that it answered.
-pub fn tell<P: Print>(out: &P, line: &[u8], told: Told) -> io::Result<()> {
-    say(out, b"wrong: ")?;
-    say(out, line)?;
-    output::number(out, b" gave ", told.got)?;
-    output::number(out, b" ", told.fold)?;
-    say(out, b"\n")
 }

@@ -1,18 +1,23 @@
 // Random numbers and letters.
 
+// The multiplier and the modulus of the generator of Park and Miller.
+const MULTIPLIER: usize = 48271;
+
+const MODULUS: usize = 2147483647;
+
 // The next random number.
 pub fn next(x: usize) -> usize {
-    x % 2147483647 * 48271 % 2147483647
+    x % MODULUS * MULTIPLIER % MODULUS
 }
 
 // Letter c of ACGUT, and X from 5 on.
-pub fn letter(c: usize) -> usize {
+pub fn letter(c: usize) -> u8 {
     match c {
-        0 => 65,
-        1 => 67,
-        2 => 71,
-        3 => 85,
-        4 => 84,
-        _ => 88,
+        0 => b'A',
+        1 => b'C',
+        2 => b'G',
+        3 => b'U',
+        4 => b'T',
+        _ => b'X',
     }
 }

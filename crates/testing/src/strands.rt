@@ -1,179 +1,234 @@
 // The strand that a field of an input line says, in 24 columns: ten of bases, a blank and ten of mates (a letter there means 65535), or a rule: a shape,
-// how many bases, how many mates, a seed, which letters: 1 to 6 are the first of ACGUTX; 7 and 8 spell T where 4 and 5 spell U, and U where they spell T;
-// 9 is G, U and T. The bases of seed 0 are the letters in turn.
-use super::input::{digit_at, filled, number};
+// how many bases, how many mates, a seed, which letters (see `among`). The bases of seed 0 are the letters in turn.
+ghost use Rattle.std.specs.Prelude.{ℕ, ◌<◌};
+
+use super::input::{digit_at, digits, number, word};
 use super::random::letter;
-use super::slices::{bond, byte_at, first, part, set_byte, set_entry};
+use super::slices::{bond, entry, set};
+use std::alloc::{AllocError, Global};
 
 // Room for a strand that has a base too many.
-pub const STRAND_ROOM: usize = 4097;
+const STRAND_ROOM: usize = 4097;
 
-// A number below 2 ^ 32 for a seed and a position: two products with a shift after each.
-fn random(seed: usize, i: usize) -> usize {
-    let x = (seed % 65536 * 65536 + i % 65536 + 1) * 2654435761 % 4294967296;
-    let y = (x ^ (x / 65536)) % 4294967296 * 2246822519 % 4294967296;
-    (y ^ (y / 8192)) % 4294967296
+// The digit of a random fold of stems.
+const STEMS: u16 = 5;
+
+// Bases and their mates.
+#[derive(Debug, Drop)]
+pub struct Strand {
+    pub bases: Vec<u8>,
+    pub mates: Vec<u16>,
 }
 
-// The number of the letter with T for U and U for T.
-fn other(c: usize) -> usize {
-    match c {
-        3 => 4,
-        4 => 3,
-        _ => c,
+impl Strand {
+    pub fn new(alloc: Global, bases: &[u8], mates: &[u16]) -> Result<Strand, AllocError> {
+        Ok(Strand {
+            bases: bases.to_vec(alloc)?,
+            mates: mates.to_vec(alloc)?,
+        })
+    }
+
+    // So many bases A, each with the mate 0.
+    pub fn equal(alloc: Global, n: usize) -> Result<Strand, AllocError> {
+        Ok(Strand {
+            bases: vec![in alloc; b'A'; n]?,
+            mates: vec![in alloc; 0; n]?,
+        })
     }
 }
 
-// The number of a letter among those of a rule, by a random number.
-fn among(letters: usize, x: usize) -> usize {
-    if letters == 0 {
-        return 0;
+// Which arcs a rule makes; random arcs by a digit too.
+#[derive(Clone, Copy, Debug, PartialEq, Eq)]
+enum Shape {
+    Unbonded,
+    Stem,
+    Comb,
+    Balanced,
+    Arcs(u16),
+    Stems,
+    Hairpins,
+}
+
+#[derive(Clone, Copy, Debug)]
+struct Rule {
+    shape: Shape,
+    seed: usize,
+    letters: u16,
+}
+
+impl Shape {
+    // The shape of a digit.
+    fn of(digit: u8) -> Option<Shape> {
+        match digit {
+            b'0' => Some(Shape::Unbonded),
+            b'1' => Some(Shape::Stem),
+            b'2' => Some(Shape::Comb),
+            b'3' => Some(Shape::Balanced),
+            b'5' => Some(Shape::Stems),
+            b'6' => Some(Shape::Hairpins),
+            b'4' | b'7'..=b'9' => Some(Shape::Arcs(u16::from(digit - b'0'))),
+            _ => None,
+        }
     }
+}
+
+// A letter by a random number: 1 to 6 are so many of the first of ACGUTX, in 7 and 8 T stands for U and U for T, 9 is G, U and T. Behind 6 letters X
+// comes again.
+fn among(letters: u16, x: usize) -> u8 {
     match letters {
-        7 => other(x % 4),
-        8 => other(x % 5),
-        9 => 2 + x % 3,
-        _ => x % letters,
+        0 => b'A',
+        7 => b"ACGT"[x % 4],
+        8 => b"ACGTU"[x % 5],
+        9 => b"GUT"[x % 3],
+        n => letter(x % usize::from(n)),
     }
 }
 
-fn base(seed: usize, letters: usize, i: usize) -> usize {
-    if seed == 0 {
-        return letter(among(letters, i));
-    }
-    letter(among(letters, random(seed, i)))
+// A number for a seed and a position: two products with a shift after each.
+fn random(seed: u16, i: u16) -> u32 {
+    let x = (u32::from(seed) << 16 | u32::from(i))
+        .wrapping_add(1)
+        .wrapping_mul(2654435761);
+    let y = (x ^ (x >> 16)).wrapping_mul(2246822519);
+    y ^ (y >> 13)
 }
 
 // The reach of hairpins one behind the other, each of eight bases, the outer three of them on each side bonded.
 fn hairpin(from: usize, size: usize) -> usize {
-    let depth = from % 8;
-    if 2 < depth {
-        return 0;
-    }
-    let far = 7 - 2 * depth;
-    if size <= far {
-        return 0;
-    }
-    far
+    let far = match from % 8 {
+        0 => 7,
+        1 => 5,
+        2 => 3,
+        _ => 0,
+    };
+    if far < size { far } else { 0 }
 }
 
-// How far the arc that begins a stretch goes, 0 for no arc. Shapes: no arcs (0), stem (1), comb (2), balanced (3), random fold (4), random
-// fold of stems (5), hairpins (6).
-fn reach(shape: usize, seed: usize, from: usize, size: usize) -> usize {
-    if shape == 0 {
-        return 0;
-    }
-    if size < 2 {
-        return 0;
-    }
-    if shape == 1 {
-        return size - 1;
-    }
-    if shape == 2 {
-        if from == 0 {
-            return size - 1;
-        }
-        if size < 3 {
-            return 0;
-        }
-        return 2;
-    }
-    if shape == 3 {
-        return size / 2;
-    }
-    if shape == 6 {
-        return hairpin(from, size);
-    }
-    let x = random(seed, from % 65536 + random(size, shape) % 65536);
+// How far an arc of a random fold goes.
+fn arc_reach(x: u32, size: usize) -> usize
+    requires { 0 < size }
+{
     if x % 3 == 0 {
         return 0;
     }
-    if shape == 5 {
-        if x / 3 % 4 != 0 {
-            return size - 1;
+    x as usize / 12 % size
+}
+
+// How far an arc of a random fold of stems goes.
+fn stem_reach(x: u32, size: usize) -> usize
+    requires { 0 < size }
+{
+    if x % 3 != 0 && x / 3 % 4 != 0 {
+        return size - 1;
+    }
+    arc_reach(x, size)
+}
+
+// What a position of a random nested strand does.
+#[derive(Clone, Copy, Debug, PartialEq, Eq)]
+pub enum Bond {
+    Open,
+    Close,
+    Neither,
+}
+
+// Opens a bond at i, or closes the last open one there, or leaves i unbonded. `open` has the open positions.
+pub fn nest(
+    mates: &mut [u16],
+    open: &mut Vec<usize>,
+    i: usize,
+    step: Bond,
+) -> Result<(), AllocError> {
+    set(mates, i, entry(i));
+    match step {
+        Bond::Open => open.push(i)?,
+        Bond::Close => {
+            if let Some(j) = open.pop() {
+                bond(mates, i, j);
+            }
+        }
+        Bond::Neither => {}
+    }
+    Ok(())
+}
+
+impl Rule {
+    // Base i.
+    fn base(&self, i: usize) -> u8 {
+        if self.seed == 0 {
+            return among(self.letters, i);
+        }
+        among(self.letters, random(entry(self.seed), entry(i)) as usize)
+    }
+
+    // The random number of a stretch, by a digit.
+    fn random(&self, digit: u16, from: usize, size: usize) -> u32 {
+        let offset = entry(random(entry(size), digit) as usize);
+        random(entry(self.seed), entry(from).wrapping_add(offset))
+    }
+
+    // How far the arc that begins a stretch goes, 0 for no arc.
+    fn reach(&self, from: usize, size: usize) -> usize {
+        if size < 2 {
+            return 0;
+        }
+        match self.shape {
+            Shape::Unbonded => 0,
+            Shape::Stem => size - 1,
+            Shape::Comb if from == 0 => size - 1,
+            Shape::Comb if size < 3 => 0,
+            Shape::Comb => 2,
+            Shape::Balanced => size / 2,
+            Shape::Hairpins => hairpin(from, size),
+            Shape::Arcs(digit) => arc_reach(self.random(digit, from, size), size),
+            Shape::Stems => stem_reach(self.random(STEMS, from, size), size),
         }
     }
-    x / 12 % size
-}
 
-// Folds the positions from `from` to `to`: the arc that begins there, what lies in it, and what comes after it.
-fn fold(shape: usize, seed: usize, from: usize, to: usize, mates: &mut [u16]) {
-    if to <= from {
-        return;
-    }
-    let d = reach(shape, seed, from, to - from);
-    if to - from <= d {
-        return;
-    }
-    let e = from + d;
-    bond(mates, from, e);
-    fold(shape, seed, from + 1, e, mates);
-    fold(shape, seed, e + 1, to, mates);
-}
-
-fn spell(seed: usize, letters: usize, n: usize, bases: &mut [u8]) {
-    let mut i = 0;
-    while i < n {
-        set_byte(bases, i, base(seed, letters, i));
-        i += 1;
+    // Folds the positions from `from` to `to`: the arc that begins there, what lies in it, and what comes after it.
+    fn fold(&self, from: usize, to: usize, mates: &mut [u16]) {
+        if to <= from {
+            return;
+        }
+        let reach = self.reach(from, to - from);
+        if to - from <= reach {
+            return;
+        }
+        let end = from + reach;
+        bond(mates, from, end);
+        self.fold(from + 1, end, mates);
+        self.fold(end + 1, to, mates);
     }
 }
 
-fn copy(field: &[u8], bases: &mut [u8], mates: &mut [u16]) {
-    let mut k = 0;
-    while k < 10 {
-        set_byte(bases, k, byte_at(field, k));
-        set_entry(mates, k, digit_at(field, 11 + k));
-        k += 1;
+// The strand of a rule, its seed that of the field plus the round; what is behind the room is cut off.
+fn by_rule(alloc: Global, field: &[u8], shape: Shape, round: usize) -> Result<Strand, AllocError> {
+    let rule = Rule {
+        shape,
+        seed: number(field, 16..22) % 65536 + round % 65536,
+        letters: digit_at(field, 23),
+    };
+    let bases = (0..number(field, 2..8).min(STRAND_ROOM))
+        .map(|i| rule.base(i))
+        .collect(alloc)?;
+    let length = number(field, 9..15);
+    let mut mates = vec![in alloc; 0; length.min(STRAND_ROOM)]?;
+    rule.fold(0, length, &mut mates);
+    Ok(Strand { bases, mates })
+}
+
+// The strand that a field spells out.
+pub fn written(alloc: Global, field: &[u8]) -> Result<Strand, AllocError> {
+    Ok(Strand {
+        bases: word(field, 0..10).to_vec(alloc)?,
+        mates: digits(alloc, word(field, 11..21))?,
+    })
+}
+
+// The strand of a field, in a round of those that a line stands for.
+pub fn make(alloc: Global, field: &[u8], round: usize) -> Result<Strand, AllocError> {
+    match field.first().copied().and_then(Shape::of) {
+        Some(shape) => by_rule(alloc, field, shape, round),
+        None => written(alloc, field),
     }
-}
-
-fn is_rule(field: &[u8]) -> bool {
-    let b = byte_at(field, 0);
-    if b < 48 {
-        return false;
-    }
-    b < 58
-}
-
-// How many bases a field has, and how many mates.
-fn bases_in(field: &[u8]) -> usize {
-    if is_rule(field) {
-        return number(field, 2, 6);
-    }
-    filled(field, 0, 10)
-}
-
-fn mates_in(field: &[u8]) -> usize {
-    if is_rule(field) {
-        return number(field, 9, 6);
-    }
-    filled(field, 11, 10)
-}
-
-// The bases and the mates of a field, cut from slices that have room for more.
-pub fn bases_of<'a>(field: &[u8], bases: &'a [u8]) -> &'a [u8] {
-    part(bases, 0, bases_in(field))
-}
-
-pub fn mates_of<'a>(field: &[u8], mates: &'a [u16]) -> &'a [u16] {
-    first(mates, mates_in(field))
-}
-
-fn by_rule(field: &[u8], seed: usize, bases: &mut [u8], mates: &mut [u16]) {
-    spell(seed, digit_at(field, 23), number(field, 2, 6), bases);
-    fold(digit_at(field, 0), seed, 0, number(field, 9, 6), mates);
-}
-
-// Writes the strand of a field, of a rule the strand of its seed plus i.
-pub fn make(field: &[u8], i: usize, bases: &mut [u8], mates: &mut [u16]) {
-    if is_rule(field) {
-        return by_rule(
-            field,
-            number(field, 16, 6) % 65536 + i % 65536,
-            bases,
-            mates,
-        );
-    }
-    copy(field, bases, mates);
 }

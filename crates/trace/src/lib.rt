@@ -1,6 +1,7 @@
 // An embedding of the longest prefix: the walk over the molecule that also writes the places. Down a path of longest arcs rows are wanted from the outside
 // in, but come from the inside out: the row inside a middle arc of the path, the kept arc, stays while what lies outside of that arc is placed. `kept` is
-// its left end, or q.len() where there is none.
+// its left end, or q.len() where there is none: a number, since q.len() lies behind every arc, and so each comparison with `kept` is right for both.
+// Segment, stretch, kept arc and slices change from call to call, so they are parameters; what stays is the pair.
 #![tactic(auto)]
 
 ghost use Rattle.std.specs.Prelude.{◌≡◌, ◌+◌, ◌-◌, ◌*◌, ◌≤◌, ◌<◌, length};
@@ -8,23 +9,24 @@ ghost use Rattle.lists.specs.Vocabulary.{nth};
 ghost use Rattle.embedding.specs.Row.{Best, Reach};
 ghost use Rattle.embedding.specs.Embedding.{letters_fit};
 ghost use Rattle.refusals.specs.Rules.{work_size};
-ghost use Rattle.arcs.specs.Arcs.{Setting, Sealed, AllStarts};
-ghost use Rattle.placing.specs.Placing.{Laid, KeptAround, OnPath, Levels, ArcLevels, LaidBut, FromArc, AtArc};
+ghost use Rattle.rows.specs.Motifs.{SegmentOf};
+ghost use Rattle.arcs.specs.Arcs.{Setting, Sealed};
+ghost use Rattle.arcs.specs.Pairs.{AllStartsIn, BestIn};
+ghost use Rattle.placing.specs.Placing.{Laid, OnPath, Levels, ArcLevels};
+ghost use Rattle.placing.specs.Pairs.{LaidIn, LaidButIn, KeptAroundIn, FromArcIn, AtArcIn};
 
 use arcs::bounds;
+use arcs::pair::Pair;
 use placing::path::Span;
 use placing::take::ArcTake;
 use placing::{path, take};
-use rows::tables;
+use rows::motif::Motif;
+use rows::tables::{self, LONG_SIZE, SHORT_MOLECULE, SHORT_MOTIF, SHORT_SIZE};
 
-// Writes the places of from.. as far as the motif up to `to` is taken by lo..hi, and gives how far that is.
+// Writes the places of from.. as far as the motif up to `to` is taken by lo..hi, and gives how far that is. By a while: it goes on behind each arc.
 #[cycle(along_descend_enter_past_place_place_arc)]
 fn place(
-    p: &[u8],
-    pm: &[u16],
-    tables: &[u16],
-    q: &[u8],
-    qm: &[u16],
+    pair: &Pair,
     from: usize,
     to: usize,
     lo: usize,
@@ -32,26 +34,27 @@ fn place(
     places: &mut [u16],
     work: &mut [u16],
 ) -> usize
-    requires setting { Setting p.now pm.now q.now qm.now from to }
-    requires lo_le_hi { (lo ≤ hi) × (hi ≤ length q.now) }
-    requires sealed { Sealed qm.now lo hi }
+    requires segment { SegmentOf pair.now.motif from to }
+    requires lo_le_hi { (lo ≤ hi) × (hi ≤ length pair.now.q.now) }
+    requires sealed { Sealed pair.now.qm.now lo hi }
     requires to_in_bounds { to ≤ length places.old }
-    requires arc_levels { ArcLevels (length p.now + 1) qm.now lo hi (length work.old) }
-    requires all_starts { AllStarts p.now pm.now (length q.now) tables.now }
-    ensures best { Best (letters_fit p.now q.now) (nth pm.now) (nth qm.now) to from result lo hi }
-    ensures laid { Laid p.now pm.now q.now qm.now from result lo hi places.old places.new }
+    requires arc_levels { ArcLevels (length pair.now.motif.bases.now + 1) pair.now.qm.now lo hi (length work.old) }
+    requires all_starts { AllStartsIn pair.now }
+    ensures best { BestIn pair.now to from result lo hi }
+    ensures laid { LaidIn pair.now from result lo hi places.old places.new }
 {
+    let motif = &pair.motif;
     let mut j = from;
     let mut l = lo;
     while l < hi {
         if to <= j {
             return j;
         }
-        let r = arcs::mate(qm, l);
+        let r = arcs::mate(pair.qm, l);
         if l < r {
-            j = place_arc(p, pm, tables, q, qm, j, to, l, r, places, work);
+            j = place_arc(pair, j, to, l, r, places, work);
         } else {
-            j = take::put_base(p, pm, q, j, to, l, places);
+            j = take::put_base(motif.bases, motif.mates, pair.q, j, to, l, places);
         }
         l = r + 1;
     }
@@ -61,11 +64,7 @@ fn place(
 // As `place`, for the arc l, r alone.
 #[cycle(along_descend_enter_past_place_place_arc)]
 fn place_arc(
-    p: &[u8],
-    pm: &[u16],
-    tables: &[u16],
-    q: &[u8],
-    qm: &[u16],
+    pair: &Pair,
     from: usize,
     to: usize,
     l: usize,
@@ -73,41 +72,24 @@ fn place_arc(
     places: &mut [u16],
     work: &mut [u16],
 ) -> usize
-    requires setting { Setting p.now pm.now q.now qm.now from to }
+    requires segment { SegmentOf pair.now.motif from to }
     requires from_lt_to { (from < to) × (to ≤ length places.old) }
-    requires l_lt_r { (l < r) × ((r < length q.now) × (nth qm.now l ≡ r)) }
-    requires levels { Levels (length p.now + 1) (r - (l + 1)) (r - (l + 1)) (length work.old) }
-    requires all_starts { AllStarts p.now pm.now (length q.now) tables.now }
-    ensures best { Best (letters_fit p.now q.now) (nth pm.now) (nth qm.now) to from result l (r + 1) }
-    ensures laid { Laid p.now pm.now q.now qm.now from result l (r + 1) places.old places.new }
+    requires l_lt_r { (l < r) × ((r < length pair.now.q.now) × (nth pair.now.qm.now l ≡ r)) }
+    requires levels { Levels (length pair.now.motif.bases.now + 1) (r - (l + 1)) (r - (l + 1)) (length work.old) }
+    requires all_starts { AllStartsIn pair.now }
+    ensures best { BestIn pair.now to from result l (r + 1) }
+    ensures laid { LaidIn pair.now from result l (r + 1) places.old places.new }
 {
-    let t = take::take_at(p, pm, tables, q, qm, from, to, l, r, places, work);
-    let n = q.len();
-    descend(
-        p,
-        pm,
-        tables,
-        q,
-        qm,
-        t.from,
-        t.to,
-        l + 1,
-        r,
-        n,
-        places,
-        work,
-    );
+    let t = take::take_at(pair, from, to, l, r, places, work);
+    let none = pair.q.len();
+    descend(pair, t.from, t.to, l + 1, r, none, places, work);
     t.next
 }
 
 // What the arc l, r, which is the kept arc or holds it, takes of the segment from..to, and the span of it that falls inside the kept arc: all else is placed.
 #[cycle(along_descend_enter_past_place_place_arc)]
 fn enter(
-    p: &[u8],
-    pm: &[u16],
-    tables: &[u16],
-    q: &[u8],
-    qm: &[u16],
+    pair: &Pair,
     from: usize,
     to: usize,
     l: usize,
@@ -116,28 +98,15 @@ fn enter(
     places: &mut [u16],
     work: &mut [u16],
 ) -> ArcTake
-    requires { AtArc p.now pm.now q.now qm.now from to l r kept (length places.old) work.old tables.now }
-    ensures best { Best (letters_fit p.now q.now) (nth pm.now) (nth qm.now) to from result.next l (r + 1) }
-    ensures laid_but { LaidBut p.now pm.now q.now qm.now from result.next l (r + 1) result.from result.to (kept + 1) (nth qm.now kept) places.old places.new }
+    requires { AtArcIn pair.now from to l r kept (length places.old) work.old }
+    ensures best { BestIn pair.now to from result.next l (r + 1) }
+    ensures laid_but { LaidButIn pair.now from result.next l (r + 1) result.from result.to kept places.old places.new }
 {
-    let t = take::take_kept(p, pm, tables, q, qm, from, to, l, r, kept, places, work);
+    let t = take::take_kept(pair, from, to, l, r, kept, places, work);
     if l == kept {
         return t;
     }
-    let span = descend(
-        p,
-        pm,
-        tables,
-        q,
-        qm,
-        t.from,
-        t.to,
-        l + 1,
-        r,
-        kept,
-        places,
-        work,
-    );
+    let span = descend(pair, t.from, t.to, l + 1, r, kept, places, work);
     ArcTake {
         from: span.from,
         to: span.to,
@@ -148,11 +117,7 @@ fn enter(
 // As `along`, with no middle arc: the arc from l first, then what lies behind it.
 #[cycle(along_descend_enter_past_place_place_arc)]
 fn past(
-    p: &[u8],
-    pm: &[u16],
-    tables: &[u16],
-    q: &[u8],
-    qm: &[u16],
+    pair: &Pair,
     from: usize,
     to: usize,
     l: usize,
@@ -161,19 +126,16 @@ fn past(
     places: &mut [u16],
     work: &mut [u16],
 ) -> Span
-    requires { FromArc p.now pm.now q.now qm.now from to l hi kept (length places.old) work.old tables.now }
-    ensures { LaidBut p.now pm.now q.now qm.now from to l hi result.from result.to (kept + 1) (nth qm.now kept) places.old places.new }
+    requires { FromArcIn pair.now from to l hi kept (length places.old) work.old }
+    ensures { LaidButIn pair.now from to l hi result.from result.to kept places.old places.new }
 {
-    let r = arcs::mate(qm, l);
+    let r = arcs::mate(pair.qm, l);
     if r <= kept {
-        place(p, pm, tables, q, qm, from, to, l, hi, places, work);
-        return Span {
-            from: from,
-            to: from,
-        };
+        place(pair, from, to, l, hi, places, work);
+        return Span { from, to: from };
     }
-    let t = enter(p, pm, tables, q, qm, from, to, l, r, kept, places, work);
-    place(p, pm, tables, q, qm, t.next, to, r + 1, hi, places, work);
+    let t = enter(pair, from, to, l, r, kept, places, work);
+    place(pair, t.next, to, r + 1, hi, places, work);
     Span {
         from: t.from,
         to: t.to,
@@ -183,11 +145,7 @@ fn past(
 // As `descend`, where an arc begins at l.
 #[cycle(along_descend_enter_past_place_place_arc)]
 fn along(
-    p: &[u8],
-    pm: &[u16],
-    tables: &[u16],
-    q: &[u8],
-    qm: &[u16],
+    pair: &Pair,
     from: usize,
     to: usize,
     l: usize,
@@ -196,43 +154,25 @@ fn along(
     places: &mut [u16],
     work: &mut [u16],
 ) -> Span
-    requires { FromArc p.now pm.now q.now qm.now from to l hi kept (length places.old) work.old tables.now }
-    ensures { LaidBut p.now pm.now q.now qm.now from to l hi result.from result.to (kept + 1) (nth qm.now kept) places.old places.new }
+    requires { FromArcIn pair.now from to l hi kept (length places.old) work.old }
+    ensures { LaidButIn pair.now from to l hi result.from result.to kept places.old places.new }
 {
-    let w = p.len() + 1;
-    let mid = path::middle(qm, to - from, l, hi, kept);
+    let w = pair.motif.bases.len() + 1;
+    let mid = path::middle(pair.qm, to - from, l, hi, kept);
     if mid <= l {
-        return past(p, pm, tables, q, qm, from, to, l, hi, kept, places, work);
+        return past(pair, from, to, l, hi, kept, places, work);
     }
-    let r = arcs::mate(qm, mid);
-    path::keep(p, pm, tables, q, qm, from, to, mid, r, kept, work);
-    let rest = &mut work[w..];
-    let b = along(p, pm, tables, q, qm, from, to, l, hi, mid, places, rest);
-    descend(
-        p,
-        pm,
-        tables,
-        q,
-        qm,
-        b.from,
-        b.to,
-        mid + 1,
-        r,
-        kept,
-        places,
-        work,
-    )
+    let r = arcs::mate(pair.qm, mid);
+    path::keep(pair, from, to, mid, r, kept, work);
+    let b = along(pair, from, to, l, hi, mid, places, &mut work[w..]);
+    descend(pair, b.from, b.to, mid + 1, r, kept, places, work)
 }
 
 // Writes the places of the segment from..to of the motif, which embeds in lo..hi, all but those of the span that falls inside the kept arc, and gives that
 // span.
 #[cycle(along_descend_enter_past_place_place_arc)]
 fn descend(
-    p: &[u8],
-    pm: &[u16],
-    tables: &[u16],
-    q: &[u8],
-    qm: &[u16],
+    pair: &Pair,
     from: usize,
     to: usize,
     lo: usize,
@@ -241,40 +181,36 @@ fn descend(
     places: &mut [u16],
     work: &mut [u16],
 ) -> Span
-    requires setting { Setting p.now pm.now q.now qm.now from to }
-    requires lo_le_hi { (lo ≤ hi) × (hi ≤ length q.now) }
-    requires reach { Reach (letters_fit p.now q.now) (nth pm.now) (nth qm.now) to from to lo hi }
-    requires sealed { Sealed qm.now lo hi }
-    requires kept_in_bounds { (kept ≤ length q.now) × (kept < length q.now → OnPath qm.now lo hi kept) }
-    requires kept_around { KeptAround p.now pm.now q.now qm.now from to kept work.old }
+    requires segment { SegmentOf pair.now.motif from to }
+    requires lo_le_hi { (lo ≤ hi) × (hi ≤ length pair.now.q.now) }
+    requires reach { Reach (letters_fit pair.now.motif.bases.now pair.now.q.now) (nth pair.now.motif.mates.now) (nth pair.now.qm.now) to from to lo hi }
+    requires sealed { Sealed pair.now.qm.now lo hi }
+    requires kept_in_bounds { (kept ≤ length pair.now.q.now) × (kept < length pair.now.q.now → OnPath pair.now.qm.now lo hi kept) }
+    requires kept_around { KeptAroundIn pair.now from to kept work.old }
     requires to_in_bounds { to ≤ length places.old }
-    requires levels { Levels (length p.now + 1) (hi - lo) (hi - lo - (nth qm.now kept - kept)) (length work.old) }
-    requires all_starts { AllStarts p.now pm.now (length q.now) tables.now }
-    ensures { LaidBut p.now pm.now q.now qm.now from to lo hi result.from result.to (kept + 1) (nth qm.now kept) places.old places.new }
+    requires levels { Levels (length pair.now.motif.bases.now + 1) (hi - lo) (hi - lo - (nth pair.now.qm.now kept - kept)) (length work.old) }
+    requires all_starts { AllStartsIn pair.now }
+    ensures { LaidButIn pair.now from to lo hi result.from result.to kept places.old places.new }
 {
-    let none = Span {
-        from: from,
-        to: from,
-    };
+    let none = Span { from, to: from };
     if to <= from {
         return none;
     }
-    let w = p.len() + 1;
-    let l = arcs::heaviest(qm, lo, hi);
-    let rest = &mut work[w..];
-    let k = place(p, pm, tables, q, qm, from, to, lo, l, places, rest);
+    let w = pair.motif.bases.len() + 1;
+    let l = arcs::heaviest(pair.qm, lo, hi);
+    let k = place(pair, from, to, lo, l, places, &mut work[w..]);
     if to <= k {
         return none;
     }
-    along(p, pm, tables, q, qm, k, to, l, hi, kept, places, work)
+    along(pair, k, to, l, hi, kept, places, work)
 }
 
 // As `place_all`, with borrowed room for the tables of the motif.
-fn place_all_lent(
-    p: &[u8],
-    pm: &[u16],
-    q: &[u8],
-    qm: &[u16],
+fn place_all_lent<'a>(
+    p: &'a [u8],
+    pm: &'a [u16],
+    q: &'a [u8],
+    qm: &'a [u16],
     places: &mut [u16],
     work: &mut [u16],
     tables: &mut [u16],
@@ -288,11 +224,17 @@ fn place_all_lent(
 {
     tables::fill(p, pm, tables);
     bounds::all_starts(p, pm, q.len(), tables);
-    place(p, pm, tables, q, qm, 0, p.len(), 0, q.len(), places, work)
+    let motif = Motif {
+        bases: p,
+        mates: pm,
+        tables: &*tables,
+    };
+    let pair = Pair { motif, q, qm };
+    place(&pair, 0, p.len(), 0, q.len(), places, work)
 }
 
-// As `place_all`, for short strands: their tables take little room.
-fn place_all_short(
+// The same, with room for SIZE numbers in the tables: those of short strands take little.
+fn place_all_in<const SIZE: usize>(
     p: &[u8],
     pm: &[u16],
     q: &[u8],
@@ -303,11 +245,12 @@ fn place_all_short(
     requires setting { Setting p.now pm.now q.now qm.now 0 (length p.now) }
     requires room { length p.now ≤ length places.old }
     requires work_room { work_size (length p.now) (length q.now) ≤ length work.old }
-    requires p_len_bound { (length p.now ≤ 120) × (length q.now ≤ 160) }
+    requires table_room { 5 * (length p.now + 1) + length q.now < SIZE }
+    requires size { SIZE ≤ LONG_SIZE }
     ensures best { Best (letters_fit p.now q.now) (nth pm.now) (nth qm.now) (length p.now) 0 result 0 (length q.now) }
     ensures laid { Laid p.now pm.now q.now qm.now 0 result 0 (length q.now) places.old places.new }
 {
-    let mut tables = [0u16; tables::SHORT_SIZE];
+    let mut tables = [0u16; SIZE];
     place_all_lent(p, pm, q, qm, places, work, &mut tables)
 }
 
@@ -326,11 +269,8 @@ pub fn place_all(
     ensures best { Best (letters_fit p.now q.now) (nth pm.now) (nth qm.now) (length p.now) 0 result 0 (length q.now) }
     ensures laid { Laid p.now pm.now q.now qm.now 0 result 0 (length q.now) places.old places.new }
 {
-    if p.len() <= tables::SHORT_MOTIF {
-        if q.len() <= tables::SHORT_MOLECULE {
-            return place_all_short(p, pm, q, qm, places, work);
-        }
+    if p.len() <= SHORT_MOTIF && q.len() <= SHORT_MOLECULE {
+        return place_all_in::<SHORT_SIZE>(p, pm, q, qm, places, work);
     }
-    let mut tables = [0u16; tables::LONG_SIZE];
-    place_all_lent(p, pm, q, qm, places, work, &mut tables)
+    place_all_in::<LONG_SIZE>(p, pm, q, qm, places, work)
 }

@@ -1,1 +1,2 @@
+pub mod InStrands
 pub mod Walk

@@ -4,11 +4,17 @@ use Rattle.lists.specs.Vocabulary.{nth}
 use Rattle.letters.specs.Letters.{letters_match}
 use Rattle.embedding.specs.Windows.{EmbedsWithin}
 use Rattle.rows.specs.Rows.{Tables}
+use Rattle.arcs.specs.declared.pair.Pair.{Pair}
 
 -- The tables of P, with room for the bounds of a molecule of n bases after them.
 pub record TablesFor (p pm : List ℕ) (n : ℕ) (tables : List ℕ) : Type 0 where
   pub motif : Tables p pm tables
   pub room : 5 * (length p + 1) + n < length tables
+
+-- The pair is that of these lists.
+abbrev pub PairOf : List ℕ → List ℕ → List ℕ → List ℕ → List ℕ → Pair → Type 0
+PairOf p pm tables q qm t =
+    (t.motif.bases.now ≡ p) × (t.motif.mates.now ≡ pm) × (t.motif.tables.now ≡ tables) × (t.q.now ≡ q) × (t.qm.now ≡ qm)
 
 -- P embeds in Q with all its places in the window from lo to before hi, which is its end and not its length.
 pub record Carried (p pm q qm : List ℕ) (lo hi : ℕ) : Type 0 where

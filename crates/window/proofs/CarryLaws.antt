@@ -7,6 +7,7 @@ use mathlib.Core.List.{List}
 use native.Mathlib.Decide.{dec_lt}
 use native.Mathlib.Omega.{arith}
 use lib.Dec.{eqb, ltb}
+use Rattle.std.specs.Prelude.{Option, Some, None}
 use lib.ListN.{length}
 use borrow.Author.Tests.{ltb-true, ltb-false}
 use Rattle.lists.specs.Vocabulary.{nth}
@@ -24,7 +25,8 @@ use Rattle.embedding.proofs.Tightest.{carries_within}
 use Rattle.embedding.proofs.Claims as embedding
 use Rattle.walk.specs.Walk.{TablesFor, Carried}
 use Rattle.window.specs.declared.search.Progress.{Progress}
-use Rattle.window.specs.Search.{Ready, MayBegin, NoneBegins, EndsAt, StartsAt, NoBetter, Sought, Seek, Advanced, Found}
+use Rattle.window.specs.declared.search.Window.{Window}
+use Rattle.window.specs.Search.{Ready, MayBegin, NoneBegins, EndsAt, StartsAt, NoBetter, Sought, start_of, limit_of, Seek, Advanced, Found}
 use Rattle.window.proofs.SearchLaws.{sought_none, sought_begin, sought_later, sought_clear, sought_found, over_clear, over_short}
 
 pub carried_wider : {p pm q qm : List ℕ} (s e s' e' : ℕ) → s' ≤ s → e ≤ e' → Carried p pm q qm s e → Carried p pm q qm s' e'
@@ -91,9 +93,9 @@ module _ {p pm q qm : List ℕ} where
       record { here = S.here; none = λ y g C. n (carried_wider y e x e (omega arith) (omega arith) C) }
 
 -- What the walks ask holds again after one of them.
-pub ready_again : {p pm tables tables' q qm work work' : List ℕ} → Ready p pm tables q qm work → TablesFor p pm (length q) tables'
-    → length work' ≡ length work → Ready p pm tables' q qm work'
-ready_again R T e = record { motif = R.motif; base = R.base; molecule = R.molecule; made = T; room = omega (arith, R.room) }
+pub ready_again : {p pm tables tables' q work work' : List ℕ} → Ready p pm tables q work → TablesFor p pm (length q) tables'
+    → length work' ≡ length work → Ready p pm tables' q work'
+ready_again R T e = record { made = T; room = omega (arith, R.room) }
 
 -- ---- the steps of the search
 
@@ -114,10 +116,11 @@ module _ {p pm q qm : List ℕ} (m : 0 < length p) where
       S = starts m C.embeds
 
 module _ {p pm q qm : List ℕ} where
-  pub seek_none : Seek p pm q qm record { start = 0; length = length q + 1; next = 0; low = 0; reach = 0 }
+  pub seek_none : Seek p pm q qm record { best = None; next = 0; low = 0; reach = 0 }
   seek_none =
       record {
         sought = sought_none (Carried p pm q qm) (length q) carried_wider;
+        best_in = λ w e. cc;
         size_in = omega arith;
         next_in = omega arith;
         low_in = omega arith;
@@ -127,10 +130,11 @@ module _ {p pm q qm : List ℕ} where
   module _ {at : Progress} (S : Seek p pm q qm at) where
     -- A walk over the window from `next` to `hi` failed.
     pub seek_failed : (hi reach : ℕ) → hi ≤ length q → reach ≤ length q → (Carried p pm q qm at.next hi → ⊥)
-        → Seek p pm q qm record { start = at.start; length = at.length; next = at.next; low = hi + 1; reach = reach }
+        → Seek p pm q qm record { best = at.best; next = at.next; low = hi + 1; reach = reach }
     seek_failed hi reach h g n =
         record {
           sought = sought_clear _ _ carried_wider S.sought (hi + 1) (λ e l C. n (carried_wider at.next e at.next hi (omega arith) (omega arith) C));
+          best_in = S.best_in;
           size_in = S.size_in;
           next_in = S.next_in;
           low_in = omega arith;
@@ -142,28 +146,31 @@ module _ {p pm q qm : List ℕ} where
     seek_ends C = record { here = C; none = S.sought.clear }
 
     -- `end` is the least end of a window from `next`, and `first` the lowest start for which a window to `end` is shorter than the best.
-    module _ (end first reach : ℕ) (E : EndsAt p pm q qm at.next end end) (F : first ≡ max at.next (end + 1 - at.length)) (g : reach ≤ length q) where
+    module _ (end first reach : ℕ) (E : EndsAt p pm q qm at.next end end) (F : first ≡ max at.next (end + 1 - limit_of (length q) at.best))
+        (g : reach ≤ length q) where
       -- The window from `first` does not carry P: none that ends there is shorter than the best.
-      pub seek_passed : end ≤ length q → 0 < at.length → (Carried p pm q qm first end → ⊥)
-          → Seek p pm q qm record { start = at.start; length = at.length; next = first; low = end + 1; reach = reach }
+      pub seek_passed : end ≤ length q → 0 < limit_of (length q) at.best → (Carried p pm q qm first end → ⊥)
+          → Seek p pm q qm record { best = at.best; next = first; low = end + 1; reach = reach }
       seek_passed en lp n =
           record {
             sought = sought_clear _ _ carried_wider later (end + 1) (λ e l C. n (carried_wider first e first end (omega arith) (omega arith) C));
+            best_in = S.best_in;
             size_in = S.size_in;
             next_in = omega (arith, S.next_in);
             low_in = omega arith;
             reach_in = g;
           }
         where
-          later : Sought (Carried p pm q qm) (length q) at.start at.length first end
+          later : Sought (Carried p pm q qm) (length q) (start_of at.best) (limit_of (length q) at.best) first end
           later = sought_later _ _ carried_wider (sought_clear _ _ carried_wider S.sought end E.none) first F
 
       -- `start` is the last start of a window to `end` from `first` on: that window is the best now.
       pub seek_found : (start : ℕ) → end ≤ length q → StartsAt p pm q qm start start end → first ≤ start → start < end
-          → Seek p pm q qm record { start = start; length = end - start; next = start + 1; low = end + 1; reach = reach }
+          → Seek p pm q qm record { best = Some (record { start = start; length = end - start }); next = start + 1; low = end + 1; reach = reach }
       seek_found start en T h l =
           record {
             sought = sought_found _ _ carried_wider S.sought start end (omega arith) (omega arith) en (omega arith) T.here E.none T.none;
+            best_in = λ w e. let i : record { start = start; length = end - start } ≡ w = cc in rw (← i) (omega arith);
             size_in = omega arith;
             next_in = omega arith;
             low_in = omega arith;
@@ -172,54 +179,63 @@ module _ {p pm q qm : List ℕ} where
 
 module _ {p pm q qm : List ℕ} (m : 0 < length p) (H : Inside (nth pm) (length p)) {at : Progress} (S : Seek p pm q qm at) where
   -- The search goes on to the next start that is left.
-  module _ (from next low : ℕ) (lq : at.low ≤ length q) (F : from ≡ max at.next (at.low + 1 - at.length)) (N : NoneBegins p pm q qm from next)
-      (L : low ≡ max at.low (next + length p)) where
+  module _ (from next low : ℕ) (lq : at.low ≤ length q) (F : from ≡ max at.next (at.low + 1 - limit_of (length q) at.best))
+      (N : NoneBegins p pm q qm from next) (L : low ≡ max at.low (next + length p)) where
     abbrev new : Progress
-    new = record { start = at.start; length = at.length; next = next; low = low; reach = at.reach }
+    new = record { best = at.best; next = next; low = low; reach = at.reach }
 
-    pub gone_on : Seek p pm q qm new × Advanced (length p) at new
+    pub gone_on : Seek p pm q qm new × Advanced (length q) (length p) at new
     gone_on = (
       record {
         sought = sought_clear _ _ carried_wider begin low clear;
+        best_in = S.best_in;
         size_in = S.size_in;
         next_in = N.high;
         low_in = omega (arith, N.high);
         reach_in = S.reach_in;
       },
-      record { size = refl; later = omega (arith, N.low); up = omega arith; room = omega arith },
+      record { best = refl; later = omega (arith, N.low); up = omega arith; room = omega arith },
     )
       where
-        begin : Sought (Carried p pm q qm) (length q) at.start at.length next at.low
+        begin : Sought (Carried p pm q qm) (length q) (start_of at.best) (limit_of (length q) at.best) next at.low
         begin = sought_begin _ _ carried_wider (sought_later _ _ carried_wider S.sought from F) next N.low (carried_begins m H N)
 
         clear : (e : ℕ) → e < low → Carried p pm q qm next e → ⊥
         clear e h C = elim (dec_lt e at.low) [ yes t ↦ begin.clear e t C | no t ↦ omega (arith, carried_long m next e C) ]
 
 -- The end of the search: no window is better than the best, so the best is the tightest, or there is none.
-module _ {p pm q qm : List ℕ} {at : Progress} (S : Seek p pm q qm at) where
-  found_best : ((s e : ℕ) → e ≤ length q → Carried p pm q qm s e → NoBetter at.start at.length s e) → Found p pm q qm at
-  found_best best = record { tightest = tightest; none = λ h E. omega (arith, (best 0 (length q) (omega arith) record { embeds = E }).0) }
+module _ {p pm q qm : List ℕ} where
+  found_best : (best : Option Window) {next low : ℕ} → Sought (Carried p pm q qm) (length q) (start_of best) (limit_of (length q) best) next low
+      → ((w : Window) → best ≡ Some w → w.length ≤ length q)
+      → ((s e : ℕ) → e ≤ length q → Carried p pm q qm s e → NoBetter (start_of best) (limit_of (length q) best) s e) → Found p pm q qm best
+  found_best None S i better =
+      record { tightest = λ w e. cc; none = λ h E. omega (arith, (better 0 (length q) (omega arith) record { embeds = E }).0) }
+  found_best (Some b) S i better =
+      record { tightest = λ w e. let h : b ≡ w = cc in rw (← h) tightest; none = λ e E. cc }
     where
       carried : {s w : ℕ} → Carries letters_match p pm q qm s w → Carried p pm q qm s (s + w)
       carried {s} {w} C = record { embeds = (carries_within letters_match p pm q qm s w C.inside).0 C }
 
-      tightest : at.length ≤ length q → IsTightest letters_match p pm q qm at.start at.length
-      tightest h =
-          let B = S.sought.best h in
+      tightest : IsTightest letters_match p pm q qm b.start b.length
+      tightest =
+          let B = S.best (i b refl) in
           record {
-            here = (carries_within letters_match p pm q qm at.start at.length B.0).1 B.1.embeds;
-            shortest = λ s w C. omega (arith, (best s (s + w) C.inside (carried C)).0);
-            first = λ s C. (best s (s + at.length) C.inside (carried C)).1 refl;
+            here = (carries_within letters_match p pm q qm b.start b.length B.0).1 B.1.embeds;
+            shortest = λ s w C. omega (arith, (better s (s + w) C.inside (carried C)).0);
+            first = λ s C. (better s (s + b.length) C.inside (carried C)).1 refl;
           }
 
-  pub found_clear : length q < at.low → Found p pm q qm at
-  found_clear h = found_best (over_clear _ _ carried_wider S.sought h)
+  module _ {at : Progress} (S : Seek p pm q qm at) where
+    pub found_clear : length q < at.low → Found p pm q qm at.best
+    found_clear h = found_best at.best S.sought S.best_in (over_clear _ _ carried_wider S.sought h)
 
-  pub found_short : 0 < length p → at.length ≤ length p → Found p pm q qm at
-  found_short m h = found_best (over_short _ _ carried_wider S.sought (length p) (carried_long m) h)
+    pub found_short : 0 < length p → limit_of (length q) at.best ≤ length p → Found p pm q qm at.best
+    found_short m h = found_best at.best S.sought S.best_in (over_short _ _ carried_wider S.sought (length p) (carried_long m) h)
 
 -- A motif with no bases: the window of no bases at the molecule's start is the tightest.
-pub found_empty : {p pm q qm : List ℕ} → Inside (nth pm) (length p) → length p ≡ 0 → {next low reach : ℕ}
-    → Found p pm q qm record { start = 0; length = 0; next = next; low = low; reach = reach }
+pub found_empty : {p pm q qm : List ℕ} → Inside (nth pm) (length p) → length p ≡ 0 → Found p pm q qm (Some (record { start = 0; length = 0 }))
 found_empty {p} {pm} {q} {qm} H e =
-    record { tightest = λ _. ((embedding.claims).windows_say letters_match p pm q qm H).empty e; none = λ h E. omega arith }
+    record {
+      tightest = λ w i. let h : record { start = 0; length = 0 } ≡ w = cc in rw (← h) (((embedding.claims).windows_say letters_match p pm q qm H).empty e);
+      none = λ h E. cc;
+    }

@@ -1,3 +1,4 @@
 pub mod Answers
+pub mod InStrands
 pub mod Search
 pub mod Statements

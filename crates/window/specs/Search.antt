@@ -1,20 +1,17 @@
 -- Only the functions behind the call window need this file: what they ask, and what the search knows.
-use Rattle.std.specs.Prelude.{ℕ, suc, ◌+◌, ◌≤◌, ◌<◌, ◌≡◌, true, ◌⊎◌, List, length}
+use Rattle.std.specs.Prelude.{ℕ, suc, ◌+◌, ◌≤◌, ◌<◌, ◌≡◌, true, ◌⊎◌, List, length, Option, Some, None}
 use Rattle.lists.specs.Vocabulary.{nth}
-use Rattle.refusals.specs.Rules.{motif_side, molecule_side, work_size}
+use Rattle.refusals.specs.Rules.{work_size}
 use Rattle.letters.specs.Letters.{letters_match}
-use Rattle.strand.specs.Strands.{Proper, strand_of, least_motif, least_molecule, greatest_length}
+use Rattle.strand.specs.Strands.{strand_of}
 use Rattle.embedding.specs.Embedding.{letters_fit, EmbedsIn}
 use Rattle.embedding.specs.Windows.{IsTightest}
 use Rattle.walk.specs.Walk.{TablesFor, Carried}
 use Rattle.window.specs.declared.search.Progress.{Progress}
+use Rattle.window.specs.declared.search.Window.{Window}
 
--- What every walk of the search asks: a motif and a molecule that the rules let pass, a first base of the motif (one with no bases is answered without a
--- search), its tables, and a work slice that is long enough.
-pub record Ready (p pm tables q qm work : List ℕ) : Type 0 where
-  pub motif : Proper motif_side least_motif greatest_length p pm
-  pub base : 0 < length p
-  pub molecule : Proper molecule_side least_molecule greatest_length q qm
+-- What every walk of the search asks beside what `Strands` says of motif and molecule: the tables of the motif, and a work slice that is long enough.
+pub record Ready (p pm tables q work : List ℕ) : Type 0 where
   pub made : TablesFor p pm (length q) tables
   pub room : work_size (length p) (length q) ≤ length work
 
@@ -53,23 +50,33 @@ pub record Sought (R : ℕ → ℕ → Type 0) (n start size next low : ℕ) : T
   -- and a window from before `next` that carries P is no better than the best, or its part from `next` on carries P too.
   pub past : (s e : ℕ) → s < next → e ≤ n → R s e → NoBetter start size s e ⊎ R next e
 
+-- The best window so far, as start and size: where there is none, `size` is one more than the n bases of the molecule.
+abbrev pub start_of : Option Window → ℕ
+start_of None = 0
+start_of (Some w) = w.start
+
+abbrev pub limit_of : ℕ → Option Window → ℕ
+limit_of n None = n + 1
+limit_of n (Some w) = w.length
+
 -- The same of a motif, a molecule and how far the search has come, with the bounds of its numbers.
 pub record Seek (p pm q qm : List ℕ) (at : Progress) : Type 0 where
-  pub sought : Sought (Carried p pm q qm) (length q) at.start at.length at.next at.low
-  pub size_in : at.length ≤ suc (length q)
+  pub sought : Sought (Carried p pm q qm) (length q) (start_of at.best) (limit_of (length q) at.best) at.next at.low
+  pub best_in : (w : Window) → at.best ≡ Some w → w.length ≤ length q
+  pub size_in : limit_of (length q) at.best ≤ suc (length q)
   pub next_in : at.next ≤ length q
   pub low_in : at.low ≤ length q + length p + 1
   pub reach_in : at.reach ≤ length q
 
--- The search went from `old` to `new`: the length of the best window is the same, the next start is so late that a window from there which is shorter than the
--- best may end at `low`, and P has room from there to the new `low`.
-pub record Advanced (m : ℕ) (old new : Progress) : Type 0 where
-  pub size : new.length ≡ old.length
-  pub later : old.low + 1 ≤ new.next + new.length
+-- The search went from `old` to `new`: the best window is the same, the next start is so late that a window from there which is shorter than the best may end
+-- at `low`, and P, of m bases, has room from there to the new `low`.
+pub record Advanced (n m : ℕ) (old new : Progress) : Type 0 where
+  pub best : new.best ≡ old.best
+  pub later : old.low + 1 ≤ new.next + limit_of n new.best
   pub up : old.low ≤ new.low
   pub room : new.next + m ≤ new.low
 
 -- The search is over: the best window is the tightest, or there is none.
-pub record Found (p pm q qm : List ℕ) (at : Progress) : Type 0 where
-  pub tightest : at.length ≤ length q → IsTightest letters_match p pm q qm at.start at.length
-  pub none : length q < at.length → EmbedsIn (strand_of p pm) (strand_of q qm) → ⊥
+pub record Found (p pm q qm : List ℕ) (best : Option Window) : Type 0 where
+  pub tightest : (w : Window) → best ≡ Some w → IsTightest letters_match p pm q qm w.start w.length
+  pub none : best ≡ None → EmbedsIn (strand_of p pm) (strand_of q qm) → ⊥

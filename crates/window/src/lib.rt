@@ -8,20 +8,19 @@ ghost use Rattle.refusals.specs.Rules.{WorkKept};
 ghost use Rattle.matcher.specs.Answers.{length_verdict};
 ghost use Rattle.window.specs.Answers.{window_answer};
 
-use refusals::{Refusal, Verdict};
+use refusals::Refusal;
+pub use search::Window;
 use strand::Fold;
 
-// The answer of window: start and length of the tightest window, or that none carries the motif; and the fold of the molecule.
-#[derive(Drop)]
-pub enum Windowed {
-    At {
-        start: usize,
-        length: usize,
-        fold: Fold,
-    },
-    Nowhere(Fold),
-    Refused(Refusal),
+// What window finds: the tightest window that carries the motif, if one does, and the fold of the molecule.
+#[derive(Clone, Copy, Debug, PartialEq, Eq)]
+pub struct Tightest {
+    pub window: Option<Window>,
+    pub fold: Fold,
 }
+
+// The answer of window: the tightest window, or a refusal.
+pub type Windowed = Result<Tightest, Refusal>;
 
 // The call window: of the windows of the molecule that carry an embedding of the motif the shortest, of these the first; and the fold of the molecule.
 //
@@ -32,20 +31,8 @@ pub fn window(p: &[u8], pm: &[u16], q: &[u8], qm: &[u16], work: &mut [u16]) -> W
         × WorkKept (length_verdict p.now pm.now q.now qm.now (len work.old))
         work.old work.new }
 {
-    let verdict = matcher::judge_length(p, pm, q, qm, work.len());
-    if let Verdict::Refused(x) = verdict {
-        return Windowed::Refused(x);
-    }
+    matcher::judge_length(p, pm, q, qm, work.len())?;
     let fold = strand::depth::fold_of(qm);
-    let best = search::tightest(p, pm, q, qm, work);
-    let start = best.start;
-    let length = best.length;
-    if q.len() < length {
-        return Windowed::Nowhere(fold);
-    }
-    Windowed::At {
-        start,
-        length,
-        fold,
-    }
+    let window = search::tightest(p, pm, q, qm, work);
+    Ok(Tightest { window, fold })
 }

@@ -1,64 +1,62 @@
 // The tightest window by trying every one: the shorter before the longer, of one length the earlier before the later. Each is cut out as a molecule of its
 // own, and it carries the motif where brute force finds an embedding of it there. For molecules of up to 16 bases.
-use testing::answer::{NOTHING, two};
+use std::alloc::{AllocError, Global};
 use testing::brute;
-use testing::slices::{entry_at, part, set_entry};
+use testing::pairs::Pair;
+use testing::slices::{entry, first, position_at, rest};
+use testing::strands::Strand;
+use window::Window;
 
-// The mate of base i of a window, where it has this mate in the molecule: the base is unbonded if that lies outside.
-fn mate_inside(mate: usize, start: usize, length: usize, i: usize) -> usize {
-    if mate < start {
-        return i;
-    }
-    if length <= mate - start {
-        return i;
-    }
-    mate - start
-}
+// Room for the mates and the places.
+const ROOM: usize = 16;
 
-// Writes the mates of a window.
-fn cut(qm: &[u16], start: usize, length: usize, mates: &mut [u16]) {
-    let mut i = 0;
-    while i < length {
-        set_entry(
-            mates,
-            i,
-            mate_inside(entry_at(qm, start % 65536 + i % 65536), start, length, i),
-        );
-        i += 1;
+// The mate of base i of a window, where it has this mate in the molecule: unbonded if that lies outside.
+fn mate_inside(window: Window, i: usize, mate: Option<usize>) -> u16 {
+    match mate.and_then(|mate| mate.checked_sub(window.start)) {
+        Some(inside) if inside < window.length => entry(inside),
+        _ => entry(i),
     }
 }
 
-fn carries(p: &[u8], pm: &[u16], q: &[u8], qm: &[u16], start: usize, length: usize) -> bool {
-    let mut mates = [0u16; 16];
-    let mut at = [0u16; 16];
-    cut(qm, start, length, &mut mates);
-    brute::longest(p, pm, part(q, start, length), &mates, &mut at, 0, 0) == p.len()
+// A window as a molecule of its own.
+fn cut(alloc: Global, molecule: &Strand, window: Window) -> Result<Strand, AllocError> {
+    let bases = first(rest(&molecule.bases, window.start), window.length);
+    let mates = rest(&molecule.mates, window.start);
+    Ok(Strand {
+        bases: bases.to_vec(alloc)?,
+        mates: (0..window.length.min(ROOM))
+            .map(|i| mate_inside(window, i, position_at(mates, i)))
+            .collect(alloc)?,
+    })
 }
 
-// The first start of a window of so many bases that carries the motif, or NOTHING.
-fn first_start(p: &[u8], pm: &[u16], q: &[u8], qm: &[u16], length: usize) -> usize {
-    let mut start = 0;
-    while start < q.len() {
-        if q.len() - start < length {
-            return NOTHING;
+fn carries(alloc: Global, pair: &Pair, window: Window) -> Result<bool, AllocError> {
+    let molecule = cut(alloc, &pair.molecule, window)?;
+    let found = brute::longest(&pair.motif, &molecule, &mut [0u16; ROOM], 0, 0);
+    Ok(found == pair.motif.bases.len())
+}
+
+// The first window of so many bases that carries the motif.
+fn first_window(alloc: Global, pair: &Pair, length: usize) -> Result<Option<Window>, AllocError> {
+    let n = pair.molecule.bases.len();
+    for start in 0..n {
+        if n - start < length {
+            break;
         }
-        if carries(p, pm, q, qm, start, length) {
-            return start;
+        let window = Window { start, length };
+        if carries(alloc, pair, window)? {
+            return Ok(Some(window));
         }
-        start += 1;
     }
-    NOTHING
+    Ok(None)
 }
 
-// Start and length of the tightest window as one number, 0 where there is none.
-pub fn tightest(p: &[u8], pm: &[u16], q: &[u8], qm: &[u16]) -> usize {
-    let mut length = 0;
-    while length <= q.len() {
-        let start = first_start(p, pm, q, qm, length);
-        if start != NOTHING {
-            return two(start, length);
+pub fn tightest(alloc: Global, pair: &Pair) -> Result<Option<Window>, AllocError> {
+    for length in 0..=pair.molecule.bases.len() {
+        let window = first_window(alloc, pair, length)?;
+        if window.is_some() {
+            return Ok(window);
         }
-        length += 1;
     }
-    0
+    Ok(None)
 }

@@ -3,10 +3,9 @@
 -- the row of flat_row (`no_arcs`). stretch_row makes the row of the last base or arc (`single_row`, `arc_front`) and puts the rest before it. prepend's
 -- invariant: the row is the old one with Q[i..hi) in front, and no arc leaves Q[lo..i); `prepend_front` and `prepend_step` put one more base or arc in front.
 -- Every row has the starts up to the bound where its stretch begins; `bounded_within` hands the bounds on.
-use mathlib.Core.Path.{◌≡◌}
 use Prim.Native.Nat.{◌-◌, ◌≤◌}
-use lib.ListN.{length}
-use Rattle.arcs.specs.Arcs.{Sealed, Prepended}
+use Rattle.arcs.specs.Arcs.{Sealed}
+use Rattle.arcs.specs.Pairs.{PutBefore}
 use Rattle.arcs.proofs.+inner_row_prepend_stretch_row.Given as goal
 
 abbrev pub decreases-inner_row : goal.decreases-inner_row
@@ -20,8 +19,7 @@ decreases-stretch_row l = l.hi - l.lo
 
 abbrev pub invariant-prepend-loop-i : goal.invariant-prepend-loop-i
 invariant-prepend-loop-i l =
-    (l.lo ≤ l.i) × (l.i ≤ l.hi) × Sealed l.qm l.lo l.i × Prepended l.p l.pm l.q l.qm l.tables l.from l.to l.i l.hi l.initial.work l.work ×
-    (length l.work ≡ length l.initial.work)
+    (l.lo ≤ l.i) × (l.i ≤ l.hi) × Sealed l.pair.qm.now l.lo l.i × PutBefore l.pair l.from l.to l.i l.hi l.initial.work l.work
 
 abbrev pub decreases-prepend-loop-i : goal.decreases-prepend-loop-i
 decreases-prepend-loop-i l = l.i - l.lo

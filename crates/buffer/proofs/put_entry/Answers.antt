@@ -1,9 +1,8 @@
--- `buffer::put_entry` meets its contract: what the encoder leaves in the part that is block k stands in its place.
+-- `buffer::put_entry` meets its contract: the step writes an entry into a block.
+use borrow.Author.Rules.{rules}
 use Rattle.buffer.proofs.OutcomeLaws as law
 use Rattle.buffer.proofs.put_entry.Goals as goal
 
-pub returns-then-buf-k : goal.returns-then-buf-k
-returns-then-buf-k c = law.entry_not _ _ _ _ _ _ c.if-buf-k.true
-
 pub returns : goal.returns
-returns c = law.entry_done _ _ _ _ _ _ _ _ c.if-buf-k.false c.encode_entry.ensures
+returns c =
+    law.entry_done _ _ _ _ _ _ _ _ (c.at_block.ensures _ _ (λ s t done l e. law.entry_step _ _ _ _ s.now t.now done l (search rules)))

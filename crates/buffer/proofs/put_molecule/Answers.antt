@@ -1,9 +1,8 @@
--- `buffer::put_molecule` meets its contract: what the encoder leaves in the part that is block d stands in its place.
+-- `buffer::put_molecule` meets its contract: the step writes a molecule into a block.
+use borrow.Author.Rules.{rules}
 use Rattle.buffer.proofs.OutcomeLaws as law
 use Rattle.buffer.proofs.put_molecule.Goals as goal
 
-pub returns-then-buf-d : goal.returns-then-buf-d
-returns-then-buf-d c = law.put_not _ _ _ _ c.if-buf-d.true
-
 pub returns : goal.returns
-returns c = law.put_done _ _ _ _ _ _ c.if-buf-d.false c.encode_molecule.ensures
+returns c =
+    law.molecule_done _ _ _ _ _ _ (c.at_block.ensures _ _ (λ s t done l e. law.molecule_step _ _ s.now t.now done l (search rules)))

@@ -2,7 +2,9 @@
 -- A refusal of the judge is the answer, and no buffer is written. Else the writers leave every cache block cleaned and the molecule in
 -- block d, and the fold is that of its mates, which are nested: that is `add_outcome`.
 use native.Mathlib.Omega.{arith}
-use mathlib.Core.Path.{sym, ◌∙◌}
+use mathlib.Core.Path.{sym, ap, ◌∙◌}
+use Rattle.refusals.proofs.RuleLaws.{handed_on}
+use Rattle.calls.specs.Calls.{effect}
 use Rattle.calls.proofs.FactLaws as fact
 use Rattle.strand.specs.Strands.{strand_of}
 use Rattle.strand.proofs.VerdictLaws.{proper_mates}
@@ -11,23 +13,24 @@ use Rattle.calls.proofs.CallLaws as call
 use Rattle.buffer.proofs.OutcomeLaws as outcome
 use Rattle.catalog.proofs.add.Goals as goal
 
-pub returns-in-Refused : goal.returns-in-Refused
-returns-in-Refused c =
-    sym (claim.add_refused c.args.catalog.now c.args.cache.now c.args.d
-    (strand_of c.args.bases.now c.args.mates.now) c.in-Refused.r
-    (sym c.judge_add-verdict.ensures ∙ c.in-Refused.is))
+pub returns-in_err-judge_add : goal.returns-in_err-judge_add
+returns-in_err-judge_add c =
+    ap (λ r. effect r c.args.catalog.now c.args.cache.now) (handed_on _ c.from_residual.ensures.1)
+    ∙ sym (claim.add_refused c.args.catalog.now c.args.cache.now c.args.d
+    (strand_of c.args.bases.now c.args.mates.now) _
+    (sym c.judge_add.ensures ∙ c.in_err-judge_add.was))
 
 pub fold_of-requires : goal.fold_of-requires
 fold_of-requires c =
     let all = proper_mates (omega arith) (fact.add_facts c.args.catalog.now c.args.cache.now c.args.d
-    (strand_of c.args.bases.now c.args.mates.now) (sym c.judge_add-verdict.ensures ∙ c.in_default.is)).1 in record {
+    (strand_of c.args.bases.now c.args.mates.now) (sym c.judge_add.ensures ∙ c.in_ok-judge_add.was)).1 in record {
       nested = all.0;
       mates_len_bound = all.1;
     }
 
 pub returns : goal.returns
 returns c =
-    let accepted = sym c.judge_add-verdict.ensures ∙ c.in_default.is in
+    let accepted = sym c.judge_add.ensures ∙ c.in_ok-judge_add.was in
     let f = fact.add_facts c.args.catalog.now c.args.cache.now c.args.d
     (strand_of c.args.bases.now c.args.mates.now) accepted in
     call.add_done c.args.catalog.now c.args.cache.now c.args.d

@@ -2,6 +2,7 @@
 -- One return for each rule of `query_verdict`: those of the buffers, of the motif, 9, 8, or accepted.
 use native.Mathlib.Omega.{arith}
 use mathlib.Core.Path.{sym, ◌∙◌}
+use Rattle.refusals.proofs.RuleLaws.{handed_on}
 use Rattle.calls.specs.Buffers.{most_motif_bases}
 use Rattle.calls.proofs.JudgeLaws as judge
 use Rattle.refusals.specs.Rules.{motif_side}
@@ -9,31 +10,33 @@ use Rattle.strand.specs.Strands.{strand_of, least_motif}
 use Rattle.strand.proofs.VerdictLaws.{accepted_proper}
 use Rattle.judge.proofs.judge_query.Goals as goal
 
-pub returns-in-Refused : goal.returns-in-Refused
-returns-in-Refused c =
-    judge.query_buffers_refused c.args.catalog.now c.args.cache.now (strand_of c.args.p.now c.args.pm.now)
-    c.args.work c.args.room c.in-Refused.r
-    (sym c.judge_buffers-buffers.ensures ∙ c.in-Refused.is)
+pub returns-in_err-judge_buffers : goal.returns-in_err-judge_buffers
+returns-in_err-judge_buffers c =
+    handed_on _ c.from_residual.ensures.1
+    ∙ judge.query_buffers_refused c.args.catalog.now c.args.cache.now (strand_of c.args.p.now c.args.pm.now)
+    c.args.work c.args.room _
+    (sym c.judge_buffers.ensures ∙ c.in_err-judge_buffers.was)
 
-pub returns-in-Refused-motif : goal.returns-in-Refused-motif
-returns-in-Refused-motif c =
-    judge.query_motif_refused c.args.catalog.now c.args.cache.now (strand_of c.args.p.now c.args.pm.now)
-    c.args.work c.args.room (sym c.judge_buffers-buffers.ensures ∙ c.in_default.is)
-    c.in-Refused-motif.r (sym c.check_strand-motif.ensures ∙ c.in-Refused-motif.is)
+pub returns-in_err-check_strand : goal.returns-in_err-check_strand
+returns-in_err-check_strand c =
+    handed_on _ c.from_residual-in_err-check_strand.ensures.1
+    ∙ judge.query_motif_refused c.args.catalog.now c.args.cache.now (strand_of c.args.p.now c.args.pm.now)
+    c.args.work c.args.room (sym c.judge_buffers.ensures ∙ c.in_ok-judge_buffers.was)
+    _ (sym c.check_strand.ensures ∙ c.in_err-check_strand.was)
 
-pub returns-then-room-catalog : goal.returns-then-room-catalog
-returns-then-room-catalog c =
+pub returns-then-room-block_count : goal.returns-then-room-block_count
+returns-then-room-block_count c =
     c.refuse.ensures
     ∙ judge.query_few_hits c.args.catalog.now c.args.cache.now (strand_of c.args.p.now c.args.pm.now)
-    c.args.work c.args.room (sym c.judge_buffers-buffers.ensures ∙ c.in_default.is)
-    (sym c.check_strand-motif.ensures ∙ c.in_default-motif.is) c.if-room-catalog.true
+    c.args.work c.args.room (sym c.judge_buffers.ensures ∙ c.in_ok-judge_buffers.was)
+    (sym c.check_strand.ensures ∙ c.in_ok-check_strand.was) (omega arith)
 
 pub overflow_mul-p : goal.overflow_mul-p
 overflow_mul-p c =
     omega (
       arith,
       (accepted_proper motif_side least_motif most_motif_bases c.args.p.now c.args.pm.now
-          (sym c.check_strand-motif.ensures ∙ c.in_default-motif.is)).small,
+          (sym c.check_strand.ensures ∙ c.in_ok-check_strand.was)).small,
     )
 
 pub overflow_add-p-2 : goal.overflow_add-p-2
@@ -41,18 +44,18 @@ overflow_add-p-2 c =
     omega (
       arith,
       (accepted_proper motif_side least_motif most_motif_bases c.args.p.now c.args.pm.now
-          (sym c.check_strand-motif.ensures ∙ c.in_default-motif.is)).small,
+          (sym c.check_strand.ensures ∙ c.in_ok-check_strand.was)).small,
     )
 
 pub returns-then-work-p : goal.returns-then-work-p
 returns-then-work-p c =
     c.refuse-then-work-p.ensures
     ∙ judge.query_short_work c.args.catalog.now c.args.cache.now (strand_of c.args.p.now c.args.pm.now)
-    c.args.work c.args.room (sym c.judge_buffers-buffers.ensures ∙ c.in_default.is)
-    (sym c.check_strand-motif.ensures ∙ c.in_default-motif.is) c.if-room-catalog.false c.if-work-p.true
+    c.args.work c.args.room (sym c.judge_buffers.ensures ∙ c.in_ok-judge_buffers.was)
+    (sym c.check_strand.ensures ∙ c.in_ok-check_strand.was) (omega arith) c.if-work-p.true
 
 pub returns : goal.returns
 returns c =
     judge.query_passes c.args.catalog.now c.args.cache.now (strand_of c.args.p.now c.args.pm.now)
-    c.args.work c.args.room (sym c.judge_buffers-buffers.ensures ∙ c.in_default.is)
-    (sym c.check_strand-motif.ensures ∙ c.in_default-motif.is) c.if-room-catalog.false c.if-work-p.false
+    c.args.work c.args.room (sym c.judge_buffers.ensures ∙ c.in_ok-judge_buffers.was)
+    (sym c.check_strand.ensures ∙ c.in_ok-check_strand.was) (omega arith) c.if-work-p.false

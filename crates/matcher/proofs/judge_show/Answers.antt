@@ -1,28 +1,30 @@
 -- `matcher::judge_show` meets its contract: each return is the rule that is the first to refuse, or none.
 use native.Mathlib.Omega.{arith}
 use mathlib.Core.Path.{sym, ◌∙◌}
+use Rattle.refusals.proofs.RuleLaws.{handed_on}
 use Rattle.matcher.proofs.CallLaws.{pair_setting, show_pair, show_places, show_work, show_accepts}
 use Rattle.matcher.proofs.judge_show.Goals as goal
 
-pub returns-in-Refused : goal.returns-in-Refused
-returns-in-Refused c = show_pair _ _ _ _ _ _ _ (sym c.check_pair-pair.ensures ∙ c.in-Refused.is)
+pub returns-in_err-check_pair : goal.returns-in_err-check_pair
+returns-in_err-check_pair c =
+    handed_on _ c.from_residual.ensures.1 ∙ show_pair _ _ _ _ _ _ _ (sym c.check_pair.ensures ∙ c.in_err-check_pair.was)
 
 pub returns-then-places-p : goal.returns-then-places-p
-returns-then-places-p c = c.refuse.ensures ∙ show_places _ _ _ _ _ _ (sym c.check_pair-pair.ensures ∙ c.in_default.is) c.if-places-p.true
+returns-then-places-p c = c.refuse.ensures ∙ show_places _ _ _ _ _ _ (sym c.check_pair.ensures ∙ c.in_ok-check_pair.was) c.if-places-p.true
 
 pub overflow_mul-p : goal.overflow_mul-p
-overflow_mul-p c = let S = pair_setting _ _ _ _ (sym c.check_pair-pair.ensures ∙ c.in_default.is) in omega (arith, S.segment.small, S.short)
+overflow_mul-p c = let S = pair_setting _ _ _ _ (sym c.check_pair.ensures ∙ c.in_ok-check_pair.was) in omega (arith, S.segment.small, S.short)
 
 pub overflow_mul-q : goal.overflow_mul-q
-overflow_mul-q c = let S = pair_setting _ _ _ _ (sym c.check_pair-pair.ensures ∙ c.in_default.is) in omega (arith, S.segment.small, S.short)
+overflow_mul-q c = let S = pair_setting _ _ _ _ (sym c.check_pair.ensures ∙ c.in_ok-check_pair.was) in omega (arith, S.segment.small, S.short)
 
 pub overflow_add-p-2 : goal.overflow_add-p-2
-overflow_add-p-2 c = let S = pair_setting _ _ _ _ (sym c.check_pair-pair.ensures ∙ c.in_default.is) in omega (arith, S.segment.small, S.short)
+overflow_add-p-2 c = let S = pair_setting _ _ _ _ (sym c.check_pair.ensures ∙ c.in_ok-check_pair.was) in omega (arith, S.segment.small, S.short)
 
 pub returns-then-work-p : goal.returns-then-work-p
 returns-then-work-p c =
     c.refuse-then-work-p.ensures
-    ∙ show_work _ _ _ _ _ _ (sym c.check_pair-pair.ensures ∙ c.in_default.is) c.if-places-p.false c.if-work-p.true
+    ∙ show_work _ _ _ _ _ _ (sym c.check_pair.ensures ∙ c.in_ok-check_pair.was) c.if-places-p.false c.if-work-p.true
 
 pub returns : goal.returns
-returns c = show_accepts _ _ _ _ _ _ (sym c.check_pair-pair.ensures ∙ c.in_default.is) c.if-places-p.false c.if-work-p.false
+returns c = show_accepts _ _ _ _ _ _ (sym c.check_pair.ensures ∙ c.in_ok-check_pair.was) c.if-places-p.false c.if-work-p.false

@@ -1,15 +1,10 @@
 -- `motifs::longest` meets its contract.
 -- Invariant: m is the number of bases of the longest of the first t motifs.
-use borrow.Author.Rules.{rules}
-use native.Mathlib.Omega.{arith}
 use Rattle.motifs.proofs.ReadLaws as reading
 use Rattle.motifs.proofs.longest.Goals as goal
 
 pub loop-t-init : goal.loop-t-init
-loop-t-init c = (omega arith, reading.longest_none c.args.motifs.now)
+loop-t-init c = reading.longest_none c.args.motifs.now
 
 pub loop-t-preserved : goal.loop-t-preserved
-loop-t-preserved c = (
-  search rules,
-  reading.longest_next c.args.motifs.now c.loop-t.t c.loop-t.invariant.1 c.count_at.ensures c.larger-m.ensures,
-)
+loop-t-preserved c = reading.longest_next c.args.motifs.now c.loop-t.t c.loop-t.invariant c.count_at.ensures c.max-m.ensures

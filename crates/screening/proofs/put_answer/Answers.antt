@@ -8,18 +8,16 @@ use Rattle.screening.proofs.put_answer.Goals as goal
 pub put_hits-requires : goal.put_hits-requires
 put_hits-requires c =
     record {
-      count_in_bounds = (law.fits_hits c.in-Hits.count c.in-Hits.searched _ _ most_output c.in-Hits.is
-          c.requires.answer_fits).0;
+      count_in_bounds = (law.fits_hits c.in-Ok.found _ _ most_output c.in-Ok.is c.requires.answer_fits).0;
       text_fits = omega (
         arith,
-        (law.fits_hits c.in-Hits.count c.in-Hits.searched _ _ most_output c.in-Hits.is
-            c.requires.answer_fits).1,
+        (law.fits_hits c.in-Ok.found _ _ most_output c.in-Ok.is c.requires.answer_fits).1,
         c.requires.most_output_in_bounds,
       );
     }
 
-pub returns-in-Refused : goal.returns-in-Refused
-returns-in-Refused c = law.put_refused c.in-Refused.x _ _ c.in-Refused.is c.put_refusal.ensures
+pub returns-in-Err : goal.returns-in-Err
+returns-in-Err c = law.put_refused c.in-Err.x _ _ c.in-Err.is c.put_refusal.ensures
 
-pub returns-in-Hits : goal.returns-in-Hits
-returns-in-Hits c = law.put_hits c.in-Hits.count c.in-Hits.searched _ _ c.in-Hits.is c.put_hits.ensures
+pub returns-in-Ok : goal.returns-in-Ok
+returns-in-Ok c = law.put_hits c.in-Ok.found _ _ c.in-Ok.is c.put_hits.ensures

@@ -5,4 +5,9 @@ use Rattle.screening.proofs.TextLaws.{most_refused}
 use Rattle.screening.proofs.put_refusal.Goals as goal
 
 pub put_refused-requires : goal.put_refused-requires
-put_refused-requires c = omega (arith, most_refused c.args.number c.args.side c.args.place (omega arith) (omega arith) (omega arith), c.requires)
+put_refused-requires c =
+    omega (
+      arith,
+      most_refused c.number.result c.number-2.result c.args.refusal.place c.number.type_inv c.number-2.type_inv (omega arith),
+      c.requires,
+    )

@@ -17,8 +17,8 @@ pub returns : goal.returns
 returns c =
     record {
       outcome = law.outcome_written embeds c.args.input.now c.args.out.now c.args.cache.now (length c.args.work.now)
-          c.args.hits.now (sym c.has_room.ensures ∙ c.if-not-has_room.false) c.write_output-n.ensures.text_put
-          c.write_output-n.ensures.buffers_after.0 c.write_output-n.ensures.buffers_after.1;
+          c.args.hits.now (sym c.has_room.ensures ∙ c.if-not-has_room.false) c.write_output.ensures.text_put
+          c.write_output.ensures.buffers_after.0 c.write_output.ensures.buffers_after.1;
       work_kept = law.work_room _ _ _ _ _ (sym c.has_room.ensures ∙ c.if-not-has_room.false)
-          (c.write_output-n.ensures.buffers_after.2, c.write_output-n.ensures.buffers_after.3);
+          (c.write_output.ensures.buffers_after.2, c.write_output.ensures.buffers_after.3);
     }

@@ -9,8 +9,8 @@ use Rattle.screening.specs.Text.{most_output}
 use Rattle.screening.proofs.ScreenLaws as law
 use Rattle.screening.proofs.write_output.Goals as goal
 
-pub put_word-requires : goal.put_word-requires
-put_word-requires c =
+pub put_text-requires : goal.put_text-requires
+put_text-requires c =
     omega (
       arith,
       (law.room_facts (length c.args.out.now) (length c.args.cache.now) (length c.args.work.now)
@@ -21,7 +21,7 @@ pub returns-then-not-is_input : goal.returns-then-not-is_input
 returns-then-not-is_input c =
     record {
       text_put = law.put_bad_length embeds c.args.input.now (sym c.is_input.ensures ∙ c.if-not-is_input.true)
-          c.put_word.ensures;
+          c.put_text.ensures;
       buffers_after = law.left_unasked embeds c.args.input.now c.args.out.now c.args.cache.now (length c.args.work.now)
           c.args.hits.now c.args.work.now (law.not_input _ (sym c.is_input.ensures ∙ c.if-not-is_input.true));
     }
@@ -31,8 +31,8 @@ slice_bounds-holds_motif-end c =
     sym (length-take-le 512 c.args.input.now
     (omega (arith, (law.input_few c.args.input.now (sym c.is_input.ensures ∙ c.if-not-is_input.false)).0)))
 
-pub put_word-requires-then-not-holds_motif : goal.put_word-requires-then-not-holds_motif
-put_word-requires-then-not-holds_motif c =
+pub put_text-requires-then-not-holds_motif : goal.put_text-requires-then-not-holds_motif
+put_text-requires-then-not-holds_motif c =
     omega (
       arith,
       (law.room_facts (length c.args.out.now) (length c.args.cache.now) (length c.args.work.now)
@@ -43,7 +43,7 @@ pub returns-then-not-holds_motif : goal.returns-then-not-holds_motif
 returns-then-not-holds_motif c =
     record {
       text_put = law.put_bad_motif embeds c.args.input.now (sym c.is_input.ensures ∙ c.if-not-is_input.false)
-          (sym c.holds_motif.ensures ∙ c.if-not-holds_motif.true) c.put_word-then-not-holds_motif.ensures;
+          (sym c.holds_motif.ensures ∙ c.if-not-holds_motif.true) c.put_text-then-not-holds_motif.ensures;
       buffers_after = law.left_unasked embeds c.args.input.now c.args.out.now c.args.cache.now (length c.args.work.now)
           c.args.hits.now c.args.work.now (law.asked_by_motif _ _ (sym c.is_input.ensures ∙ c.if-not-is_input.false)
           (sym c.holds_motif.ensures ∙ c.if-not-holds_motif.true));

@@ -4,7 +4,8 @@
 use mathlib.Core.Path.{◌≡◌}
 use Prim.Native.Nat.{◌+◌, ◌-◌, ◌*◌}
 use lib.ListN.{length}
-use Rattle.placing.specs.Placing.{Laid, Walked}
+use Rattle.placing.specs.Placing.{Walked}
+use Rattle.placing.specs.Pairs.{LaidIn}
 use Rattle.trace.proofs.+along_descend_enter_past_place_place_arc.Given as goal
 
 abbrev pub decreases-along : goal.decreases-along
@@ -26,8 +27,11 @@ abbrev pub decreases-place_arc : goal.decreases-place_arc
 decreases-place_arc l = 8192 * (l.r - l.l)
 
 abbrev pub invariant-place-loop-l : goal.invariant-place-loop-l
-invariant-place-loop-l l = Walked l.p l.pm l.q l.qm l.to l.from l.lo l.hi l.j l.l
-    × Laid l.p l.pm l.q l.qm l.from l.j l.lo l.l l.initial.places l.places × (length l.work ≡ length l.initial.work)
+invariant-place-loop-l l = record {
+  walked : Walked l.pair.motif.bases.now l.pair.motif.mates.now l.pair.q.now l.pair.qm.now l.to l.from l.lo l.hi l.j l.l;
+  laid : LaidIn l.pair l.from l.j l.lo l.l l.initial.places l.places;
+  work_room : length l.work ≡ length l.initial.work;
+}
 
 abbrev pub decreases-place-loop-l : goal.decreases-place-loop-l
 decreases-place-loop-l l = l.hi - l.l

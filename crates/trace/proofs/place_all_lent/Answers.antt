@@ -8,7 +8,7 @@ use Rattle.trace.proofs.place_all_lent.Goals as goal
 pub place-requires : goal.place-requires
 place-requires c =
     record {
-      setting = c.requires.setting;
+      segment = (omega arith, omega arith, c.requires.setting.segment.same);
       lo_le_hi = omega arith;
       sealed = all_sealed c.requires.setting.molecule;
       to_in_bounds = c.requires.room;

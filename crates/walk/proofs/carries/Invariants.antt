@@ -1,6 +1,5 @@
 -- `walk::carries` meets its contract. The invariant: Q[lo..l) takes the motif to `from` and no further, and no arc of the window goes past l
 -- (`Passed`); the tables are those of the motif. It stops before the end where no embedding of the whole motif is left (`too_short`, `out_of_bounds`).
-use mathlib.Core.Path.{◌≡◌}
 use Prim.Native.Nat.{◌-◌}
 use lib.ListN.{length}
 use Rattle.walk.specs.Walk.{TablesFor}
@@ -9,8 +8,7 @@ use Rattle.walk.proofs.carries.Given as goal
 
 abbrev pub invariant-loop-l : goal.invariant-loop-l
 invariant-loop-l l =
-    Passed l.p l.pm l.q l.qm l.lo l.hi l.from l.l × (length l.work ≡ length l.initial.work) ×
-    TablesFor l.p l.pm (length l.q) l.tables × (length l.tables ≡ length l.initial.tables)
+    Passed l.p l.pm l.q l.qm l.lo l.hi l.from l.l × TablesFor l.p l.pm (length l.q) l.tables
 
 abbrev pub decreases-loop-l : goal.decreases-loop-l
 decreases-loop-l l = l.hi - l.l

@@ -1,10 +1,8 @@
 -- `walk::prefix_length` meets its contract: proper strands are what the walk asks for; where the walk to the first arc ends the motif or the
 -- molecule, it has the answer.
+use mathlib.Core.Logic.{⊎_elim}
 use Rattle.walk.proofs.Whole.{all_taken, all_walked}
 use Rattle.walk.proofs.prefix_length.Goals as goal
 
-pub returns-then-q-base : goal.returns-then-q-base
-returns-then-q-base c = all_walked c.first_arc-at.ensures c.if-q-base.true
-
-pub returns-then-p-from : goal.returns-then-p-from
-returns-then-p-from c = all_taken c.first_arc-at.ensures c.if-p-from.true
+pub returns-then-q-at : goal.returns-then-q-at
+returns-then-q-at c = ⊎_elim (λ h. all_walked c.first_arc-at.ensures h) (λ h. all_taken c.first_arc-at.ensures h.1) c.then-q-at.either

@@ -1,10 +1,6 @@
 -- `walk::unbonded` meets its contract. The invariant: the bases from lo to before i are unbonded.
-use Prim.Native.Nat.{◌-◌, ◌≤◌}
 use Rattle.walk.specs.Walk.{Unbonded}
 use Rattle.walk.proofs.unbonded.Given as goal
 
 abbrev pub invariant-loop-i : goal.invariant-loop-i
-invariant-loop-i l = Unbonded l.qm l.lo l.i × (l.lo ≤ l.i)
-
-abbrev pub decreases-loop-i : goal.decreases-loop-i
-decreases-loop-i l = l.hi - l.i
+invariant-loop-i l = Unbonded l.qm l.lo l.i

@@ -11,9 +11,9 @@ returns-then-p-bound c = next_all _ _ _ c.if-p-bound.true
 pub returns-then-tables-bound : goal.returns-then-tables-bound
 returns-then-tables-bound c =
     next_taken _ _ _ c.if-p-bound.false
-    (sym (own_match c.requires.tables _ _ _ c.if-p-bound.false c.letter_class.ensures) ∙ eq-eqb _ _ c.if-tables-bound.true)
+    (sym (own_match c.requires.tables _ _ _ c.if-p-bound.false (c.from.ensures ∙ c.letter_class.ensures)) ∙ eq-eqb _ _ c.if-tables-bound.true)
 
 pub returns : goal.returns
 returns c =
     next_left _ _ _ c.if-p-bound.false
-    (sym (own_match c.requires.tables _ _ _ c.if-p-bound.false c.letter_class.ensures) ∙ ne_eqb _ _ c.if-tables-bound.false)
+    (sym (own_match c.requires.tables _ _ _ c.if-p-bound.false (c.from.ensures ∙ c.letter_class.ensures)) ∙ ne_eqb _ _ c.if-tables-bound.false)

@@ -1,8 +1,7 @@
 -- `block::checksum::put_checksum` meets its contract: less than a block stays; else the four bytes of the sum are stored.
 use native.Mathlib.Omega.{arith}
-use mathlib.Core.Path.{sym}
-use Rattle.block.specs.Content.{rechecked, checksum_of}
-use Rattle.block.proofs.SumLaws.{sum_none, rechecked_short, rechecked_is}
+use mathlib.Core.Path.{sym, ◌∙◌}
+use Rattle.block.proofs.SumLaws.{sum_none, rechecked_short, checksum_put}
 use Rattle.block.proofs.checksum.put_checksum.Goals as goal
 
 pub returns-then-s-lt-BLOCK_SIZE : goal.returns-then-s-lt-BLOCK_SIZE
@@ -16,5 +15,4 @@ gather-x-requires c =
     }
 
 pub returns : goal.returns
-unfolding rechecked checksum_of
-returns c = rechecked_is _ _ c.if-s-lt-BLOCK_SIZE.false cc
+returns c = checksum_put _ _ _ (omega arith) c.gather-x.ensures (c.copy_from_slice.ensures.after ∙ c.to_le_bytes.ensures)

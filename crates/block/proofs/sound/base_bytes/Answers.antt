@@ -1,41 +1,25 @@
 -- `block::sound::base_bytes` meets its contract: each return is one rule on the bytes, and each stretch begins where the one before ended.
-use native.Mathlib.Omega.{arith}
-use mathlib.Core.Path.{sym, ◌∙◌}
-use borrow.Author.Tests.{not-true, not-false}
-use Rattle.lists.proofs.ListLaws.{never}
+use mathlib.Core.Path.{sym, refl, ◌∙◌}
 use Rattle.block.proofs.SumLaws.{sum_none}
 use Rattle.block.proofs.SoundLaws as laws
+use Rattle.block.proofs.WalkLaws.{handed, not_handed, hand_none, hand_on}
 use Rattle.block.proofs.sound.base_bytes.Goals as goal
 
-pub gather-requires : goal.gather-requires
-gather-requires c =
-    record {
-      a_le_e = (omega arith, omega arith, omega arith);
-      sum_value = sym (sum_none _);
-    }
+pub gather-requires-clause-sum_value : goal.gather-requires-clause-sum_value
+gather-requires-clause-sum_value c = sym (sum_none _)
 
-pub returns-then-not-head : goal.returns-then-not-head
-returns-then-not-head c =
-    let wrong = not-true _ c.if-not-head.true in
-    record {
-      ok_value = wrong ∙ laws.head_not_blank _ _ _ _ _ _ (sym c.zeros-head.ensures.ok_value ∙ wrong);
-      sum_value = λ e. never (sym wrong ∙ e);
-    }
+pub returns-in_err-head : goal.returns-in_err-head
+returns-in_err-head c =
+    c.from_residual.ensures ∙ hand_none _ _ (sym (laws.head_not_blank _ _ _ _ _ _ (not_handed _ _ (sym c.in_err-head.was ∙ c.zeros.ensures))))
 
-pub returns-then-not-bases : goal.returns-then-not-bases
-returns-then-not-bases c =
-    let wrong = not-true _ c.if-not-bases.true in
-    record {
-      ok_value = wrong ∙ laws.not_all_letters _ _ _ _ _ _ (sym c.zeros-head.ensures.ok_value ∙ not-false _ c.if-not-head.false)
-          (sym c.bases-bases.ensures.ok_value ∙ wrong);
-      sum_value = λ e. never (sym wrong ∙ e);
-    }
+pub returns-in_err-bases : goal.returns-in_err-bases
+returns-in_err-bases c =
+    let head = handed _ _ _ (sym c.in_ok-head.was ∙ c.zeros.ensures) in
+    c.from_residual-in_err-bases.ensures
+    ∙ hand_none _ _ (sym (laws.not_all_letters _ _ _ _ _ _ head.0 (not_handed _ _ (sym c.in_err-bases.was ∙ c.bases.ensures))))
 
 pub returns : goal.returns
 returns c =
-    record {
-      ok_value = c.zeros.ensures.ok_value
-          ∙ laws.all_but_unused _ _ _ _ _ _ (sym c.zeros-head.ensures.ok_value ∙ not-false _ c.if-not-head.false)
-          (sym c.bases-bases.ensures.ok_value ∙ not-false _ c.if-not-bases.false);
-      sum_value = c.zeros.ensures.sum_value_2;
-    }
+    let head = handed _ _ _ (sym c.in_ok-head.was ∙ c.zeros.ensures) in
+    let bases = handed _ _ _ (sym c.in_ok-bases.was ∙ c.bases.ensures) in
+    hand_on _ _ _ _ _ c.zeros-2.ensures (laws.all_but_unused _ _ _ _ _ _ head.0 bases.0) (λ e. refl)

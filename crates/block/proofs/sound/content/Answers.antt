@@ -1,49 +1,29 @@
 -- `block::sound::content` meets its contract: each return is one rule on the content.
 use native.Mathlib.Omega.{arith}
 use mathlib.Core.Path.{sym, ap, ◌∙◌}
-use borrow.Author.Tests.{not-true, not-false}
-use Rattle.lists.proofs.ListLaws.{never}
 use Rattle.block.specs.Content.{sum_to}
 use Rattle.block.proofs.SoundLaws as laws
+use Rattle.block.proofs.WalkLaws.{handed, not_handed, hand_none, hand_on}
 use Rattle.block.proofs.sound.content.Goals as goal
 
-pub returns-then-k-mark : goal.returns-then-k-mark
-returns-then-k-mark c =
-    let wrong = c.refused.ensures in record {
-      ok_value = wrong ∙ laws.bytes_wrong _ _ (sym (laws.other_mark _ _ _ c.if-k-mark.true));
-      sum_value = λ e. never (sym wrong ∙ e);
-    }
+pub returns-then-k-kind : goal.returns-then-k-kind
+returns-then-k-kind c = hand_none _ _ (sym (laws.bytes_wrong _ _ (sym (laws.other_mark _ _ _ c.if-k-kind.true))))
 
-pub returns-then-n-least : goal.returns-then-n-least
-returns-then-n-least c =
-    let wrong = c.refused-then-n-least.ensures in
-    record {
-      ok_value = wrong ∙ laws.bytes_wrong _ _ (sym (laws.too_few_bases _ _ _ c.if-k-mark.false c.if-n-least.true));
-      sum_value = λ e. never (sym wrong ∙ e);
-    }
+pub returns-then-n-kind : goal.returns-then-n-kind
+returns-then-n-kind c = hand_none _ _ (sym (laws.bytes_wrong _ _ (sym (laws.too_few_bases _ _ _ c.if-k-kind.false c.if-n-kind.true))))
 
-pub returns-then-most-n : goal.returns-then-most-n
-returns-then-most-n c =
-    let wrong = c.refused-then-most-n.ensures in
-    record {
-      ok_value = wrong ∙ laws.bytes_wrong _ _ (sym (laws.too_many_bases _ _ _ c.if-k-mark.false c.if-n-least.false c.if-most-n.true));
-      sum_value = λ e. never (sym wrong ∙ e);
-    }
+pub returns-then-kind-n : goal.returns-then-kind-n
+returns-then-kind-n c =
+    hand_none _ _ (sym (laws.bytes_wrong _ _ (sym (laws.too_many_bases _ _ _ c.if-k-kind.false c.if-n-kind.false c.if-kind-n.true))))
 
-pub returns-then-not-bases : goal.returns-then-not-bases
-returns-then-not-bases c =
-    let wrong = not-true _ c.if-not-bases.true in record {
-      ok_value = wrong
-          ∙ laws.bytes_wrong _ _
-          (sym (laws.bases_wrong _ _ _ c.if-k-mark.false c.if-n-least.false c.if-most-n.false (sym c.base_bytes-bases.ensures.ok_value ∙ wrong)));
-      sum_value = λ e. never (sym wrong ∙ e);
-    }
+pub returns-in_err-bases : goal.returns-in_err-bases
+returns-in_err-bases c =
+    let wrong = not_handed _ _ (sym c.in_err-bases.was ∙ c.base_bytes.ensures) in
+    c.from_residual.ensures
+    ∙ hand_none _ _ (sym (laws.bytes_wrong _ _ (sym (laws.bases_wrong _ _ _ c.if-k-kind.false c.if-n-kind.false c.if-kind-n.false wrong))))
 
 pub returns : goal.returns
 returns c =
-    record {
-      ok_value = c.mate_bytes.ensures.ok_value
-          ∙ laws.content_mates _ _ c.if-k-mark.false c.if-n-least.false c.if-most-n.false
-          (sym c.base_bytes-bases.ensures.ok_value ∙ not-false _ c.if-not-bases.false);
-      sum_value = λ e. c.mate_bytes.ensures.sum_value_2 e ∙ ap (sum_to _) (omega arith);
-    }
+    let bases = handed _ _ _ (sym c.in_ok-bases.was ∙ c.base_bytes.ensures) in
+    hand_on _ _ _ _ _ c.mate_bytes.ensures (laws.content_mates _ _ c.if-k-kind.false c.if-n-kind.false c.if-kind-n.false bases.0)
+    (λ e. ap (sum_to _) (omega arith))

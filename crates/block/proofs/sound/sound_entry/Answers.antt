@@ -1,8 +1,8 @@
 -- `block::sound::sound_entry` meets its contract: each return is one rule. A block that begins with 0 has no kind, so it must be empty; any other has a
 -- content and maps, and the sum over both is compared.
-use borrow.Author.Tests.{not-false, not-true}
 use mathlib.Core.Path.{◌∙◌, sym}
 use Rattle.block.proofs.SoundLaws as laws
+use Rattle.block.proofs.WalkLaws.{handed, not_handed}
 use Rattle.block.proofs.sound.sound_entry.Goals as goal
 
 pub returns-then-s-ne-BLOCK_SIZE : goal.returns-then-s-ne-BLOCK_SIZE
@@ -11,17 +11,17 @@ returns-then-s-ne-BLOCK_SIZE c = laws.entry_length _ c.if-s-ne-BLOCK_SIZE.true
 pub returns-then-s-eq0 : goal.returns-then-s-eq0
 returns-then-s-eq0 c = c.all_zero.ensures ∙ laws.entry_unmarked _ c.if-s-ne-BLOCK_SIZE.false c.if-s-eq0.true
 
-pub returns-then-not-content : goal.returns-then-not-content
-returns-then-not-content c = laws.entry_content _ c.if-s-ne-BLOCK_SIZE.false c.if-s-eq0.false
-    (sym c.content-content.ensures.ok_value ∙ not-true _ c.if-not-content.true)
+pub returns-in_default : goal.returns-in_default
+returns-in_default c =
+    laws.entry_content _ c.if-s-ne-BLOCK_SIZE.false c.if-s-eq0.false (not_handed _ _ (sym c.in_default.is ∙ c.content.ensures))
 
-pub returns-then-not-maps : goal.returns-then-not-maps
-returns-then-not-maps c =
-    laws.entry_hits _ c.if-s-ne-BLOCK_SIZE.false c.if-s-eq0.false (sym c.content-content.ensures.ok_value ∙ not-false _ c.if-not-content.false)
-    (sym c.maps-maps.ensures.ok_value ∙ not-true _ c.if-not-maps.true)
+pub returns-in_default-maps : goal.returns-in_default-maps
+returns-in_default-maps c =
+    let content = handed _ _ _ (sym c.in-Some.is ∙ c.content.ensures) in
+    laws.entry_hits _ c.if-s-ne-BLOCK_SIZE.false c.if-s-eq0.false content.0 (not_handed _ _ (sym c.in_default-maps.is ∙ c.maps.ensures))
 
 pub returns : goal.returns
 returns c =
-    laws.sum_check _ c.maps-maps.ensures.sum_value_2 c.checksum_in.ensures
-    ∙ laws.entry_check _ c.if-s-ne-BLOCK_SIZE.false c.if-s-eq0.false (sym c.content-content.ensures.ok_value ∙ not-false _ c.if-not-content.false)
-    (sym c.maps-maps.ensures.ok_value ∙ not-false _ c.if-not-maps.false)
+    let content = handed _ _ _ (sym c.in-Some.is ∙ c.content.ensures) in
+    let maps = handed _ _ _ (sym c.in-Some-maps.is ∙ c.maps.ensures) in
+    laws.sum_check _ maps.1 c.checksum_in.ensures ∙ laws.entry_check _ c.if-s-ne-BLOCK_SIZE.false c.if-s-eq0.false content.0 maps.0

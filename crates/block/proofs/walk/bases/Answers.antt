@@ -2,30 +2,25 @@
 use native.Mathlib.Omega.{arith}
 use mathlib.Core.Path.{refl}
 use Rattle.letters.specs.Letters.{is_letter}
-use Rattle.block.proofs.WalkLaws.{part_length, tested_none, tested_next, tested_end}
+use Rattle.block.proofs.WalkLaws.{hand_on, part_length, tested_none, tested_next, tested_end}
 use Rattle.block.proofs.walk.bases.Goals as goal
 
-pub loop-i-init : goal.loop-i-init
-loop-i-init c =
-    let s = c.args.s.now in (
-      omega arith,
-      part_length s _ _ (omega arith) (omega arith),
-      omega arith,
-      tested_none (is_letter c.args.side) s _ _ (λ i. omega (arith, c.shared_slice_known-1.given i)) (omega arith)
-          c.requires.sum_value,
-    )
+pub loop-b-init : goal.loop-b-init
+loop-b-init c = (
+  omega arith,
+  tested_none (is_letter c.args.side) c.args.s.now _ _ (λ i. omega (arith, c.type_inv.s i)) (omega arith) c.requires.sum_value,
+)
 
-pub loop-i-preserved : goal.loop-i-preserved
-loop-i-preserved c =
-    let more = tested_next (is_letter c.args.side) c.args.s.now _ c.args.e _ _ _ _ _ _ _ c.loop-i.invariant.3
-    (omega (arith, c.loop-i.invariant.1)) (omega arith) refl (omega (arith, c.shared_slice_known-in-loop-i-1.given c.loop-i.i))
-    c.is_letter.ensures c.smaller-least.ensures (rw c.loop-i.invariant.2 at c.weighed-total.ensures) in
-    (omega arith, c.loop-i.invariant.1, omega arith, more)
+pub loop-b-preserved : goal.loop-b-preserved
+loop-b-preserved c =
+    let long = part_length c.args.s.now c.args.a c.args.e (omega arith) (omega arith) in (
+      omega arith,
+      tested_next (is_letter c.args.side) c.args.s.now _ c.args.e _ _ _ _ _ _ c.loop-b.invariant.1 (omega (arith, long)) (omega arith) refl
+          (λ i. omega (arith, c.type_inv.s i)) c.is_letter.ensures c.min-least.ensures (rw c.loop-b.invariant.0 at c.weighed-total.ensures),
+    )
 
 pub returns : goal.returns
 returns c =
-    let all = tested_end (is_letter c.args.side) c.args.s.now _ _ _ _ _ c.loop-i.invariant.3 (omega arith) (omega arith)
-    (omega (arith, c.loop-i.invariant.1)) in record {
-      ok_value = all.0;
-      sum_value_2 = all.1;
-    }
+    let long = part_length c.args.s.now c.args.a c.args.e (omega arith) (omega arith) in
+    let all = tested_end (is_letter c.args.side) c.args.s.now _ _ _ _ _ c.loop-b.invariant.1 (omega arith) (omega arith) (omega (arith, long)) in
+    hand_on _ _ _ _ _ c.then_some.ensures all.0 (λ e. all.1)

@@ -1,8 +1,7 @@
 -- `block::walk::maps` meets its contract: the total has the bytes of both maps that have been passed, and `least` is 1 exactly where each hit byte lies
 -- within its searched byte.
-use Prim.Native.Nat.{◌+◌, ◌-◌, ◌*◌, ◌≤◌}
+use Prim.Native.Nat.{◌+◌, ◌*◌, ◌≤◌}
 use mathlib.Core.Path.{◌≡◌}
-use lib.ListN.{length}
 use Rattle.lists.specs.Vocabulary.{every, choose}
 use Rattle.block.proofs.SoundLaws.{hit_byte}
 use Rattle.block.proofs.WalkLaws.{MapsPassed}
@@ -10,8 +9,4 @@ use Rattle.block.proofs.walk.maps.Given as goal
 
 abbrev pub invariant-loop-i : goal.invariant-loop-i
 invariant-loop-i l =
-    (l.i ≤ 64) × (length l.s ≡ 512) × (l.weight ≡ 380 + l.i + 1) × MapsPassed l.s l.i l.total × (l.total ≤ 129540 * (380 + 2 * l.i))
-    × (l.least ≡ choose (every l.i (hit_byte l.s)) 1 0)
-
-abbrev pub decreases-loop-i : goal.decreases-loop-i
-decreases-loop-i l = 64 - l.i
+    MapsPassed l.s l.i l.total × (l.total ≤ 129540 * (380 + 2 * l.i)) × (l.least ≡ choose (every l.i (hit_byte l.s)) 1 0)

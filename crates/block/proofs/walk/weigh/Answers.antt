@@ -1,24 +1,34 @@
 -- `block::walk::weigh` meets its contract: the total has what the low bytes of the mates passed add, and `outside` is 0 exactly where they are in range.
 use native.Mathlib.Omega.{arith}
+use mathlib.Core.Path.{◌∙◌, sym, ap}
+use Prim.Native.Nat.{ℕ, ◌+◌}
 use Rattle.lists.specs.Vocabulary.{nth}
-use Rattle.block.proofs.WalkLaws.{low_none, low_small, low_next, counted_none, counted_next}
+use Rattle.block.specs.Walk.{low_sum}
+use Rattle.block.proofs.WalkLaws.{low_none, low_small, low_next, counted_none, counted_next, counted_end, handed, not_handed}
 use Rattle.block.proofs.walk.weigh.Goals as goal
 
-pub loop-i-init : goal.loop-i-init
-loop-i-init c =
+pub loop-mate-init : goal.loop-mate-init
+loop-mate-init c =
     let m = c.args.mates.now in
-    (omega arith, omega arith, omega (arith, low_none c.args.at m), omega (arith, c.requires.sum_bound), counted_none m _)
+    (omega arith, omega (arith, low_none c.args.at m), omega (arith, c.requires.sum_bound), counted_none m _)
 
-pub loop-i-preserved : goal.loop-i-preserved
-loop-i-preserved c =
-    let small = low_small c.args.at c.loop-i.i (nth c.args.mates.now c.loop-i.i) c.loop-i.invariant.1 (omega arith)
-    c.weighed-total.ensures in
+pub loop-mate-preserved : goal.loop-mate-preserved
+loop-mate-preserved c =
     let m = c.args.mates.now in
-    let r = c.reaches-outside.ensures in (
+    let adds = rw c.loop-mate.invariant.0 at c.weighed-total.ensures in
+    let small = low_small c.args.at c.loop-mate.mate-index (nth m c.loop-mate.mate-index) (omega arith) adds in (
       omega arith,
-      omega arith,
-      low_next c.args.at m c.loop-i.i c.args.sum c.loop-i.invariant.1 c.loop-i.invariant.2
-          (omega arith) c.weighed-total.ensures,
+      low_next c.args.at m c.loop-mate.mate-index c.args.sum c.loop-mate.invariant.1 (omega arith) adds,
       omega (arith, small),
-      counted_next m _ _ _ _ c.loop-i.invariant.4 r.0 r.1.0 r.1.1,
+      counted_next m _ _ _ c.loop-mate.invariant.3,
     )
+
+pub returns : goal.returns
+returns c =
+    let t = counted_end c.args.mates.now _ _ _ c.loop-mate.invariant.3 (omega arith) (omega arith) in
+    record {
+      none = λ e. t.no (not_handed _ _ (sym e ∙ c.then_some.ensures));
+      some = λ total e.
+          let h = handed _ _ total (sym e ∙ c.then_some.ensures) in
+          (t.yes h.0, h.1 ∙ c.loop-mate.invariant.1 ∙ ap (λ (k : ℕ). c.args.sum + low_sum c.args.at c.args.mates.now k) (omega arith));
+    }

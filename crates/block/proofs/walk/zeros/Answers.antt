@@ -1,12 +1,9 @@
 -- `block::walk::zeros` meets its contract: the part is tested, and zeros add nothing.
-use mathlib.Core.Path.{◌∙◌, sym}
+use mathlib.Core.Path.{◌∙◌}
 use native.Mathlib.Omega.{arith}
-use Rattle.block.proofs.WalkLaws.{zeros_add}
+use Rattle.block.proofs.WalkLaws.{hand_on, zeros_add}
 use Rattle.block.proofs.walk.zeros.Goals as goal
 
 pub returns : goal.returns
 returns c =
-    record {
-      ok_value = c.all_zero.ensures;
-      sum_value_2 = λ e. c.requires.sum_value ∙ zeros_add _ _ _ (omega arith) (omega arith) (sym c.all_zero.ensures ∙ e);
-    }
+    hand_on _ _ _ _ _ c.then_some.ensures c.all_zero.ensures (λ e. c.requires.sum_value ∙ zeros_add _ _ _ (omega arith) (omega arith) e)

@@ -3,7 +3,6 @@ use native.Mathlib.Omega.{arith}
 use mathlib.Core.Path.{sym, ◌∙◌}
 use Rattle.codec.proofs.OutcomeLaws as law
 use Rattle.block.proofs.SumLaws.{rechecked_whole_lem}
-use Rattle.block.specs.Content.{content_of}
 use Rattle.codec.proofs.WriteLaws.{entry_put_lem}
 use Rattle.codec.proofs.entry.encode_entry.Goals as goal
 
@@ -20,24 +19,23 @@ returns-then-hits-ne-MAP_SIZE c = law.entry_hits_size _ _ _ _ _ (sym c.strand_fi
 pub put_content-requires : goal.put_content-requires
 put_content-requires c =
     let f = law.fits_all 120 _ _ _ (sym c.strand_fits.ensures ∙ c.if-not-strand_fits.false) in
-    (omega arith, omega arith, omega (arith, f.0), omega arith, f.1, f.2)
+    (omega (arith, f.0), f.1, f.2)
 
-pub slice_bounds-copy-end : goal.slice_bounds-copy-end
-slice_bounds-copy-end c =
+pub slice_bounds-copy_from_slice-end : goal.slice_bounds-copy_from_slice-end
+slice_bounds-copy_from_slice-end c =
     let f = law.fits_all 120 _ _ _ (sym c.strand_fits.ensures ∙ c.if-not-strand_fits.false) in
     omega (arith, f.0, c.put_content.auto.s)
 
-pub slice_bounds-copy-end-2 : goal.slice_bounds-copy-end-2
-slice_bounds-copy-end-2 c =
+pub slice_bounds-copy_from_slice-end-2 : goal.slice_bounds-copy_from_slice-end-2
+slice_bounds-copy_from_slice-end-2 c =
     let f = law.fits_all 120 _ _ _ (sym c.strand_fits.ensures ∙ c.if-not-strand_fits.false) in
-    omega (arith, f.0, c.copy.auto.dst, c.put_content.auto.s)
+    omega (arith, f.0, c.copy_from_slice.ensures.len, c.put_content.auto.s)
 
 pub returns : goal.returns
-unfolding content_of
 returns c =
     let f = law.fits_all 120 _ _ _ (sym c.strand_fits.ensures ∙ c.if-not-strand_fits.false) in
     law.entry_done _ _ _ _ _ (sym c.strand_fits.ensures ∙ c.if-not-strand_fits.false) _ c.if-searched-ne-MAP_SIZE.false c.if-hits-ne-MAP_SIZE.false
     (entry_put_lem
     _ _ _ _ c.args.s.now _ _ _ _ f.0 f.1 f.2 c.if-searched-ne-MAP_SIZE.false c.if-hits-ne-MAP_SIZE.false c.put_content.ensures
-    c.copy.ensures c.copy-2.ensures (c.put_checksum.ensures
-    ∙ rechecked_whole_lem _ (omega (arith, f.0, c.copy-2.auto.dst, c.copy.auto.dst, c.put_content.auto.s))))
+    c.copy_from_slice.ensures.after c.copy_from_slice-2.ensures.after (c.put_checksum.ensures
+    ∙ rechecked_whole_lem _ (omega (arith, f.0, c.copy_from_slice-2.ensures.len, c.copy_from_slice.ensures.len, c.put_content.auto.s))))

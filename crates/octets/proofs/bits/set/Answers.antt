@@ -2,15 +2,11 @@
 use Rattle.octets.proofs.BitLaws.{set_map_out}
 use Rattle.octets.specs.Bits.{set_map}
 use mathlib.Core.Path.{sym}
-use native.Mathlib.Omega.{arith}
 use Rattle.octets.proofs.bits.set.Goals as goal
 
-pub returns-then-j-s : goal.returns-then-j-s
+pub returns-in-Some : goal.returns-in-Some
 unfolding set_map
-returns-then-j-s c = rw c.with_bit.ensures
+returns-in-Some c = rw (c.with_bit.ensures, c.in-Some.ensures.0)
 
-pub returns-else-j-s : goal.returns-else-j-s
-returns-else-j-s c = sym (set_map_out _ _ _ (omega arith))
-
-pub returns-else-at-s : goal.returns-else-at-s
-returns-else-at-s c = sym (set_map_out _ _ _ (omega arith))
+pub returns-in_default : goal.returns-in_default
+returns-in_default c = sym (set_map_out _ _ _ c.in_default.ensures)

@@ -1,12 +1,9 @@
 -- `octets::scan::all_zero` meets its contract: the largest byte passed is 0 exactly where every byte passed is.
-use native.Mathlib.Omega.{arith}
 use Rattle.octets.proofs.ScanLaws.{largest_none, largest_next}
 use Rattle.octets.proofs.scan.all_zero.Goals as goal
 
-pub loop-i-init : goal.loop-i-init
-loop-i-init c = (omega arith, largest_none _)
+pub loop-b-init : goal.loop-b-init
+loop-b-init c = largest_none _
 
-pub loop-i-preserved : goal.loop-i-preserved
-loop-i-preserved c =
-    let s = c.args.s.now in
-    (omega arith, largest_next s _ _ c.larger-largest.ensures c.loop-i.invariant.1)
+pub loop-b-preserved : goal.loop-b-preserved
+loop-b-preserved c = largest_next c.args.s.now _ _ c.max-largest.ensures c.loop-b.invariant

@@ -8,12 +8,11 @@ use Rattle.lists.proofs.ListLaws.{tab_more, tab_none}
 use Rattle.octets.proofs.scan.read_words.Goals as goal
 
 pub loop-i-init : goal.loop-i-init
-loop-i-init c = (omega arith, omega arith, refl, tab_none _ _)
+loop-i-init c = (omega arith, refl, tab_none _ _)
 
 pub loop-i-preserved : goal.loop-i-preserved
 loop-i-preserved c = (
   omega arith,
-  omega arith,
-  simp length-set c.loop-i.invariant.2,
-  rw (c.loop-i.invariant.3, c.word_at.ensures) (tab_more (λ k. word16 _ (2 * k)) _ _ (omega arith)),
+  simp length-set c.loop-i.invariant.1,
+  rw (c.loop-i.invariant.2, c.word_at.ensures) (tab_more (λ k. word16 _ (2 * k)) _ _ (omega arith)),
 )

@@ -1,5 +1,5 @@
 -- `octets::scan::read_words` meets its contract: the first i numbers are read, the rest is as it was.
-use Prim.Native.Nat.{◌-◌, ◌*◌, ◌≤◌}
+use Prim.Native.Nat.{◌*◌, ◌≤◌}
 use mathlib.Core.Path.{◌≡◌}
 use mathlib.Core.List.{◌++◌}
 use lib.ListN.{length, drop}
@@ -9,8 +9,5 @@ use Rattle.octets.proofs.scan.read_words.Given as goal
 
 abbrev pub invariant-loop-i : goal.invariant-loop-i
 invariant-loop-i l =
-    (l.i ≤ length l.initial.out) × (2 * length l.initial.out ≤ length l.s) × (length l.out ≡ length l.initial.out) ×
+    (2 * length l.initial.out ≤ length l.s) × (length l.out ≡ length l.initial.out) ×
     (l.out ≡ tab l.i (λ k. word16 l.s (2 * k)) ++ drop l.i l.initial.out)
-
-abbrev pub decreases-loop-i : goal.decreases-loop-i
-decreases-loop-i l = length l.initial.out - l.i

@@ -3,16 +3,15 @@ use native.Mathlib.Omega.{arith}
 use Rattle.octets.proofs.ScanLaws.{other_word, same_word, all_words}
 use Rattle.octets.proofs.scan.same_words.Goals as goal
 
-pub returns-then-word_at-src : goal.returns-then-word_at-src
-returns-then-word_at-src c = other_word c.args.s.now c.args.src.now c.loop-i.i (omega arith) _ c.word_at.ensures c.if-word_at-src.true
+pub returns-then-word_at-word : goal.returns-then-word_at-word
+returns-then-word_at-word c = other_word c.args.s.now c.args.src.now c.loop-i.i (omega arith) _ c.word_at.ensures c.if-word_at-word.true
 
 pub loop-i-preserved : goal.loop-i-preserved
 loop-i-preserved c = (
   omega arith,
-  omega arith,
-  same_word c.args.s.now c.args.src.now c.loop-i.i (omega arith) _ c.word_at.ensures c.if-word_at-src.false
-      c.loop-i.invariant.2,
+  same_word c.args.s.now c.args.src.now c.loop-i.i (omega arith) _ c.word_at.ensures c.if-word_at-word.false
+      c.loop-i.invariant.1,
 )
 
 pub returns : goal.returns
-returns c = all_words c.args.s.now c.args.src.now (λ k h. c.loop-i.invariant.2 k (omega arith))
+returns c = all_words c.args.s.now c.args.src.now (λ k h. c.loop-i.invariant.1 k (omega arith))

@@ -1,5 +1,5 @@
 -- `octets::scan::same_words` meets its contract: the numbers passed are equal.
-use Prim.Native.Nat.{ℕ, ◌-◌, ◌*◌, ◌≤◌, ◌<◌}
+use Prim.Native.Nat.{ℕ, ◌*◌, ◌≤◌, ◌<◌}
 use mathlib.Core.Path.{◌≡◌}
 use lib.ListN.{length}
 use Rattle.octets.specs.Octets.{words}
@@ -8,7 +8,4 @@ use Rattle.octets.proofs.scan.same_words.Given as goal
 
 abbrev pub invariant-loop-i : goal.invariant-loop-i
 invariant-loop-i l =
-    (l.i ≤ length l.src) × (2 * length l.src ≤ length l.s) × ((k : ℕ) → k < l.i → nth (words (length l.src) l.s) k ≡ nth l.src k)
-
-abbrev pub decreases-loop-i : goal.decreases-loop-i
-decreases-loop-i l = length l.src - l.i
+    (2 * length l.src ≤ length l.s) × ((k : ℕ) → k < l.i → nth (words (length l.src) l.s) k ≡ nth l.src k)

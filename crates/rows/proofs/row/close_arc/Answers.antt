@@ -5,28 +5,18 @@ use Rattle.rows.proofs.Passes as passes
 use Rattle.rows.proofs.TableLaws as law
 use Rattle.rows.proofs.row.close_arc.Goals as goal
 
-pub close_short-requires : goal.close_short-requires
-close_short-requires c =
-    record {
-      segment = c.requires.segment;
-      tables = c.requires.tables;
-      steps = law.steps_of _ _ _ _ _ _ c.requires.tables c.requires.y_letter c.steps_at-at.ensures.0 c.requires.segment.ends;
-      from_le_end = (
-        omega (arith, c.end_of-end.ensures, c.requires.from_le_last, c.requires.segment.order),
-        (omega (arith, c.end_of-end.ensures), omega (arith, c.requires.segment.ends)),
-      );
-      by_index = λ j a b. (c.requires.by_index j a (omega (arith, c.end_of-end.ensures))).1;
-    }
+pub close_short-requires-clause-steps : goal.close_short-requires-clause-steps
+close_short-requires-clause-steps c = law.steps_of _ _ _ _ _ _ c.args.motif.now.made c.requires.y_letter c.steps_at-at.ensures.0 c.requires.segment.1
 
 pub returns-then-end-from : goal.returns-then-end-from
 returns-then-end-from c =
-    passes.remade_short _ _ _ _ _ _ _ (part c.steps_at-at.result c.args.tables.now)
-    (law.step_capped _ _ _ _ _ _ c.requires.tables c.requires.y_letter c.steps_at-at.ensures.0 c.requires.segment.ends)
-    c.end_of-end.ensures _ _ c.requires.by_index c.close_short.ensures
+    passes.remade_short _ _ _ _ _ _ _ (part c.steps_at-at.result c.args.motif.now.tables.now)
+    (law.step_capped _ _ _ _ _ _ c.args.motif.now.made c.requires.y_letter c.steps_at-at.ensures.0 c.requires.segment.1)
+    c.min-end.ensures _ _ c.requires.by_index c.close_short.ensures
 
 pub returns : goal.returns
 returns c =
-    passes.remade _ _ _ _ _ _ _ (part c.steps_at-at.result c.args.tables.now)
-    (law.step_capped _ _ _ _ _ _ c.requires.tables c.requires.y_letter c.steps_at-at.ensures.0 c.requires.segment.ends)
-    c.end_of-end.ensures _ _ _ _ _ (omega (arith, c.requires.segment.ends)) c.requires.by_index c.over.ensures
+    passes.remade _ _ _ _ _ _ _ (part c.steps_at-at.result c.args.motif.now.tables.now)
+    (law.step_capped _ _ _ _ _ _ c.args.motif.now.made c.requires.y_letter c.steps_at-at.ensures.0 c.requires.segment.1)
+    c.min-end.ensures _ _ _ _ _ (omega (arith, c.requires.segment.1)) c.requires.by_index c.over.ensures
     c.step.ensures c.raise.ensures

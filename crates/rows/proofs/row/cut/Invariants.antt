@@ -1,12 +1,9 @@
 -- `rows::row::cut` meets its contract. The invariant: the entries from `at` on are the lesser of the row's and `to`, as far as at + j (`Written`); the row
 -- itself lies before `at`, and stays.
-use Prim.Native.Nat.{◌+◌, ◌-◌, ◌≤◌, min}
+use Prim.Native.Nat.{◌+◌, ◌-◌, min}
 use Rattle.lists.specs.Vocabulary.{nth}
 use Rattle.rows.specs.Rows.{Written}
 use Rattle.rows.proofs.row.cut.Given as goal
 
 abbrev pub invariant-loop-j : goal.invariant-loop-j
-invariant-loop-j l = (l.from ≤ l.j) × (l.j ≤ l.to + 1) × Written (λ k. min (nth l.initial.row (k - l.at)) l.to) l.initial.row l.row (l.at + l.from) (l.at + l.j)
-
-abbrev pub decreases-loop-j : goal.decreases-loop-j
-decreases-loop-j l = l.to + 1 - l.j
+invariant-loop-j l = Written (λ k. min (nth l.initial.row (k - l.at)) l.to) l.initial.row l.row (l.at + l.from) (l.at + l.j)

@@ -8,16 +8,12 @@ use Rattle.rows.proofs.TableLaws as tables
 use Rattle.rows.proofs.Parts.{part}
 use Rattle.rows.proofs.row.extend.Goals as goal
 
-pub extend_by-requires : goal.extend_by-requires
-extend_by-requires c =
-    record {
-      from_le_end = (omega arith, (omega arith, omega arith));
-      steps = tables.steps_of _ _ _ _ _ _ c.requires.tables c.requires.b_letter c.steps_at-at.ensures.0 (omega arith);
-    }
+pub extend_by-requires-clause-steps : goal.extend_by-requires-clause-steps
+extend_by-requires-clause-steps c = tables.steps_of _ _ _ _ _ _ c.args.motif.now.made c.requires.b_letter c.steps_at-at.ensures.0 (omega arith)
 
 pub returns : goal.returns
 returns c =
-    pass_end _ _ _ _ _ _ (pass_as (λ (j : ℕ). nth c.args.row.now (nth (part c.steps_at-at.result c.args.tables.now) j)) _ _ _
-    _ _ c.extend_by.ensures (λ k h. ap (nth c.args.row.now) (tables.step_unit _ _ _ _ _ _ c.requires.tables
-    c.requires.b_letter c.steps_at-at.ensures.0 c.requires.segment.ends k (omega (arith, c.end_of-end.ensures)))))
-    (omega (arith, c.end_of-end.ensures)) (omega (arith, c.end_of-end.ensures))
+    pass_end _ _ _ _ _ _ (pass_as (λ (j : ℕ). nth c.args.row.now (nth (part c.steps_at-at.result c.args.motif.now.tables.now) j)) _ _ _
+    _ _ c.extend_by.ensures (λ k h. ap (nth c.args.row.now) (tables.step_unit _ _ _ _ _ _ c.args.motif.now.made
+    c.requires.b_letter c.steps_at-at.ensures.0 c.requires.segment.1 k (omega (arith, c.min-end.ensures)))))
+    (omega (arith, c.min-end.ensures)) (omega (arith, c.min-end.ensures))

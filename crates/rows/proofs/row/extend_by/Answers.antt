@@ -6,9 +6,6 @@ use Rattle.rows.proofs.TableLaws as tables
 use Rattle.rows.proofs.row.extend_by.Goals as goal
 
 pub loop-j-preserved : goal.loop-j-preserved
-loop-j-preserved c = (
-  omega arith,
-  omega arith,
-  pass_set _ _ _ _ _ _ c.loop-j.invariant.2 c.loop-j.invariant.0 (omega arith)
-      (tables.extend_step _ _ _ _ _ _ _ c.requires.steps c.loop-j.invariant.2 c.loop-j-test.true c.extend_entry.ensures),
-)
+loop-j-preserved c =
+    pass_set _ _ _ _ _ _ c.loop-j.invariant c.loop-j.auto.j (omega arith)
+    (tables.extend_step _ _ _ _ _ _ _ c.requires.steps c.loop-j.invariant c.loop-j-test.true c.extend_entry.ensures)

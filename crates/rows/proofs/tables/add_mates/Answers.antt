@@ -9,14 +9,12 @@ overflow_add-tables c =
     omega (
       arith,
       mates_fit c.args.p.now c.args.pm.now c.args.tables.now c.loop-j.tables
-          c.requires.by_index c.requires.by_index_2 c.loop-j.j c.loop-j.invariant.1
+          c.requires.by_index c.requires.by_index_2 c.loop-j.j c.loop-j.invariant
           (omega arith) (c.requires.nested.inside c.loop-j.j (omega arith)),
     )
 
 pub loop-j-preserved : goal.loop-j-preserved
-loop-j-preserved c = (
-  omega arith,
-  pass_set _ _ _ _ _ _ c.loop-j.invariant.1 (omega arith) (omega arith) (mates_step c.args.p.now c.args.pm.now
-      c.args.tables.now c.loop-j.tables c.requires.by_index c.requires.by_index_2
-      c.loop-j.j c.loop-j.invariant.1 (omega arith) (c.requires.nested.inside c.loop-j.j (omega arith))),
-)
+loop-j-preserved c =
+    pass_set _ _ _ _ _ _ c.loop-j.invariant (omega arith) (omega arith) (mates_step c.args.p.now c.args.pm.now
+    c.args.tables.now c.loop-j.tables c.requires.by_index c.requires.by_index_2
+    c.loop-j.j c.loop-j.invariant (omega arith) (c.requires.nested.inside c.loop-j.j (omega arith)))

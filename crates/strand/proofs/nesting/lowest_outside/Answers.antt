@@ -1,11 +1,14 @@
--- `strand::nesting::lowest_outside` meets its contract: where the largest mate is in range all are; else the first i mates are in range.
+-- `strand::nesting::lowest_outside` meets its contract: where the largest mate is in range all are; else what `position` finds is the lowest.
+use borrow.Author.Rules.{rules}
+use borrow.Author.Tests.{tests, le-leb, lt-leb}
 use native.Mathlib.Omega.{arith}
-use mathlib.Core.Path.{sym}
+use mathlib.Core.Path.{sym, ◌∙◌}
+use Prim.Native.Nat.{◌≤◌, ◌<◌}
 use lib.ListN.{length}
-use borrow.Author.Tests.{le-leb, lt-leb}
 use Rattle.lists.specs.Vocabulary.{nth}
 use Rattle.strand.specs.Strands.{mate_outside}
-use Rattle.lists.proofs.ListLaws.{lowest_all, lowest_none, lowest_more, lowest_found}
+use Rattle.lists.proofs.ListLaws.{lowest_all, lowest_position}
+use Rattle.std.proofs.lemmas.Iterator.{IsFirst-from_position, YieldsList-from_slice}
 use Rattle.strand.proofs.NestingLaws.{range_test}
 use Rattle.strand.proofs.nesting.lowest_outside.Goals as goal
 
@@ -14,13 +17,13 @@ returns-then-largest_mate-mates c =
     let mates = c.args.mates.now in
     sym (lowest_all (mate_outside mates) (length mates) (λ i l.
     let upto = c.largest_mate.ensures i l in
-    range_test mates i _ (lt-leb (length mates) (nth mates i) (omega (arith, c.if-largest_mate-mates.true)))))
+    range_test mates i _ (lt-leb (length mates) (nth mates i) (omega arith))))
 
-pub loop-i-init : goal.loop-i-init
-loop-i-init c = (omega arith, lowest_none _)
-
-pub returns-then-mates-i : goal.returns-then-mates-i
-returns-then-mates-i c = sym (lowest_found _ _ _ c.loop-i.invariant.1 c.loop-i-test.true (range_test _ _ _ (le-leb _ _ c.if-mates-i.true)))
-
-pub loop-i-preserved : goal.loop-i-preserved
-loop-i-preserved c = (omega arith, lowest_more _ _ c.loop-i.invariant.1 (range_test _ _ _ (lt-leb _ _ c.if-mates-i.false)))
+pub returns : goal.returns
+returns c =
+    let mates = c.args.mates.now in
+    c.unwrap_or.ensures
+    ∙ lowest_position (mate_outside mates) (λ x. length mates ≤ x) (λ x. x < length mates) mates c.position.result
+    (λ i l e. range_test mates i _ (le-leb _ _ e)) (λ i l e. range_test mates i _ (lt-leb _ _ e))
+    (IsFirst-from_position _ _ _ (λ x. length mates ≤ x) (λ x. x < length mates) c.position.ensures.ran
+    (YieldsList-from_slice mates cc) (λ x q k. search (rules, tests)) (λ x q k. search (rules, tests)))

@@ -1,9 +1,0 @@
--- No step fails and the loop ends: the invariant is that i is at most the length of the cache.
-use Rattle.std.proofs.Common.{◌-◌, ◌≤◌, length}
-use Rattle.catalog_testing.proofs.requests.load.Given as goal
-
-abbrev pub invariant-loop-i : goal.invariant-loop-i
-invariant-loop-i l = l.i ≤ length l.initial.cache
-
-abbrev pub decreases-loop-i : goal.decreases-loop-i
-decreases-loop-i l = length l.initial.cache - l.i

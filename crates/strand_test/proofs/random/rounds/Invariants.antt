@@ -1,9 +1,0 @@
--- No step fails and the loop ends: the invariant is i ≤ times.
-use Rattle.std.proofs.Common.{◌-◌, ◌≤◌}
-use Rattle.strand_test.proofs.random.rounds.Given as goal
-
-abbrev pub invariant-loop-i : goal.invariant-loop-i
-invariant-loop-i l = l.i ≤ l.times
-
-abbrev pub decreases-loop-i : goal.decreases-loop-i
-decreases-loop-i l = l.times - l.i
