@@ -1,7 +1,7 @@
 // The answers of a batch, motif by motif, from the hits that were found in the molecules read: each query reads its slot's entry and leaves its own.
 ghost use Rattle.std.specs.Prelude.{◌≡◌, true, ◌||◌, ◌++◌, ◌<◌, ◌≤◌, [], length, drop, get_or, replicate};
 ghost use Rattle.lists.specs.Vocabulary.{tab};
-ghost use Rattle.strand.specs.Strands.{strand_of};
+ghost use Rattle.strand.specs.Lent.{lent};
 ghost use Rattle.octets.specs.Octets.{map_size, map_bit, map_bytes};
 ghost use Rattle.block.specs.Block.{sound_entry, block_count};
 ghost use Rattle.embedding.specs.Longest.{embeds};
@@ -13,14 +13,15 @@ ghost use Rattle.batch.specs.Steps.{Answering, Batching, known_of};
 use crate::Maps;
 use block::layout;
 use motifs::Motifs;
+use strand::Strand;
 
 // The hits of a motif: those that the entry of its slot knows, and those found.
-fn hits_of(entry: &[u8], p: &[u8], pm: &[u16], held: &[u8], found: &[u8]) -> [u8; layout::MAP_SIZE]
+fn hits_of(entry: &[u8], motif: &Strand, held: &[u8], found: &[u8]) -> [u8; layout::MAP_SIZE]
     requires { (sound_entry entry.now ≡ true) × (length held.now ≡ map_size) × (length found.now ≡ map_size) }
-    ensures { result ≡ map_bytes (λ d. known_of held.now entry.now (strand_of p.now pm.now) d || map_bit found.now 0 d) }
+    ensures { result ≡ map_bytes (λ d. known_of held.now entry.now (lent motif.now) d || map_bit found.now 0 d) }
 {
     let mut hit = [0u8; layout::MAP_SIZE];
-    let same = codec::entry::keeps(entry, p, pm);
+    let same = codec::entry::keeps(entry, motif);
     search::maps::fill_known(entry, same, held, &mut hit);
     octets::maps::join(&mut hit, found, 0);
     hit
@@ -42,12 +43,11 @@ fn answer_motif(
         × (cache.new ≡ (answered catalog.now cache.old (motif_of motifs.now.blocks.now t) hits.old).cache)
         × (hits.new ≡ (answered catalog.now cache.old (motif_of motifs.now.blocks.now t) hits.old).hits) }
 {
-    let p = motifs.bases_at(t);
-    let pm = motifs.mates_at(t);
-    let s = search::slot(p, pm, layout::block_count(cache));
-    let hit = hits_of(layout::block_at(cache, s), p, pm, held, found);
+    let motif = motifs.motif_at(t);
+    let s = search::slot(&motif, layout::block_count(cache));
+    let hit = hits_of(layout::block_at(cache, s), &motif, held, found);
     let count = search::list_hits(&hit, layout::block_count(catalog), hits);
-    buffer::put_entry(cache, s, p, pm, held, &hit);
+    buffer::put_entry(cache, s, &motif, held, &hit);
     count
 }
 

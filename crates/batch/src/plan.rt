@@ -21,13 +21,12 @@ fn plan_motif(motifs: &Motifs, t: usize, held: &[u8], cache: &mut [u8], todo: &m
     ensures { (todo.new ≡ map_bytes (planned_by held.now cache.old (motif_of motifs.now.blocks.now t)))
         × (cache.new ≡ planned held.now cache.old (motif_of motifs.now.blocks.now t)) }
 {
-    let p = motifs.bases_at(t);
-    let pm = motifs.mates_at(t);
-    let s = search::slot(p, pm, layout::block_count(cache));
+    let motif = motifs.motif_at(t);
+    let s = search::slot(&motif, layout::block_count(cache));
     let entry = layout::block_at(cache, s);
-    let same = codec::entry::keeps(entry, p, pm);
+    let same = codec::entry::keeps(entry, &motif);
     search::maps::fill_todo(entry, same, held, todo);
-    buffer::put_entry(cache, s, p, pm, held, held);
+    buffer::put_entry(cache, s, &motif, held, held);
 }
 
 // All motifs, in their order: map t has the numbers that query t has to search.

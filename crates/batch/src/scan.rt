@@ -14,6 +14,7 @@ ghost use Rattle.batch.specs.Steps.{Ready, hits_in, in_some, Asked, Wanted, Bond
 use crate::Maps;
 use block::layout;
 use motifs::{Motifs, Tables};
+use strand::Strand;
 
 // A row of mates for each block of the largest catalog.
 type Bonds = [[u16; layout::BLOCK_BASES]; judge::MOST_CATALOG_BLOCKS];
@@ -85,11 +86,13 @@ impl Search<'_> {
     {
         let q = bases_of(self.catalog, d);
         let rows = self.bonds;
-        let qm = &rows[d][..q.len()];
-        let p = self.motifs.bases_at(t);
-        let pm = self.motifs.mates_at(t);
+        let molecule = Strand {
+            bases: q,
+            mates: &rows[d][..q.len()],
+        };
+        let motif = self.motifs.motif_at(t);
         let Room { tables, work } = room;
-        walk::embeds(p, pm, &mut tables[t], q, qm, work)
+        walk::embeds(&motif, &mut tables[t], &molecule, work)
     }
 
     // The hits of motif t among the molecules that it asks for.

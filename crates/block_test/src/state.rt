@@ -95,18 +95,20 @@ impl State {
     }
 
     fn encode(&mut self, encoding: Encoding, n: usize) -> Option<bool> {
-        let bases = first(&self.strand.bases, self.bases);
-        let mates = first(&self.strand.mates, self.mates);
+        let strand = strand::Strand {
+            bases: first(&self.strand.bases, self.bases),
+            mates: first(&self.strand.mates, self.mates),
+        };
         let image = part(&mut self.image, n)?;
         Some(match encoding {
-            Encoding::Molecule => codec::molecule::encode_molecule(image, bases, mates),
+            Encoding::Molecule => codec::molecule::encode_molecule(image, &strand),
             Encoding::Entry => {
                 let searched = first(&self.maps, self.searched);
                 let hits = first(rest(&self.maps, MAP), self.hits);
-                codec::entry::encode_entry(image, bases, mates, searched, hits)
+                codec::entry::encode_entry(image, &strand, searched, hits)
             }
-            Encoding::Block(d) => buffer::put_molecule(image, d, bases, mates),
-            Encoding::Keeps => codec::entry::keeps(image, bases, mates),
+            Encoding::Block(d) => buffer::put_molecule(image, d, &strand),
+            Encoding::Keeps => codec::entry::keeps(image, &strand),
         })
     }
 

@@ -2,13 +2,14 @@
 #![tactic(auto)]
 
 ghost use Rattle.std.specs.Prelude.{◌≡◌, Bool, ◌&&◌, List, ℕ};
-ghost use Rattle.strand.specs.Strands.{strand_of};
+ghost use Rattle.strand.specs.Lent.{lent};
 ghost use Rattle.block.specs.Block.{put_block, each_block, cleaned, forgot};
 ghost use Rattle.buffer.specs.Buffer.{block_fits, molecule_put, entry_put, zero_put};
 ghost use Rattle.buffer.specs.Steps.{Leaves, Writes};
 ghost use Rattle.codec.specs.Outcomes.{wrote, wrote_if};
 
 use block::layout;
+use strand::Strand;
 
 // One step at every block, in order. Its bounds by hand: of a slice cut by `chunks_exact_mut` nothing is known afterwards.
 fn each_block<F: Fn(&mut [u8])>(s: &mut [u8], step: F)
@@ -50,35 +51,27 @@ pub fn forget_all(s: &mut [u8], d: usize)
     each_block(s, |block| codec::entry::forget(block, d));
 }
 
-// Write the block of a molecule at number d. False, and nothing written, where there is no block d or the molecule does not fit.
-pub fn put_molecule(buf: &mut [u8], d: usize, bases: &[u8], mates: &[u16]) -> bool
-    ensures { wrote result buf.new ≡ molecule_put d (strand_of bases.now mates.now) buf.old }
+// Write the block of a molecule at number d. False, and nothing written, where there is no block d or the molecule does not fit. The step holds the slices
+// and makes the strand again: nothing is known afterwards of a step that holds the struct.
+pub fn put_molecule(buf: &mut [u8], d: usize, molecule: &Strand) -> bool
+    ensures { wrote result buf.new ≡ molecule_put d (lent molecule.now) buf.old }
 {
-    at_block(
-        buf,
-        d,
-        |block| codec::molecule::encode_molecule(block, bases, mates),
-    )
+    let Strand { bases, mates } = *molecule;
+    at_block(buf, d, |block| {
+        codec::molecule::encode_molecule(block, &Strand { bases, mates })
+    })
 }
 
 // Write the entry of a motif with its two maps as block k. False, and nothing written, where there is no block k, the motif does not fit or a map is
-// not 64 bytes.
-pub fn put_entry(
-    buf: &mut [u8],
-    k: usize,
-    bases: &[u8],
-    mates: &[u16],
-    searched: &[u8],
-    hits: &[u8],
-) -> bool
+// not 64 bytes. The step holds slices, as in `put_molecule`.
+pub fn put_entry(buf: &mut [u8], k: usize, motif: &Strand, searched: &[u8], hits: &[u8]) -> bool
     ensures { wrote result buf.new
-        ≡ entry_put k (strand_of bases.now mates.now) searched.now hits.now buf.old }
+        ≡ entry_put k (lent motif.now) searched.now hits.now buf.old }
 {
-    at_block(
-        buf,
-        k,
-        |block| codec::entry::encode_entry(block, bases, mates, searched, hits),
-    )
+    let Strand { bases, mates } = *motif;
+    at_block(buf, k, |block| {
+        codec::entry::encode_entry(block, &Strand { bases, mates }, searched, hits)
+    })
 }
 
 // Zero block d. False, and nothing written, where there is no block d.

@@ -14,34 +14,43 @@ ghost use Rattle.interface.specs.Interface.{effect_in_c, queried_in_c, query_eff
 ghost use Rattle.interface.specs.Interface.{batched_in_c, batch_effect_in_c};
 
 use interface::{Answer, BatchAnswer, WindowAnswer};
+use strand::Strand;
 
 #[unsafe(no_mangle)]
-pub extern "C" fn lakhido_check(bases: &[u8], mates: &[u16]) -> Answer
+pub extern "C" fn lakhido_check<'a>(bases: &'a [u8], mates: &'a [u16]) -> Answer
     ensures { result ≡ check_in_c (check_answer bases.now mates.now) }
 {
-    strand::check(bases, mates).into()
+    strand::check(&Strand { bases, mates }).into()
 }
 
 #[unsafe(no_mangle)]
-pub extern "C" fn lakhido_length(
-    p: &[u8],
-    pm: &[u16],
-    q: &[u8],
-    qm: &[u16],
+pub extern "C" fn lakhido_length<'p, 'q>(
+    p: &'p [u8],
+    pm: &'p [u16],
+    q: &'q [u8],
+    qm: &'q [u16],
     work: &mut [u16],
 ) -> Answer
     ensures { (result ≡ match_in_c (length_answer p.now pm.now q.now qm.now (length work.old)))
         × WorkKept (length_verdict p.now pm.now q.now qm.now (length work.old)) work.old work.new }
 {
-    matcher::length(p, pm, q, qm, work).into()
+    let motif = Strand {
+        bases: p,
+        mates: pm,
+    };
+    let molecule = Strand {
+        bases: q,
+        mates: qm,
+    };
+    matcher::length(&motif, &molecule, work).into()
 }
 
 #[unsafe(no_mangle)]
-pub extern "C" fn lakhido_show(
-    p: &[u8],
-    pm: &[u16],
-    q: &[u8],
-    qm: &[u16],
+pub extern "C" fn lakhido_show<'p, 'q>(
+    p: &'p [u8],
+    pm: &'p [u16],
+    q: &'q [u8],
+    qm: &'q [u16],
     places: &mut [u16],
     work: &mut [u16],
 ) -> Answer
@@ -51,49 +60,73 @@ pub extern "C" fn lakhido_show(
         × WorkKept (show_verdict p.now pm.now q.now qm.now (length places.old) (length work.old))
         work.old work.new }
 {
-    matcher::show(p, pm, q, qm, places, work).into()
+    let motif = Strand {
+        bases: p,
+        mates: pm,
+    };
+    let molecule = Strand {
+        bases: q,
+        mates: qm,
+    };
+    matcher::show(&motif, &molecule, places, work).into()
 }
 
 #[unsafe(no_mangle)]
-pub extern "C" fn lakhido_window(
-    p: &[u8],
-    pm: &[u16],
-    q: &[u8],
-    qm: &[u16],
+pub extern "C" fn lakhido_window<'p, 'q>(
+    p: &'p [u8],
+    pm: &'p [u16],
+    q: &'q [u8],
+    qm: &'q [u16],
     work: &mut [u16],
 ) -> WindowAnswer
     ensures { (result ≡ window_in_c (window_answer p.now pm.now q.now qm.now (length work.old)))
         × WorkKept (length_verdict p.now pm.now q.now qm.now (length work.old))
         work.old work.new }
 {
-    window::window(p, pm, q, qm, work).into()
+    let motif = Strand {
+        bases: p,
+        mates: pm,
+    };
+    let molecule = Strand {
+        bases: q,
+        mates: qm,
+    };
+    window::window(&motif, &molecule, work).into()
 }
 
 #[unsafe(no_mangle)]
-pub extern "C" fn lakhido_verify(
-    p: &[u8],
-    pm: &[u16],
-    q: &[u8],
-    qm: &[u16],
+pub extern "C" fn lakhido_verify<'p, 'q>(
+    p: &'p [u8],
+    pm: &'p [u16],
+    q: &'q [u8],
+    qm: &'q [u16],
     places: &[u16],
 ) -> Answer
     ensures { result ≡ verify_in_c (verify_answer p.now pm.now q.now qm.now places.now) }
 {
-    embedding::verify(p, pm, q, qm, places).into()
+    let motif = Strand {
+        bases: p,
+        mates: pm,
+    };
+    let molecule = Strand {
+        bases: q,
+        mates: qm,
+    };
+    embedding::verify(&motif, &molecule, places).into()
 }
 
 #[unsafe(no_mangle)]
-pub extern "C" fn lakhido_add(
+pub extern "C" fn lakhido_add<'a>(
     catalog: &mut [u8],
     cache: &mut [u8],
     d: usize,
-    bases: &[u8],
-    mates: &[u16],
+    bases: &'a [u8],
+    mates: &'a [u16],
 ) -> Answer
     ensures { effect result catalog.new cache.new
         ≡ effect_in_c add_in_c (add_outcome catalog.old cache.old d (strand_of bases.now mates.now)) }
 {
-    catalog::add(catalog, cache, d, bases, mates).into()
+    catalog::add(catalog, cache, d, &Strand { bases, mates }).into()
 }
 
 #[unsafe(no_mangle)]
@@ -105,11 +138,11 @@ pub extern "C" fn lakhido_remove(catalog: &mut [u8], cache: &mut [u8], d: usize)
 }
 
 #[unsafe(no_mangle)]
-pub extern "C" fn lakhido_query(
+pub extern "C" fn lakhido_query<'p>(
     catalog: &[u8],
     cache: &mut [u8],
-    p: &[u8],
-    pm: &[u16],
+    p: &'p [u8],
+    pm: &'p [u16],
     work: &mut [u16],
     hits: &mut [u16],
 ) -> Answer
@@ -118,7 +151,11 @@ pub extern "C" fn lakhido_query(
         × WorkKept (query_verdict catalog.now cache.old (strand_of p.now pm.now) (length work.old) (length hits.old))
         work.old work.new }
 {
-    catalog::query(catalog, cache, p, pm, work, hits).into()
+    let motif = Strand {
+        bases: p,
+        mates: pm,
+    };
+    catalog::query(catalog, cache, &motif, work, hits).into()
 }
 
 #[unsafe(no_mangle)]

@@ -2,22 +2,23 @@
 #![tactic(auto)]
 
 ghost use Rattle.std.specs.Prelude.{◌≡◌, length};
-ghost use Rattle.strand.specs.Strands.{strand_of};
+ghost use Rattle.strand.specs.Lent.{lent};
 ghost use Rattle.embedding.specs.Longest.{embeds};
 ghost use Rattle.refusals.specs.Rules.{WorkKept};
 ghost use Rattle.calls.specs.Calls.{effect, add_outcome, remove_outcome, queried, query_verdict, query_outcome};
 
 pub use calls::{Added, Hits, Queried, Removed};
+use strand::Strand;
 
 // The call add: writes the molecule under number d, and answers its fold.
-pub fn add(catalog: &mut [u8], cache: &mut [u8], d: usize, bases: &[u8], mates: &[u16]) -> Added
+pub fn add(catalog: &mut [u8], cache: &mut [u8], d: usize, molecule: &Strand) -> Added
     ensures { effect result catalog.new cache.new
-        ≡ add_outcome catalog.old cache.old d (strand_of bases.now mates.now) }
+        ≡ add_outcome catalog.old cache.old d (lent molecule.now) }
 {
-    judge::judge_add(catalog, cache, d, bases, mates)?;
+    judge::judge_add(catalog, cache, d, molecule)?;
     buffer::clean_all(cache);
-    buffer::put_molecule(catalog, d, bases, mates);
-    Ok(strand::depth::fold_of(mates))
+    buffer::put_molecule(catalog, d, molecule);
+    Ok(strand::depth::fold_of(molecule.mates))
 }
 
 // The call remove: takes number d out of the catalog and of every cache entry.
@@ -36,18 +37,17 @@ pub fn remove(catalog: &mut [u8], cache: &mut [u8], d: usize) -> Removed
 pub fn query(
     catalog: &[u8],
     cache: &mut [u8],
-    p: &[u8],
-    pm: &[u16],
+    motif: &Strand,
     work: &mut [u16],
     hits: &mut [u16],
 ) -> Queried
     ensures { (queried result cache.new hits.new
-        ≡ query_outcome embeds catalog.now cache.old (strand_of p.now pm.now) (length work.old)
+        ≡ query_outcome embeds catalog.now cache.old (lent motif.now) (length work.old)
         hits.old)
-        × WorkKept (query_verdict catalog.now cache.old (strand_of p.now pm.now) (length work.old)
+        × WorkKept (query_verdict catalog.now cache.old (lent motif.now) (length work.old)
         (length hits.old)) work.old work.new }
 {
-    judge::judge_query(catalog, cache, p, pm, work.len(), hits.len())?;
+    judge::judge_query(catalog, cache, motif, work.len(), hits.len())?;
     buffer::clean_all(cache);
-    search::answer(catalog, cache, p, pm, work, hits)
+    search::answer(catalog, cache, motif, work, hits)
 }

@@ -43,7 +43,7 @@ impl Image {
 
     // Writes a molecule as block d.
     pub fn put(&mut self, d: usize, strand: &Strand) {
-        buffer::put_molecule(&mut self.bytes, d, &strand.bases, &strand.mates);
+        buffer::put_molecule(&mut self.bytes, d, &strand.lent());
     }
 
     // A call that writes the catalog gets no more of it than there is.

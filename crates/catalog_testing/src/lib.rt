@@ -68,19 +68,17 @@ impl Bench {
 
     // Makes a call; its answer, None where its line asks for more than there is room.
     fn made(&mut self, call: Call, sizes: Sizes, strand: &Strand) -> Option<Answer> {
-        let Strand { bases, mates } = strand;
         if !self.has_room(call, sizes) {
             return None;
         }
         let (catalog, cache) = self.image.lend(sizes)?;
         Some(match call {
-            Call::Add(d) => Answer::of_add(catalog::add(catalog, cache, d, bases, mates)),
+            Call::Add(d) => Answer::of_add(catalog::add(catalog, cache, d, &strand.lent())),
             Call::Remove(d) => Answer::of_remove(catalog::remove(catalog, cache, d)),
             Call::Query => Answer::of_query(catalog::query(
                 catalog,
                 cache,
-                bases,
-                mates,
+                &strand.lent(),
                 self.work.part(),
                 self.hits.part(),
             )),

@@ -1,20 +1,27 @@
 // A molecule block, encoded into a borrowed block and decoded into borrowed slices; a block handed in as a motif, decoded.
 ghost use Rattle.std.specs.Prelude.{◌≡◌, ◌≤◌, ◌++◌, length, drop};
+ghost use Rattle.strand.specs.Lent.{on_strand};
 ghost use Rattle.block.specs.Content.{block_size, length_in, strand_in};
 ghost use Rattle.block.specs.Inner.{kind_of};
 ghost use Rattle.codec.specs.Outcomes.{wrote, molecule_wrote, decoded, decodes, molecule_decoded, motif_decoded};
 
 use block::kind::{self, Kind};
 use block::layout;
+use strand::Strand;
 
 // Write the block of a molecule of at most 160 bases. False, and nothing written, where s is not one block or the molecule does not fit.
-pub fn encode_molecule(s: &mut [u8], bases: &[u8], mates: &[u16]) -> bool
-    ensures { wrote result s.new ≡ molecule_wrote s.old bases.now mates.now }
+pub fn encode_molecule(s: &mut [u8], molecule: &Strand) -> bool
+    ensures { wrote result s.new ≡ on_strand (molecule_wrote s.old) molecule.now }
 {
-    if !crate::parts::strand_fits(s.len(), layout::BLOCK_BASES, bases.len(), mates.len()) {
+    if !crate::parts::strand_fits(
+        s.len(),
+        layout::BLOCK_BASES,
+        molecule.bases.len(),
+        molecule.mates.len(),
+    ) {
         return false;
     }
-    crate::parts::put_content(s, &kind::MOLECULE, bases, mates);
+    crate::parts::put_content(s, &kind::MOLECULE, molecule);
     block::checksum::put_checksum(s);
     true
 }

@@ -1,5 +1,6 @@
 // The parts of a block, written into a borrowed one.
 ghost use Rattle.std.specs.Prelude.{◌≡◌, ◌+◌, ◌*◌, ◌≤◌, ◌++◌, [], length, drop};
+ghost use Rattle.strand.specs.Lent.{on_strand};
 ghost use Rattle.octets.specs.Octets.{bytes_of};
 ghost use Rattle.block.specs.Content.{padded, head_of, content_of};
 ghost use Rattle.block.specs.Inner.{kind_of};
@@ -7,6 +8,7 @@ ghost use Rattle.codec.specs.Outcomes.{strand_fits};
 
 use block::kind::Kind;
 use block::layout;
+use strand::Strand;
 
 // Each part over the whole of its slice, zeros where nothing stands: the bases; byte 0 and the length; the mates.
 fn put_padded(s: &mut [u8], src: &[u8])
@@ -49,10 +51,12 @@ pub(crate) fn strand_fits(size: usize, most: usize, bases: usize, mates: usize) 
 }
 
 // The bytes of a block of the kind before the maps or the checksum. The two encoders meet the requires.
-pub(crate) fn put_content(s: &mut [u8], kind: &Kind, bases: &[u8], mates: &[u16])
-    requires { (kind.now.start + 3 * kind.now.most ≤ length s.old) × (length bases.now ≤ kind.now.most) × (length mates.now ≡ length bases.now) }
-    ensures { s.new ≡ content_of (kind_of kind.now) [] bases.now mates.now ++ drop (kind.now.start + 3 * kind.now.most) s.old }
+pub(crate) fn put_content(s: &mut [u8], kind: &Kind, strand: &Strand)
+    requires { (kind.now.start + 3 * kind.now.most ≤ length s.old) × (length strand.now.bases.now ≤ kind.now.most)
+        × (length strand.now.mates.now ≡ length strand.now.bases.now) }
+    ensures { s.new ≡ on_strand (content_of (kind_of kind.now) []) strand.now ++ drop (kind.now.start + 3 * kind.now.most) s.old }
 {
+    let Strand { bases, mates } = *strand;
     let n = bases.len() as u8;
     let start = kind.start;
     let f = start + kind.most;

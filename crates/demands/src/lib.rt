@@ -2,67 +2,54 @@
 // refused here.
 #![tactic(auto)]
 
-ghost use Rattle.strand.specs.Strands.{strand_of};
+ghost use Rattle.strand.specs.Lent.{lent, on_strand, on_pair};
 ghost use Rattle.demands.specs.Meets.{CheckMeets, LengthMeets, ShowMeets, VerifyMeets, WindowMeets, AddMeets, RemoveMeets, QueryMeets, BatchMeets};
 
 use embedding::Verified;
 use refusals::Refusal;
+use strand::Strand;
 
-pub fn check(bases: &[u8], mates: &[u16]) -> strand::Checked
-    ensures { CheckMeets bases.now mates.now result }
+pub fn check(molecule: &Strand) -> strand::Checked
+    ensures { on_strand CheckMeets molecule.now result }
 {
-    strand::check(bases, mates)
+    strand::check(molecule)
 }
 
-pub fn length(p: &[u8], pm: &[u16], q: &[u8], qm: &[u16], work: &mut [u16]) -> matcher::Matched
-    ensures { LengthMeets p.now pm.now q.now qm.now work.old result work.new }
+pub fn length(motif: &Strand, molecule: &Strand, work: &mut [u16]) -> matcher::Matched
+    ensures { on_pair LengthMeets motif.now molecule.now work.old result work.new }
 {
-    matcher::length(p, pm, q, qm, work)
+    matcher::length(motif, molecule, work)
 }
 
 pub fn show(
-    p: &[u8],
-    pm: &[u16],
-    q: &[u8],
-    qm: &[u16],
+    motif: &Strand,
+    molecule: &Strand,
     places: &mut [u16],
     work: &mut [u16],
 ) -> matcher::Matched
-    ensures { ShowMeets p.now pm.now q.now qm.now places.old work.old result
+    ensures { on_pair ShowMeets motif.now molecule.now places.old work.old result
         places.new work.new }
 {
-    matcher::show(p, pm, q, qm, places, work)
+    matcher::show(motif, molecule, places, work)
 }
 
-pub fn verify(
-    p: &[u8],
-    pm: &[u16],
-    q: &[u8],
-    qm: &[u16],
-    places: &[u16],
-) -> Result<Verified, Refusal>
-    ensures { VerifyMeets p.now pm.now q.now qm.now places.now result }
+pub fn verify(motif: &Strand, molecule: &Strand, places: &[u16]) -> Result<Verified, Refusal>
+    ensures { on_pair VerifyMeets motif.now molecule.now places.now result }
 {
-    embedding::verify(p, pm, q, qm, places)
+    embedding::verify(motif, molecule, places)
 }
 
-pub fn window(p: &[u8], pm: &[u16], q: &[u8], qm: &[u16], work: &mut [u16]) -> window::Windowed
-    ensures { WindowMeets p.now pm.now q.now qm.now work.old result work.new }
+pub fn window(motif: &Strand, molecule: &Strand, work: &mut [u16]) -> window::Windowed
+    ensures { on_pair WindowMeets motif.now molecule.now work.old result work.new }
 {
-    window::window(p, pm, q, qm, work)
+    window::window(motif, molecule, work)
 }
 
-pub fn add(
-    catalog: &mut [u8],
-    cache: &mut [u8],
-    d: usize,
-    bases: &[u8],
-    mates: &[u16],
-) -> catalog::Added
-    ensures { AddMeets catalog.old cache.old d (strand_of bases.now mates.now) result
+pub fn add(catalog: &mut [u8], cache: &mut [u8], d: usize, molecule: &Strand) -> catalog::Added
+    ensures { AddMeets catalog.old cache.old d (lent molecule.now) result
         catalog.new cache.new }
 {
-    catalog::add(catalog, cache, d, bases, mates)
+    catalog::add(catalog, cache, d, molecule)
 }
 
 pub fn remove(catalog: &mut [u8], cache: &mut [u8], d: usize) -> catalog::Removed
@@ -74,15 +61,14 @@ pub fn remove(catalog: &mut [u8], cache: &mut [u8], d: usize) -> catalog::Remove
 pub fn query(
     catalog: &[u8],
     cache: &mut [u8],
-    p: &[u8],
-    pm: &[u16],
+    motif: &Strand,
     work: &mut [u16],
     hits: &mut [u16],
 ) -> catalog::Queried
-    ensures { QueryMeets catalog.now cache.old (strand_of p.now pm.now) work.old
+    ensures { QueryMeets catalog.now cache.old (lent motif.now) work.old
         hits.old result cache.new work.new hits.new }
 {
-    catalog::query(catalog, cache, p, pm, work, hits)
+    catalog::query(catalog, cache, motif, work, hits)
 }
 
 pub fn batch(

@@ -4,10 +4,11 @@
 mod places;
 
 ghost use Rattle.std.specs.Prelude.{◌≡◌};
+ghost use Rattle.strand.specs.Lent.{on_pair};
 ghost use Rattle.embedding.specs.Longest.{verify_verdict, verify_answer};
 
 use refusals::{Refusal, Rule, Side, Verdict};
-use strand::Fold;
+use strand::{Fold, Strand};
 
 // The answer of verify: whether the places are an embedding, and the fold of the molecule, which a no has too.
 #[derive(Clone, Copy, Debug, PartialEq, Eq)]
@@ -17,28 +18,22 @@ pub struct Verified {
 }
 
 // The refusals of verify: the motif, the molecule, then the number of places.
-fn judge(p: &[u8], pm: &[u16], q: &[u8], qm: &[u16], places: &[u16]) -> Verdict
-    ensures { result ≡ verify_verdict p.now pm.now q.now qm.now places.now }
+fn judge(motif: &Strand, molecule: &Strand, places: &[u16]) -> Verdict
+    ensures { result ≡ on_pair verify_verdict motif.now molecule.now places.now }
 {
-    strand::check_pair(p, pm, q, qm)?;
-    if places.len() != p.len() {
+    strand::check_pair(motif, molecule)?;
+    if places.len() != motif.bases.len() {
         return refusals::refuse(Rule::WrongSlice, Side::Neither, 0);
     }
     Ok(())
 }
 
 // The call verify: whether the places are an embedding of the whole motif, and the fold of the molecule. O(m log m) after the check of the strands.
-pub fn verify(
-    p: &[u8],
-    pm: &[u16],
-    q: &[u8],
-    qm: &[u16],
-    places: &[u16],
-) -> Result<Verified, Refusal>
-    ensures { result ≡ verify_answer p.now pm.now q.now qm.now places.now }
+pub fn verify(motif: &Strand, molecule: &Strand, places: &[u16]) -> Result<Verified, Refusal>
+    ensures { result ≡ on_pair verify_answer motif.now molecule.now places.now }
 {
-    judge(p, pm, q, qm, places)?;
-    let embeds = places::is_embedding(p, pm, q, qm, places);
-    let fold = strand::depth::fold_of(qm);
+    judge(motif, molecule, places)?;
+    let embeds = places::is_embedding(motif, molecule, places);
+    let fold = strand::depth::fold_of(molecule.mates);
     Ok(Verified { embeds, fold })
 }

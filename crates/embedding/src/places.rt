@@ -3,8 +3,11 @@ ghost use Rattle.std.specs.Prelude.{◌≡◌, true, false, ◌+◌, ◌<◌, le
 ghost use Rattle.lists.specs.Vocabulary.{nth};
 ghost use Rattle.lists.proofs.ListLaws.{Tells};
 ghost use Rattle.strand.specs.Strands.{Inside};
-ghost use Rattle.embedding.specs.Embedding.{Emb, letters_fit};
+ghost use Rattle.strand.specs.Lent.{on_pair};
+ghost use Rattle.embedding.specs.Longest.{EmbedsAt};
 ghost use Rattle.embedding.specs.Places.{Ordered, Lettered, Has, ArcKept, ArcsKept};
+
+use strand::Strand;
 
 // Whether the places rise and lie in the molecule.
 fn in_order(places: &[u16], n: usize) -> bool
@@ -79,17 +82,18 @@ fn same_arcs(pm: &[u16], qm: &[u16], places: &[u16]) -> bool
 }
 
 // Whether the places, one for each base, are an embedding. The call verify sees to what it asks.
-pub(crate) fn is_embedding(p: &[u8], pm: &[u16], q: &[u8], qm: &[u16], places: &[u16]) -> bool
-    requires places_len { length places.now ≡ length p.now }
-    requires pm_len { (length pm.now ≡ length p.now) × (length qm.now ≡ length q.now) }
-    requires inside { Inside (nth pm.now) (length pm.now) }
-    ensures { Tells result (Emb (letters_fit p.now q.now) (nth pm.now) (nth qm.now) 0 (length p.now) 0 (length q.now) (nth places.now)) }
+pub(crate) fn is_embedding(motif: &Strand, molecule: &Strand, places: &[u16]) -> bool
+    requires places_len { length places.now ≡ length motif.now.bases.now }
+    requires motif_len { length motif.now.mates.now ≡ length motif.now.bases.now }
+    requires molecule_len { length molecule.now.mates.now ≡ length molecule.now.bases.now }
+    requires inside { Inside (nth motif.now.mates.now) (length motif.now.mates.now) }
+    ensures { Tells result (on_pair EmbedsAt motif.now molecule.now places.now) }
 {
-    if !in_order(places, q.len()) {
+    if !in_order(places, molecule.bases.len()) {
         return false;
     }
-    if !same_letters(p, q, places) {
+    if !same_letters(motif.bases, molecule.bases, places) {
         return false;
     }
-    same_arcs(pm, qm, places)
+    same_arcs(motif.mates, molecule.mates, places)
 }

@@ -5,9 +5,7 @@ use testing::pairs::Pair;
 // Whether the places are an embedding, and what is said of the molecule.
 pub fn verify(pair: &Pair, places: &[u16]) -> Result<(bool, Fold), Refusal> {
     let Pair { motif, molecule } = pair;
-    let (p, pm) = (&motif.bases, &motif.mates);
-    let (q, qm) = (&molecule.bases, &molecule.mates);
-    let verified = embedding::verify(p, pm, q, qm, places)?;
+    let verified = embedding::verify(&motif.lent(), &molecule.lent(), places)?;
     let fold = Fold {
         arcs: verified.fold.arcs,
         depth: verified.fold.depth,

@@ -3,7 +3,7 @@
 
 ghost use Rattle.std.specs.Prelude.{◌≡◌, not};
 ghost use Rattle.std.specs.List.{find, range_with_len};
-ghost use Rattle.strand.specs.Strands.{strand_of};
+ghost use Rattle.strand.specs.Lent.{lent};
 ghost use Rattle.block.specs.Block.{block_of, block_count, sound_molecule};
 ghost use Rattle.calls.specs.Buffers.{is_whole, held, buffers_verdict};
 ghost use Rattle.calls.specs.Calls.{add_verdict, remove_verdict, query_verdict};
@@ -11,7 +11,7 @@ ghost use Rattle.judge.specs.Judge.{SoundCatalog};
 
 use block::layout;
 use refusals::{Rule, Side, Verdict, refuse};
-use strand::{LEAST_MOLECULE, LEAST_MOTIF};
+use strand::{LEAST_MOLECULE, LEAST_MOTIF, Strand};
 
 // The most blocks of a catalog and of a cache (specs/Buffers of calls has the same numbers).
 pub const MOST_CATALOG_BLOCKS: usize = 512;
@@ -69,8 +69,8 @@ pub fn is_held(catalog: &[u8], d: usize) -> bool
 }
 
 // The rules of add, of remove and of query, in the table's order.
-pub fn judge_add(catalog: &[u8], cache: &[u8], d: usize, bases: &[u8], mates: &[u16]) -> Verdict
-    ensures { result ≡ add_verdict catalog.now cache.now d (strand_of bases.now mates.now) }
+pub fn judge_add(catalog: &[u8], cache: &[u8], d: usize, molecule: &Strand) -> Verdict
+    ensures { result ≡ add_verdict catalog.now cache.now d (lent molecule.now) }
 {
     judge_buffers(catalog, cache)?;
     if layout::block_count(catalog) <= d {
@@ -80,8 +80,7 @@ pub fn judge_add(catalog: &[u8], cache: &[u8], d: usize, bases: &[u8], mates: &[
         return refuse(Rule::AlreadyHeld, Side::Neither, 0);
     }
     strand::check_strand(
-        bases,
-        mates,
+        molecule,
         Side::Molecule,
         LEAST_MOLECULE,
         layout::BLOCK_BASES,
@@ -105,19 +104,18 @@ pub fn judge_remove(catalog: &[u8], cache: &[u8], d: usize) -> Verdict
 pub fn judge_query(
     catalog: &[u8],
     cache: &[u8],
-    p: &[u8],
-    pm: &[u16],
+    motif: &Strand,
     work: usize,
     room: usize,
 ) -> Verdict
-    ensures { result ≡ query_verdict catalog.now cache.now (strand_of p.now pm.now) work room }
+    ensures { result ≡ query_verdict catalog.now cache.now (lent motif.now) work room }
 {
     judge_buffers(catalog, cache)?;
-    strand::check_strand(p, pm, Side::Motif, LEAST_MOTIF, layout::ENTRY_BASES)?;
+    strand::check_strand(motif, Side::Motif, LEAST_MOTIF, layout::ENTRY_BASES)?;
     if room < layout::block_count(catalog) {
         return refuse(Rule::WrongSlice, Side::Neither, 0);
     }
-    if work < 64 * (p.len() + 1) + 8 * layout::BLOCK_BASES {
+    if work < 64 * (motif.bases.len() + 1) + 8 * layout::BLOCK_BASES {
         return refuse(Rule::WorkTooShort, Side::Neither, 0);
     }
     Ok(())

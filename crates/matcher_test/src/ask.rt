@@ -49,8 +49,6 @@ impl Slices {
     // Makes a call, with as many places and entries of work as a line says; None where there are fewer.
     pub fn ask(&mut self, line: &[u8], pair: &Pair, call: Call) -> Option<Told> {
         let Pair { motif, molecule } = pair;
-        let (p, pm) = (&motif.bases, &motif.mates);
-        let (q, qm) = (&molecule.bases, &molecule.mates);
         self.places.begin(number(line, 52..58));
         self.work.begin(number(line, 59..65));
         if self.places.is_short() || self.work.is_short() {
@@ -58,21 +56,20 @@ impl Slices {
         }
         let work = self.work.part();
         Some(told(match call {
-            Call::Length => matcher::length(p, pm, q, qm, work),
-            Call::Show => matcher::show(p, pm, q, qm, self.places.part(), work),
+            Call::Length => matcher::length(&motif.lent(), &molecule.lent(), work),
+            Call::Show => matcher::show(&motif.lent(), &molecule.lent(), self.places.part(), work),
         }))
     }
 
     // The first k places are an embedding of the first k bases, no places one of no bases.
     fn verified(&self, pair: &Pair, k: usize) -> bool {
         let Pair { motif, molecule } = pair;
-        let answer = embedding::verify(
-            first(&motif.bases, k),
-            first(&motif.mates, k),
-            &molecule.bases,
-            &molecule.mates,
-            first(self.places.entries(), k),
-        );
+        let prefix = strand::Strand {
+            bases: first(&motif.bases, k),
+            mates: first(&motif.mates, k),
+        };
+        let places = first(self.places.entries(), k);
+        let answer = embedding::verify(&prefix, &molecule.lent(), places);
         answer.is_ok_and(|verified| verified.embeds)
     }
 

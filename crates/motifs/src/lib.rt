@@ -11,6 +11,7 @@ ghost use Rattle.motifs.specs.Unpacked.{AllMotifs, MatesOf, TablesOf};
 
 use block::layout;
 use refusals::{Rule, Side, Verdict, refuse};
+use strand::Strand;
 
 // Where the mates begin in a block handed in as a motif.
 const MOTIF_MATES_AT: usize = layout::MOTIF_START + layout::BLOCK_BASES;
@@ -123,7 +124,7 @@ impl<'a> Motifs<'a> {
     }
 
     // The bases of motif t, where they stand in its block.
-    pub fn bases_at(&self, t: usize) -> &[u8]
+    fn bases_at(&self, t: usize) -> &[u8]
         requires { t < block_count self.now.blocks.now }
         ensures { result.now ≡ (motif_of self.now.blocks.now t).bases }
     {
@@ -131,7 +132,7 @@ impl<'a> Motifs<'a> {
     }
 
     // The mates of motif t.
-    pub fn mates_at(&self, t: usize) -> &[u16]
+    fn mates_at(&self, t: usize) -> &[u16]
         requires { t < block_count self.now.blocks.now }
         ensures { result.now ≡ (motif_of self.now.blocks.now t).mates }
     {
@@ -140,13 +141,23 @@ impl<'a> Motifs<'a> {
         &rows[t][..n]
     }
 
+    // Motif t.
+    pub fn motif_at(&self, t: usize) -> Strand<'_>
+        requires { t < block_count self.now.blocks.now }
+        ensures { (result.bases.now ≡ (motif_of self.now.blocks.now t).bases) × (result.mates.now ≡ (motif_of self.now.blocks.now t).mates) }
+    {
+        let bases = self.bases_at(t);
+        let mates = self.mates_at(t);
+        Strand { bases, mates }
+    }
+
     // The tables of all motifs.
     pub fn tables(&self) -> Tables
         ensures { TablesOf self.now.blocks.now result }
     {
         let mut tables = [[0u16; walk::QUERY_TABLES]; calls::MOST_MOTIFS];
         for t in 0..self.count() {
-            walk::prepare(self.bases_at(t), self.mates_at(t), &mut tables[t]);
+            walk::prepare(&self.motif_at(t), &mut tables[t]);
         }
         tables
     }

@@ -3,6 +3,7 @@
 
 use refusals::Refusal;
 use std::io;
+use strand::Strand;
 
 // Adds a hairpin under number 0 and asks for the motif GC with its bond; answers how many molecules have it, or a refusal. `catalog` and `cache` are zeroed
 // blocks of 512 bytes, `hits` has an entry for each catalog block, `work` 64 * (2 + 1) + 8 * 160 entries.
@@ -12,8 +13,16 @@ fn first_query(
     work: &mut [u16],
     hits: &mut [u16],
 ) -> Result<usize, Refusal> {
-    catalog::add(catalog, cache, 0, b"GAC", &[2, 1, 0])?;
-    let found = catalog::query(catalog, cache, b"GC", &[1, 0], work, hits)?;
+    let hairpin = Strand {
+        bases: b"GAC",
+        mates: &[2, 1, 0],
+    };
+    let motif = Strand {
+        bases: b"GC",
+        mates: &[1, 0],
+    };
+    catalog::add(catalog, cache, 0, &hairpin)?;
+    let found = catalog::query(catalog, cache, &motif, work, hits)?;
     Ok(found.count)
 }
 

@@ -16,6 +16,7 @@ ghost use Rattle.embedding.specs.Longest.{embeds};
 use block::layout;
 use catalog::Queried;
 use refusals::Refusal;
+use strand::Strand;
 
 // The most bytes of an output, the entries of work that any motif's query asks for, the most catalog blocks of an input, and its most blocks
 // with the motif's (specs/Text and specs/Screen have the same numbers).
@@ -76,14 +77,11 @@ fn ask_lent(
 {
     let decoded = codec::molecule::decode_motif(&input[..layout::BLOCK_SIZE], bases, mates);
     let n = decoded.unwrap();
-    catalog::query(
-        &input[layout::BLOCK_SIZE..],
-        cache,
-        &bases[..n],
-        &mates[..n],
-        work,
-        hits,
-    )
+    let motif = Strand {
+        bases: &bases[..n],
+        mates: &mates[..n],
+    };
+    catalog::query(&input[layout::BLOCK_SIZE..], cache, &motif, work, hits)
 }
 
 // The same with a zeroed cache, and room for the motif.

@@ -123,7 +123,7 @@ fn step<R: Print + AllocGlobal>(rt: &R, line: &[u8], image: &mut Vec<u8>) -> io:
     match Command::of(line) {
         Some(Command::Put(d, n)) => {
             let strand = unbonded(rt.alloc(), n)?;
-            buffer::put_molecule(image, d, &strand.bases, &strand.mates);
+            buffer::put_molecule(image, d, &strand.lent());
         }
         Some(Command::Zero(d)) => {
             buffer::zero_at(image, d);

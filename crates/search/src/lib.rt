@@ -7,7 +7,7 @@ mod scan;
 
 ghost use Rattle.std.specs.Prelude.{◌≡◌, true, ◌++◌, ◌<◌, ◌≤◌, ◌%◌, length, drop};
 ghost use Rattle.lists.specs.Vocabulary.{select};
-ghost use Rattle.strand.specs.Strands.{strand_of};
+ghost use Rattle.strand.specs.Lent.{lent, on_strand};
 ghost use Rattle.octets.specs.Octets.{map_bits, map_bit};
 ghost use Rattle.block.specs.Block.{block_count};
 ghost use Rattle.calls.specs.Buffers.{most_motif_bases, slot_of};
@@ -19,13 +19,14 @@ use block::layout;
 use calls::{Hits, Queried};
 use maps::Maps;
 use scan::Searcher;
+use strand::Strand;
 
 // The slot of a motif in a cache of n blocks: its key mod n.
-pub fn slot(p: &[u8], pm: &[u16], n: usize) -> usize
-    requires { (length p.now ≤ most_motif_bases) × (length pm.now ≡ length p.now) × (1 ≤ n) }
-    ensures { (result ≡ slot_of n (strand_of p.now pm.now)) × (result < n) }
+pub fn slot(motif: &Strand, n: usize) -> usize
+    requires { (length motif.now.bases.now ≤ most_motif_bases) × (length motif.now.mates.now ≡ length motif.now.bases.now) × (1 ≤ n) }
+    ensures { (result ≡ slot_of n (lent motif.now)) × (result < n) }
 {
-    strand::key::key(p, pm) % n
+    strand::key::key(motif) % n
 }
 
 // The numbers below n of the map, rising, at the start of `hits`; how many there are.
@@ -49,20 +50,19 @@ pub fn list_hits(found: &[u8], n: usize, hits: &mut [u16]) -> usize
 pub fn answer(
     catalog: &[u8],
     cache: &mut [u8],
-    p: &[u8],
-    pm: &[u16],
+    motif: &Strand,
     work: &mut [u16],
     hits: &mut [u16],
 ) -> Queried
-    requires { Judged catalog.now p.now pm.now (length work.old) × (1 ≤ block_count cache.old) × AllSound cache.old
+    requires { on_strand (Judged catalog.now) motif.now (length work.old) × (1 ≤ block_count cache.old) × AllSound cache.old
         × (block_count catalog.now ≤ length hits.old) }
     ensures { queried result cache.new hits.new
-        ≡ answered catalog.now cache.old (strand_of p.now pm.now) hits.old }
+        ≡ answered catalog.now cache.old (lent motif.now) hits.old }
 {
-    let s = slot(p, pm, layout::block_count(cache));
-    let mut maps = Maps::new(catalog, layout::block_at(cache, s), p, pm);
-    let searched = Searcher::new(p, pm, work).search_all(catalog, &maps.todo, &mut maps.found);
+    let s = slot(motif, layout::block_count(cache));
+    let mut maps = Maps::new(catalog, layout::block_at(cache, s), motif);
+    let searched = Searcher::new(*motif, work).search_all(catalog, &maps.todo, &mut maps.found);
     let count = list_hits(&maps.found, layout::block_count(catalog), hits);
-    buffer::put_entry(cache, s, p, pm, &maps.held, &maps.found);
+    buffer::put_entry(cache, s, motif, &maps.held, &maps.found);
     Ok(Hits { count, searched })
 }

@@ -1,6 +1,6 @@
 // The maps of a query: the held numbers, those of them that are to be searched, and those that the slot's entry knows as hits.
 ghost use Rattle.std.specs.Prelude.{◌≡◌, true, not, ◌&&◌, ◌≤◌, length};
-ghost use Rattle.strand.specs.Strands.{strand_of};
+ghost use Rattle.strand.specs.Lent.{lent};
 ghost use Rattle.octets.specs.Octets.{map_size, map_bit, map_bytes};
 ghost use Rattle.block.specs.Block.{sound_entry, block_count};
 ghost use Rattle.block.specs.Content.{block_size, searched_in, hit_in};
@@ -10,6 +10,7 @@ ghost use Rattle.judge.specs.Judge.{SoundCatalog};
 ghost use Rattle.search.specs.Search.{known_hit};
 
 use block::layout;
+use strand::Strand;
 
 // The held numbers.
 pub fn fill_held(catalog: &[u8], held: &mut [u8])
@@ -60,17 +61,17 @@ pub(crate) struct Maps {
 
 impl Maps {
     // From the entry of the motif's slot: the hits are those that it knows.
-    pub(crate) fn new(catalog: &[u8], entry: &[u8], p: &[u8], pm: &[u16]) -> Maps
+    pub(crate) fn new(catalog: &[u8], entry: &[u8], motif: &Strand) -> Maps
         requires { SoundCatalog catalog.now × (block_count catalog.now ≤ most_catalog_blocks) × (sound_entry entry.now ≡ true) }
         ensures { (result.held ≡ map_bytes (held_in catalog.now))
-            × (result.todo ≡ map_bytes (to_search catalog.now entry.now (strand_of p.now pm.now)))
-            × (result.found ≡ map_bytes (known_hit catalog.now entry.now (strand_of p.now pm.now))) }
+            × (result.todo ≡ map_bytes (to_search catalog.now entry.now (lent motif.now)))
+            × (result.found ≡ map_bytes (known_hit catalog.now entry.now (lent motif.now))) }
     {
         let mut held = [0; layout::MAP_SIZE];
         let mut todo = [0; layout::MAP_SIZE];
         let mut found = [0; layout::MAP_SIZE];
         fill_held(catalog, &mut held);
-        let same = codec::entry::keeps(entry, p, pm);
+        let same = codec::entry::keeps(entry, motif);
         fill_todo(entry, same, &held, &mut todo);
         fill_known(entry, same, &held, &mut found);
         Maps { held, todo, found }

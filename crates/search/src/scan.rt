@@ -1,7 +1,8 @@
 // The molecules that are to be searched, one after the other.
 ghost use Rattle.std.specs.Prelude.{◌≡◌, true, ◌&&◌, ◌||◌, ◌≤◌, length};
 ghost use Rattle.lists.specs.Vocabulary.{select};
-ghost use Rattle.strand.specs.Strands.{strand_of, Proper, least_motif};
+ghost use Rattle.strand.specs.Strands.{Proper, least_motif};
+ghost use Rattle.strand.specs.Lent.{lent, on_strand};
 ghost use Rattle.refusals.specs.Rules.{motif_side, work_size};
 ghost use Rattle.octets.specs.Octets.{map_size, map_bit, map_bytes};
 ghost use Rattle.block.specs.Block.{block_count};
@@ -13,6 +14,7 @@ ghost use Rattle.judge.specs.Judge.{SoundCatalog};
 ghost use Rattle.search.specs.Search.{AllHeld};
 
 use block::layout;
+use strand::Strand;
 
 // Room for the molecule of a block: beside the searcher, for no part of an array is lent by a struct that has a ghost field. No Clone: nobody copies it.
 #[derive(Drop)]
@@ -24,27 +26,25 @@ struct Room {
 // What searches for a motif: the motif, its tables, and a work slice that is long enough. No Clone, since it lends a slice to write.
 #[derive(Drop)]
 pub(crate) struct Searcher<'a> {
-    bases: &'a [u8],
-    mates: &'a [u16],
+    motif: Strand<'a>,
     work: &'a mut [u16],
     tables: [u16; walk::QUERY_TABLES],
-    ghost motif: { Proper motif_side least_motif most_motif_bases bases.now mates.now },
-    ghost tables_of: { TablesFor bases.now mates.now block_bases tables },
-    ghost room: { work_size (length bases.now) most_molecule_bases ≤ length work.now },
+    ghost proper: { on_strand (Proper motif_side least_motif most_motif_bases) motif },
+    ghost tables_of: { on_strand TablesFor motif block_bases tables },
+    ghost room: { work_size (length motif.bases.now) most_molecule_bases ≤ length work.now },
 }
 
 impl<'a> Searcher<'a> {
     // The tables of the motif are made here.
-    pub(crate) fn new(bases: &'a [u8], mates: &'a [u16], work: &'a mut [u16]) -> Searcher<'a>
-        requires motif { Proper motif_side least_motif most_motif_bases bases.now mates.now }
-        requires room { work_size (length bases.now) most_molecule_bases ≤ length work.old }
-        ensures { (result.bases.now ≡ bases.now) × (result.mates.now ≡ mates.now) }
+    pub(crate) fn new(motif: Strand<'a>, work: &'a mut [u16]) -> Searcher<'a>
+        requires proper { on_strand (Proper motif_side least_motif most_motif_bases) motif }
+        requires room { work_size (length motif.bases.now) most_molecule_bases ≤ length work.old }
+        ensures { result.motif ≡ motif.entry }
     {
         let mut tables = [0u16; walk::QUERY_TABLES];
-        walk::prepare(bases, mates, &mut tables);
+        walk::prepare(&motif, &mut tables);
         Searcher {
-            bases,
-            mates,
+            motif,
             work,
             tables,
         }
@@ -53,20 +53,17 @@ impl<'a> Searcher<'a> {
     // Whether the motif embeds in molecule d, which is decoded into the room. Neither strand is checked again.
     fn embeds_at(&mut self, catalog: &[u8], d: usize, room: &mut Room) -> bool
         requires { SoundCatalog catalog.now × (held catalog.now d ≡ true) }
-        ensures { (result ≡ embeds (strand_of self.old.bases.now self.old.mates.now) (molecule_at catalog.now d))
-            × (self.new.bases ≡ self.old.bases) × (self.new.mates ≡ self.old.mates) }
+        ensures { (result ≡ embeds (lent self.old.motif) (molecule_at catalog.now d))
+            × (self.new.motif ≡ self.old.motif) }
     {
         let block = layout::block_at(catalog, d);
         let decoded = codec::molecule::decode_molecule(block, &mut room.bases, &mut room.mates);
         let n = decoded.unwrap();
-        walk::embeds(
-            self.bases,
-            self.mates,
-            &mut self.tables,
-            &room.bases[..n],
-            &room.mates[..n],
-            self.work,
-        )
+        let molecule = Strand {
+            bases: &room.bases[..n],
+            mates: &room.mates[..n],
+        };
+        walk::embeds(&self.motif, &mut self.tables, &molecule, self.work)
     }
 
     // Search every molecule of the map `todo` and put the hits into the map `found`; how many were searched.
@@ -75,7 +72,7 @@ impl<'a> Searcher<'a> {
             × AllHeld catalog.now todo.now }
         ensures { (result ≡ length (select (block_count catalog.now) (map_bit todo.now 0)))
             × (found.new ≡ map_bytes (λ d. map_bit found.old 0 d
-            || (map_bit todo.now 0 d && embeds (strand_of self.old.bases.now self.old.mates.now) (molecule_at catalog.now d)))) }
+            || (map_bit todo.now 0 d && embeds (lent self.old.motif) (molecule_at catalog.now d)))) }
     {
         let mut room = Room {
             bases: [0; layout::BLOCK_BASES],

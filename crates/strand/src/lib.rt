@@ -1,4 +1,4 @@
-// Strands: bases and mates, borrowed as two slices of one length. The check of a strand, with refusals 1 to 7; its fold.
+// Strands: bases and mates, lent as two slices. The check of a strand, with refusals 1 to 7; its fold.
 #![tactic(auto)]
 
 pub mod depth;
@@ -8,6 +8,7 @@ mod nesting;
 
 ghost use Rattle.std.specs.Prelude.{◌≡◌};
 ghost use Rattle.strand.specs.Strands.{strand_verdict, check_answer, pair_verdict};
+ghost use Rattle.strand.specs.Lent.{on_strand, on_pair};
 
 use refusals::{Refusal, Rule, Side, Verdict, refuse};
 
@@ -17,6 +18,13 @@ pub const LEAST_MOTIF: usize = 0;
 pub const LEAST_MOLECULE: usize = 1;
 
 pub const GREATEST_LENGTH: usize = 4096;
+
+// A molecule or a motif, lent: bases as bytes, and for each base its mate. It promises nothing of them, not that they are as many: rule 1 is the test of that.
+#[derive(Clone, Copy)]
+pub struct Strand<'a> {
+    pub bases: &'a [u8],
+    pub mates: &'a [u16],
+}
 
 // The fold of a strand: the number of its arcs, and its depth, which is the largest number of arcs of which each lies inside the one before, and 0 without
 // arcs.
@@ -31,15 +39,10 @@ pub type Checked = Result<Fold, Refusal>;
 
 // The check of a strand of one side, its length from least to greatest. The place of a crossing, which takes quadratic time, is looked for
 // only where there is one.
-pub fn check_strand(
-    bases: &[u8],
-    mates: &[u16],
-    side: Side,
-    least: usize,
-    greatest: usize,
-) -> Verdict
-    ensures { result ≡ strand_verdict side least greatest bases.now mates.now }
+pub fn check_strand(strand: &Strand, side: Side, least: usize, greatest: usize) -> Verdict
+    ensures { result ≡ on_strand (strand_verdict side least greatest) strand.now }
 {
+    let Strand { bases, mates } = *strand;
     if mates.len() != bases.len() {
         return refuse(Rule::UnequalLengths, side, 0);
     }
@@ -68,23 +71,17 @@ pub fn check_strand(
 }
 
 // The call check: whether a molecule is accepted, and its fold.
-pub fn check(bases: &[u8], mates: &[u16]) -> Checked
-    ensures { result ≡ check_answer bases.now mates.now }
+pub fn check(molecule: &Strand) -> Checked
+    ensures { result ≡ on_strand check_answer molecule.now }
 {
-    check_strand(
-        bases,
-        mates,
-        Side::Molecule,
-        LEAST_MOLECULE,
-        GREATEST_LENGTH,
-    )?;
-    Ok(depth::fold_of(mates))
+    check_strand(molecule, Side::Molecule, LEAST_MOLECULE, GREATEST_LENGTH)?;
+    Ok(depth::fold_of(molecule.mates))
 }
 
 // What length, show, window and verify refuse first: the motif, then the molecule.
-pub fn check_pair(p: &[u8], pm: &[u16], q: &[u8], qm: &[u16]) -> Verdict
-    ensures { result ≡ pair_verdict p.now pm.now q.now qm.now }
+pub fn check_pair(motif: &Strand, molecule: &Strand) -> Verdict
+    ensures { result ≡ on_pair pair_verdict motif.now molecule.now }
 {
-    check_strand(p, pm, Side::Motif, LEAST_MOTIF, GREATEST_LENGTH)?;
-    check_strand(q, qm, Side::Molecule, LEAST_MOLECULE, GREATEST_LENGTH)
+    check_strand(motif, Side::Motif, LEAST_MOTIF, GREATEST_LENGTH)?;
+    check_strand(molecule, Side::Molecule, LEAST_MOLECULE, GREATEST_LENGTH)
 }

@@ -87,23 +87,30 @@ fn say_checked<P: Print>(out: &P, told: Result<Fold, Refusal>) -> io::Result<()>
 }
 
 // A strand as a molecule and as a motif.
-fn alone<P: Print>(out: &P, bases: &[u8], mates: &[u16]) -> io::Result<()> {
+fn alone<P: Print>(out: &P, strand: &strand::Strand) -> io::Result<()> {
     print!(out; " molecule")?;
-    say_checked(out, ask::check(bases, mates))?;
+    say_checked(out, ask::check(strand))?;
     print!(out; ", motif")?;
-    say_verdict(out, ask::check_motif(bases, mates, 0, 120))
+    say_verdict(out, ask::check_motif(strand, 0, 120))
 }
 
 fn answer<P: Print>(out: &P, question: Question, s: &Strand) -> io::Result<()> {
+    let strand = s.lent();
+    let single = strand::Strand {
+        bases: b"A",
+        mates: &[0],
+    };
+    let empty = strand::Strand {
+        bases: b"",
+        mates: &[],
+    };
     let told = match question {
-        Question::Alone => return alone(out, &s.bases, &s.mates),
-        Question::Limited(least, greatest) => {
-            ask::check_motif(&s.bases, &s.mates, least, greatest)
-        }
-        Question::Motif => ask::check_pair(&s.bases, &s.mates, b"A", &[0]),
-        Question::Molecule => ask::check_pair(b"A", &[0], &s.bases, &s.mates),
-        Question::MoleculeForNoBases => ask::check_pair(b"", &[], &s.bases, &s.mates),
-        Question::Both => ask::check_pair(&s.bases, &s.mates, &s.bases, &s.mates),
+        Question::Alone => return alone(out, &strand),
+        Question::Limited(least, greatest) => ask::check_motif(&strand, least, greatest),
+        Question::Motif => ask::check_pair(&strand, &single),
+        Question::Molecule => ask::check_pair(&single, &strand),
+        Question::MoleculeForNoBases => ask::check_pair(&empty, &strand),
+        Question::Both => ask::check_pair(&strand, &strand),
     };
     say_verdict(out, told)
 }
@@ -122,7 +129,11 @@ fn act<R: Print + AllocGlobal>(rt: &R, line: &[u8], long: &mut Strand) -> io::Re
         Some(Command::SetBase(i, base)) => set(&mut long.bases, i, base),
         Some(Command::SetMate(i, mate)) => set(&mut long.mates, i, mate),
         Some(Command::CheckFirst(a, b)) => {
-            alone(rt, first(&long.bases, a), first(&long.mates, b))?;
+            let strand = strand::Strand {
+                bases: first(&long.bases, a),
+                mates: first(&long.mates, b),
+            };
+            alone(rt, &strand)?;
         }
         Some(Command::Long(question)) => answer(rt, question, long)?,
         None => {}

@@ -44,11 +44,11 @@ impl Counts {
 
     // Compares the answers for a molecule and for a motif of so many bases to 30.
     fn judge(&mut self, s: &Strand, least: usize) {
-        let got = ask::check(&s.bases, &s.mates);
+        let got = ask::check(&s.lent());
         self.count(got, naive::check(&s.bases, &s.mates));
         self.count_fold(got);
         self.count(
-            ask::check_motif(&s.bases, &s.mates, least, 30),
+            ask::check_motif(&s.lent(), least, 30),
             naive::answer(&s.bases, &s.mates, 0, least, 30),
         );
     }

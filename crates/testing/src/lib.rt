@@ -1,4 +1,4 @@
-// What the test programs share. It stands on no crate that they test: of the library it knows only the table of refusals.
+// What the test programs share. It stands on no crate that they test: of the library it knows only the table of refusals, and how a strand is lent to a call.
 #![tactic(auto)]
 
 pub mod answer;

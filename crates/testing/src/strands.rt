@@ -28,6 +28,14 @@ impl Strand {
         })
     }
 
+    // The strand as the calls take it.
+    pub fn lent(&self) -> strand::Strand<'_> {
+        strand::Strand {
+            bases: &self.bases,
+            mates: &self.mates,
+        }
+    }
+
     // So many bases A, each with the mate 0.
     pub fn equal(alloc: Global, n: usize) -> Result<Strand, AllocError> {
         Ok(Strand {

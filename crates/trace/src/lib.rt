@@ -9,6 +9,7 @@ ghost use Rattle.lists.specs.Vocabulary.{nth};
 ghost use Rattle.embedding.specs.Row.{Best, Reach};
 ghost use Rattle.embedding.specs.Embedding.{letters_fit};
 ghost use Rattle.refusals.specs.Rules.{work_size};
+ghost use Rattle.strand.specs.Lent.{on_pair};
 ghost use Rattle.rows.specs.Motifs.{SegmentOf};
 ghost use Rattle.arcs.specs.Arcs.{Setting, Sealed};
 ghost use Rattle.arcs.specs.Pairs.{AllStartsIn, BestIn};
@@ -22,6 +23,7 @@ use placing::take::ArcTake;
 use placing::{path, take};
 use rows::motif::Motif;
 use rows::tables::{self, LONG_SIZE, SHORT_MOLECULE, SHORT_MOTIF, SHORT_SIZE};
+use strand::Strand;
 
 // Writes the places of from.. as far as the motif up to `to` is taken by lo..hi, and gives how far that is. By a while: it goes on behind each arc.
 #[cycle(along_descend_enter_past_place_place_arc)]
@@ -207,70 +209,67 @@ fn descend(
 
 // As `place_all`, with borrowed room for the tables of the motif.
 fn place_all_lent<'a>(
-    p: &'a [u8],
-    pm: &'a [u16],
-    q: &'a [u8],
-    qm: &'a [u16],
+    motif: &Strand<'a>,
+    molecule: &Strand<'a>,
     places: &mut [u16],
     work: &mut [u16],
     tables: &mut [u16],
 ) -> usize
-    requires setting { Setting p.now pm.now q.now qm.now 0 (length p.now) }
-    requires room { length p.now ≤ length places.old }
-    requires work_room { work_size (length p.now) (length q.now) ≤ length work.old }
-    requires table_room { 5 * (length p.now + 1) + length q.now < length tables.old }
-    ensures best { Best (letters_fit p.now q.now) (nth pm.now) (nth qm.now) (length p.now) 0 result 0 (length q.now) }
-    ensures laid { Laid p.now pm.now q.now qm.now 0 result 0 (length q.now) places.old places.new }
+    requires setting { on_pair Setting motif.now molecule.now 0 (length motif.now.bases.now) }
+    requires room { length motif.now.bases.now ≤ length places.old }
+    requires work_room { work_size (length motif.now.bases.now) (length molecule.now.bases.now) ≤ length work.old }
+    requires table_room { 5 * (length motif.now.bases.now + 1) + length molecule.now.bases.now < length tables.old }
+    ensures best { Best (letters_fit motif.now.bases.now molecule.now.bases.now) (nth motif.now.mates.now) (nth molecule.now.mates.now)
+        (length motif.now.bases.now) 0 result 0 (length molecule.now.bases.now) }
+    ensures laid { on_pair Laid motif.now molecule.now 0 result 0 (length molecule.now.bases.now) places.old places.new }
 {
-    tables::fill(p, pm, tables);
-    bounds::all_starts(p, pm, q.len(), tables);
+    let Strand { bases, mates } = *motif;
+    let Strand {
+        bases: q,
+        mates: qm,
+    } = *molecule;
+    tables::fill(bases, mates, tables);
+    bounds::all_starts(bases, mates, q.len(), tables);
     let motif = Motif {
-        bases: p,
-        mates: pm,
+        bases,
+        mates,
         tables: &*tables,
     };
     let pair = Pair { motif, q, qm };
-    place(&pair, 0, p.len(), 0, q.len(), places, work)
+    place(&pair, 0, bases.len(), 0, q.len(), places, work)
 }
 
 // The same, with room for SIZE numbers in the tables: those of short strands take little.
 fn place_all_in<const SIZE: usize>(
-    p: &[u8],
-    pm: &[u16],
-    q: &[u8],
-    qm: &[u16],
+    motif: &Strand,
+    molecule: &Strand,
     places: &mut [u16],
     work: &mut [u16],
 ) -> usize
-    requires setting { Setting p.now pm.now q.now qm.now 0 (length p.now) }
-    requires room { length p.now ≤ length places.old }
-    requires work_room { work_size (length p.now) (length q.now) ≤ length work.old }
-    requires table_room { 5 * (length p.now + 1) + length q.now < SIZE }
+    requires setting { on_pair Setting motif.now molecule.now 0 (length motif.now.bases.now) }
+    requires room { length motif.now.bases.now ≤ length places.old }
+    requires work_room { work_size (length motif.now.bases.now) (length molecule.now.bases.now) ≤ length work.old }
+    requires table_room { 5 * (length motif.now.bases.now + 1) + length molecule.now.bases.now < SIZE }
     requires size { SIZE ≤ LONG_SIZE }
-    ensures best { Best (letters_fit p.now q.now) (nth pm.now) (nth qm.now) (length p.now) 0 result 0 (length q.now) }
-    ensures laid { Laid p.now pm.now q.now qm.now 0 result 0 (length q.now) places.old places.new }
+    ensures best { Best (letters_fit motif.now.bases.now molecule.now.bases.now) (nth motif.now.mates.now) (nth molecule.now.mates.now)
+        (length motif.now.bases.now) 0 result 0 (length molecule.now.bases.now) }
+    ensures laid { on_pair Laid motif.now molecule.now 0 result 0 (length molecule.now.bases.now) places.old places.new }
 {
     let mut tables = [0u16; SIZE];
-    place_all_lent(p, pm, q, qm, places, work, &mut tables)
+    place_all_lent(motif, molecule, places, work, &mut tables)
 }
 
 // Writes the places of the motif as far as the molecule takes it, and gives how far that is.
-pub fn place_all(
-    p: &[u8],
-    pm: &[u16],
-    q: &[u8],
-    qm: &[u16],
-    places: &mut [u16],
-    work: &mut [u16],
-) -> usize
-    requires setting { Setting p.now pm.now q.now qm.now 0 (length p.now) }
-    requires room { length p.now ≤ length places.old }
-    requires work_room { work_size (length p.now) (length q.now) ≤ length work.old }
-    ensures best { Best (letters_fit p.now q.now) (nth pm.now) (nth qm.now) (length p.now) 0 result 0 (length q.now) }
-    ensures laid { Laid p.now pm.now q.now qm.now 0 result 0 (length q.now) places.old places.new }
+pub fn place_all(motif: &Strand, molecule: &Strand, places: &mut [u16], work: &mut [u16]) -> usize
+    requires setting { on_pair Setting motif.now molecule.now 0 (length motif.now.bases.now) }
+    requires room { length motif.now.bases.now ≤ length places.old }
+    requires work_room { work_size (length motif.now.bases.now) (length molecule.now.bases.now) ≤ length work.old }
+    ensures best { Best (letters_fit motif.now.bases.now molecule.now.bases.now) (nth motif.now.mates.now) (nth molecule.now.mates.now)
+        (length motif.now.bases.now) 0 result 0 (length molecule.now.bases.now) }
+    ensures laid { on_pair Laid motif.now molecule.now 0 result 0 (length molecule.now.bases.now) places.old places.new }
 {
-    if p.len() <= SHORT_MOTIF && q.len() <= SHORT_MOLECULE {
-        return place_all_in::<SHORT_SIZE>(p, pm, q, qm, places, work);
+    if motif.bases.len() <= SHORT_MOTIF && molecule.bases.len() <= SHORT_MOLECULE {
+        return place_all_in::<SHORT_SIZE>(motif, molecule, places, work);
     }
-    place_all_in::<LONG_SIZE>(p, pm, q, qm, places, work)
+    place_all_in::<LONG_SIZE>(motif, molecule, places, work)
 }

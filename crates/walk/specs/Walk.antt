@@ -4,6 +4,7 @@ use Rattle.lists.specs.Vocabulary.{nth}
 use Rattle.letters.specs.Letters.{letters_match}
 use Rattle.embedding.specs.Windows.{EmbedsWithin}
 use Rattle.rows.specs.Rows.{Tables}
+use Rattle.strand.specs.declared.Strand.{Strand}
 use Rattle.arcs.specs.declared.pair.Pair.{Pair}
 
 -- The tables of P, with room for the bounds of a molecule of n bases after them.
@@ -11,10 +12,14 @@ pub record TablesFor (p pm : List ℕ) (n : ℕ) (tables : List ℕ) : Type 0 wh
   pub motif : Tables p pm tables
   pub room : 5 * (length p + 1) + n < length tables
 
--- The pair is that of these lists.
-abbrev pub PairOf : List ℕ → List ℕ → List ℕ → List ℕ → List ℕ → Pair → Type 0
-PairOf p pm tables q qm t =
-    (t.motif.bases.now ≡ p) × (t.motif.mates.now ≡ pm) × (t.motif.tables.now ≡ tables) × (t.q.now ≡ q) × (t.qm.now ≡ qm)
+-- The pair is that of these strands, with these tables.
+abbrev pub PairOf : Strand → List ℕ → Strand → Pair → Type 0
+PairOf motif tables molecule t =
+    (t.motif.bases.now ≡ motif.bases.now)
+    × (t.motif.mates.now ≡ motif.mates.now)
+    × (t.motif.tables.now ≡ tables)
+    × (t.q.now ≡ molecule.bases.now)
+    × (t.qm.now ≡ molecule.mates.now)
 
 -- P embeds in Q with all its places in the window from lo to before hi, which is its end and not its length.
 pub record Carried (p pm q qm : List ℕ) (lo hi : ℕ) : Type 0 where

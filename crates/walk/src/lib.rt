@@ -5,7 +5,8 @@ ghost use Rattle.std.specs.Prelude.{◌≡◌, true, ℕ, ◌+◌, ◌*◌, ◌�
 ghost use Rattle.lists.specs.Vocabulary.{nth};
 ghost use Rattle.lists.proofs.ListLaws.{Tells};
 ghost use Rattle.letters.specs.Letters.{letters_match};
-ghost use Rattle.strand.specs.Strands.{strand_of, Nested, Proper, least_motif, least_molecule, greatest_length};
+ghost use Rattle.strand.specs.Strands.{Nested, Proper, least_motif, least_molecule, greatest_length};
+ghost use Rattle.strand.specs.Lent.{lent, on_strand, on_pair};
 ghost use Rattle.refusals.specs.Rules.{motif_side, molecule_side, work_size};
 ghost use Rattle.embedding.specs.Embedding.{letters_fit};
 ghost use Rattle.embedding.specs.Longest.{longest, embeds as embeds_in};
@@ -20,19 +21,20 @@ use arcs::pair::Pair;
 use rows::motif::Motif;
 use rows::row;
 use rows::tables::{self, LONG_SIZE, SHORT_MOLECULE, SHORT_MOTIF, SHORT_SIZE};
+use strand::Strand;
 
 // The numbers of the tables of a motif of 120 bases with the bounds of a molecule of 160, the longest that a query has.
 pub const QUERY_TABLES: usize = SHORT_SIZE;
 
 // Makes the tables of the motif, once for all molecules that it is searched in.
-pub fn prepare(p: &[u8], pm: &[u16], tables: &mut [u16])
-    requires pm_len { (length pm.now ≡ length p.now) × (length p.now ≤ 4096) }
-    requires nested { Nested (nth pm.now) (length p.now) }
-    requires room { 5 * (length p.now + 1) ≤ length tables.old }
-    ensures { (n : ℕ) → 5 * (length p.now + 1) + n < length tables.old
-        → TablesFor p.now pm.now n tables.new }
+pub fn prepare(motif: &Strand, tables: &mut [u16])
+    requires pm_len { (length motif.now.mates.now ≡ length motif.now.bases.now) × (length motif.now.bases.now ≤ 4096) }
+    requires nested { Nested (nth motif.now.mates.now) (length motif.now.bases.now) }
+    requires room { 5 * (length motif.now.bases.now + 1) ≤ length tables.old }
+    ensures { (n : ℕ) → 5 * (length motif.now.bases.now + 1) + n < length tables.old
+        → on_strand TablesFor motif.now n tables.new }
 {
-    tables::fill(p, pm, tables);
+    tables::fill(motif.bases, motif.mates, tables);
 }
 
 // Where a walk has come to: the next base of the molecule, and how far what lies before it takes the motif.
@@ -56,23 +58,22 @@ fn unbonded(qm: &[u16], lo: usize, hi: usize) -> bool
 }
 
 // The pair of a motif with its tables and a molecule: it is made again where the bounds behind the tables have been written.
-fn pair_of<'a>(
-    p: &'a [u8],
-    pm: &'a [u16],
-    tables: &'a [u16],
-    q: &'a [u8],
-    qm: &'a [u16],
-) -> Pair<'a>
-    requires setting { Setting p.now pm.now q.now qm.now 0 (length p.now) }
-    requires tables { Tables p.now pm.now tables.now }
-    ensures { PairOf p.now pm.now tables.now q.now qm.now result }
+fn pair_of<'a>(motif: Strand<'a>, tables: &'a [u16], molecule: Strand<'a>) -> Pair<'a>
+    requires setting { on_pair Setting motif molecule 0 (length motif.bases.now) }
+    requires tables { on_strand Tables motif tables.now }
+    ensures { PairOf motif.entry tables.now molecule.entry result }
 {
+    let Strand { bases, mates } = motif;
     let motif = Motif {
-        bases: p,
-        mates: pm,
+        bases,
+        mates,
         tables,
     };
-    Pair { motif, q, qm }
+    Pair {
+        motif,
+        q: molecule.bases,
+        qm: molecule.mates,
+    }
 }
 
 // How far the unbonded bases lo..hi take the motif from `from` on: base by base, each by one look into the tables.
@@ -147,11 +148,9 @@ fn arc_end(pair: &Pair, from: usize, most: usize, l: usize, r: usize, work: &mut
 // What is walked: a nested motif, and a nested molecule of letters.
 #[derive(Clone, Copy)]
 struct Strands<'a> {
-    p: &'a [u8],
-    pm: &'a [u16],
-    q: &'a [u8],
-    qm: &'a [u16],
-    ghost setting: { Setting p.now pm.now q.now qm.now 0 (length p.now) },
+    motif: Strand<'a>,
+    molecule: Strand<'a>,
+    ghost setting: { on_pair Setting motif molecule 0 (length motif.bases.now) },
 }
 
 impl Strands<'_> {
@@ -161,20 +160,26 @@ impl Strands<'_> {
     fn first_arc(&self) -> Place
         ensures { WalkedIn self.now result }
     {
-        let m = self.p.len();
+        let m = self.motif.bases.len();
         let mut from = 0;
-        for l in 0..self.q.len() {
+        for l in 0..self.molecule.bases.len() {
             if m <= from {
                 return Place { base: l, from };
             }
-            let r = arcs::mate(self.qm, l);
+            let r = arcs::mate(self.molecule.mates, l);
             if l < r {
                 return Place { base: l, from };
             }
-            from = row::unit(self.p, self.pm, from, m, self.q[l]);
+            from = row::unit(
+                self.motif.bases,
+                self.motif.mates,
+                from,
+                m,
+                self.molecule.bases[l],
+            );
         }
         Place {
-            base: self.q.len(),
+            base: self.molecule.bases.len(),
             from,
         }
     }
@@ -188,43 +193,51 @@ impl Strands<'_> {
         r: usize,
         work: &mut [u16],
     ) -> usize
-        requires from_in_bounds { from < length self.now.p.now }
-        requires l_lt_r { (l < r) × ((r < length self.now.q.now) × (nth self.now.qm.now l ≡ r)) }
-        requires work_room { work_size (length self.now.p.now) (length self.now.q.now) ≤ length work.old }
+        requires from_in_bounds { from < length self.now.motif.bases.now }
+        requires l_lt_r { (l < r) × ((r < length self.now.molecule.bases.now) × (nth self.now.molecule.mates.now l ≡ r)) }
+        requires work_room { work_size (length self.now.motif.bases.now) (length self.now.molecule.bases.now) ≤ length work.old }
         requires tables_for { TablesIn self.now tables.old }
         ensures best { TakenIn self.now from result l (r + 1) }
         ensures tables_for_2 { TablesIn self.now tables.new }
     {
-        if unbonded(self.qm, l + 1, r) {
-            let pair = pair_of(self.p, self.pm, tables, self.q, self.qm);
+        if unbonded(self.molecule.mates, l + 1, r) {
+            let pair = pair_of(self.motif, tables, self.molecule);
             return hairpin_end(&pair, from, l, r);
         }
-        let most = bounds::fill(self.p, self.pm, self.q, from, l, r + 1, tables);
-        let pair = pair_of(self.p, self.pm, tables, self.q, self.qm);
+        let most = bounds::fill(
+            self.motif.bases,
+            self.motif.mates,
+            self.molecule.bases,
+            from,
+            l,
+            r + 1,
+            tables,
+        );
+        let pair = pair_of(self.motif, tables, self.molecule);
         arc_end(&pair, from, most, l, r, work)
     }
 
     // How far the whole motif is taken by the whole molecule, where the walk has come to `at`. By a while: it goes on behind each arc.
     fn whole_end(&self, tables: &mut [u16], at: Place, work: &mut [u16]) -> usize
         requires walked { WalkedIn self.now at }
-        requires work_room { work_size (length self.now.p.now) (length self.now.q.now) ≤ length work.old }
+        requires work_room { work_size (length self.now.motif.bases.now) (length self.now.molecule.bases.now) ≤ length work.old }
         requires tables_for { TablesIn self.now tables.old }
         ensures { result ≡ longest_in self.now }
     {
-        let m = self.p.len();
+        let m = self.motif.bases.len();
         let mut from = at.from;
         let mut l = at.base;
-        while l < self.q.len() {
+        while l < self.molecule.bases.len() {
             if m <= from {
                 return from;
             }
-            let r = arcs::mate(self.qm, l);
+            let r = arcs::mate(self.molecule.mates, l);
             if l < r {
                 from = self.top_arc_end(tables, from, l, r, work);
                 l = r + 1;
             } else {
-                let pair = pair_of(self.p, self.pm, tables, self.q, self.qm);
-                from = row::next_of(&pair.motif, from, self.q[l]);
+                let pair = pair_of(self.motif, tables, self.molecule);
+                from = row::next_of(&pair.motif, from, self.molecule.bases[l]);
                 l += 1;
             }
         }
@@ -234,19 +247,19 @@ impl Strands<'_> {
     // The rest of `prefix_length`, from the first arc on, with borrowed room for the tables.
     fn rest_lent(&self, at: Place, work: &mut [u16], tables: &mut [u16]) -> usize
         requires walked { WalkedIn self.now at }
-        requires work_room { work_size (length self.now.p.now) (length self.now.q.now) ≤ length work.old }
-        requires table_room { 5 * (length self.now.p.now + 1) + length self.now.q.now < length tables.old }
+        requires work_room { work_size (length self.now.motif.bases.now) (length self.now.molecule.bases.now) ≤ length work.old }
+        requires table_room { 5 * (length self.now.motif.bases.now + 1) + length self.now.molecule.bases.now < length tables.old }
         ensures { result ≡ longest_in self.now }
     {
-        prepare(self.p, self.pm, tables);
+        prepare(&self.motif, tables);
         self.whole_end(tables, at, work)
     }
 
     // The same, with room for SIZE numbers in the tables: those of short strands take little.
     fn rest<const SIZE: usize>(&self, at: Place, work: &mut [u16]) -> usize
         requires walked { WalkedIn self.now at }
-        requires work_room { work_size (length self.now.p.now) (length self.now.q.now) ≤ length work.old }
-        requires table_room { 5 * (length self.now.p.now + 1) + length self.now.q.now < SIZE }
+        requires work_room { work_size (length self.now.motif.bases.now) (length self.now.molecule.bases.now) ≤ length work.old }
+        requires table_room { 5 * (length self.now.motif.bases.now + 1) + length self.now.molecule.bases.now < SIZE }
         requires size { SIZE ≤ LONG_SIZE }
         ensures { result ≡ longest_in self.now }
     {
@@ -273,25 +286,23 @@ fn arc_within(qm: &[u16], l: usize, hi: usize) -> usize
 // Whether the window lo..hi of the molecule takes the whole motif, with tables of the motif that were filled before. A base whose arc leaves the window is
 // unbonded there. The walk stops where the rest of the window cannot take the rest of the motif: it has fewer bases, or the bound behind an arc with arcs
 // inside says so. By a while: it goes on behind each arc.
-pub fn carries(
-    p: &[u8],
-    pm: &[u16],
+pub fn carries<'a>(
+    motif: &Strand<'a>,
     tables: &mut [u16],
-    q: &[u8],
-    qm: &[u16],
+    molecule: &Strand<'a>,
     lo: usize,
     hi: usize,
     work: &mut [u16],
 ) -> bool
-    requires proper { Proper motif_side least_motif greatest_length p.now pm.now }
-    requires proper_2 { Proper molecule_side least_molecule greatest_length q.now qm.now }
-    requires lo_le_hi { (lo ≤ hi) × (hi ≤ length q.now) }
-    requires work_room { work_size (length p.now) (length q.now) ≤ length work.old }
-    requires tables_for { TablesFor p.now pm.now (length q.now) tables.old }
-    ensures tells { Tells result (Carried p.now pm.now q.now qm.now lo hi) }
-    ensures tables_for_2 { TablesFor p.now pm.now (length q.now) tables.new }
+    requires proper { on_strand (Proper motif_side least_motif greatest_length) motif.now }
+    requires proper_2 { on_strand (Proper molecule_side least_molecule greatest_length) molecule.now }
+    requires lo_le_hi { (lo ≤ hi) × (hi ≤ length molecule.now.bases.now) }
+    requires work_room { work_size (length motif.now.bases.now) (length molecule.now.bases.now) ≤ length work.old }
+    requires tables_for { on_strand TablesFor motif.now (length molecule.now.bases.now) tables.old }
+    ensures tells { Tells result (on_pair Carried motif.now molecule.now lo hi) }
+    ensures tables_for_2 { on_strand TablesFor motif.now (length molecule.now.bases.now) tables.new }
 {
-    let m = p.len();
+    let m = motif.bases.len();
     let mut from = 0;
     let mut l = lo;
     while l < hi {
@@ -301,23 +312,31 @@ pub fn carries(
         if hi - l < m - from {
             return false;
         }
-        let r = arc_within(qm, l, hi);
+        let r = arc_within(molecule.mates, l, hi);
         if l < r {
-            if unbonded(qm, l + 1, r) {
-                let pair = pair_of(p, pm, tables, q, qm);
+            if unbonded(molecule.mates, l + 1, r) {
+                let pair = pair_of(*motif, tables, *molecule);
                 from = hairpin_end(&pair, from, l, r);
             } else {
-                let most = bounds::fill(p, pm, q, from, l, r + 1, tables);
+                let most = bounds::fill(
+                    motif.bases,
+                    motif.mates,
+                    molecule.bases,
+                    from,
+                    l,
+                    r + 1,
+                    tables,
+                );
                 if most + (hi - (r + 1)) < m {
                     return false;
                 }
-                let pair = pair_of(p, pm, tables, q, qm);
+                let pair = pair_of(*motif, tables, *molecule);
                 from = arc_end(&pair, from, most, l, r, work);
             }
             l = r + 1;
         } else {
-            let pair = pair_of(p, pm, tables, q, qm);
-            from = row::next_of(&pair.motif, from, q[l]);
+            let pair = pair_of(*motif, tables, *molecule);
+            from = row::next_of(&pair.motif, from, molecule.bases[l]);
             l += 1;
         }
     }
@@ -325,38 +344,36 @@ pub fn carries(
 }
 
 // Whether the motif embeds in the molecule: the window is the whole of it.
-pub fn embeds(
-    p: &[u8],
-    pm: &[u16],
-    tables: &mut [u16],
-    q: &[u8],
-    qm: &[u16],
-    work: &mut [u16],
-) -> bool
-    requires proper { Proper motif_side least_motif greatest_length p.now pm.now }
-    requires proper_2 { Proper molecule_side least_molecule greatest_length q.now qm.now }
-    requires work_room { work_size (length p.now) (length q.now) ≤ length work.old }
-    requires tables_for { TablesFor p.now pm.now (length q.now) tables.old }
-    ensures value { result ≡ embeds_in (strand_of p.now pm.now) (strand_of q.now qm.now) }
-    ensures tables_for_2 { TablesFor p.now pm.now (length q.now) tables.new }
+pub fn embeds(motif: &Strand, tables: &mut [u16], molecule: &Strand, work: &mut [u16]) -> bool
+    requires proper { on_strand (Proper motif_side least_motif greatest_length) motif.now }
+    requires proper_2 { on_strand (Proper molecule_side least_molecule greatest_length) molecule.now }
+    requires work_room { work_size (length motif.now.bases.now) (length molecule.now.bases.now) ≤ length work.old }
+    requires tables_for { on_strand TablesFor motif.now (length molecule.now.bases.now) tables.old }
+    ensures value { result ≡ embeds_in (lent motif.now) (lent molecule.now) }
+    ensures tables_for_2 { on_strand TablesFor motif.now (length molecule.now.bases.now) tables.new }
 {
-    carries(p, pm, tables, q, qm, 0, q.len(), work)
+    carries(motif, tables, molecule, 0, molecule.bases.len(), work)
 }
 
 // The length of the longest closed prefix of the motif that embeds in the molecule. It asks for what the rules of the direct calls accept: the call
 // length checks both strands before. Where the molecule has no arc, no tables are made.
-pub fn prefix_length(p: &[u8], pm: &[u16], q: &[u8], qm: &[u16], work: &mut [u16]) -> usize
-    requires proper { Proper motif_side least_motif greatest_length p.now pm.now }
-    requires proper_2 { Proper molecule_side least_molecule greatest_length q.now qm.now }
-    requires work_room { work_size (length p.now) (length q.now) ≤ length work.old }
-    ensures { result ≡ longest letters_match p.now pm.now q.now qm.now }
+pub fn prefix_length(motif: &Strand, molecule: &Strand, work: &mut [u16]) -> usize
+    requires proper { on_strand (Proper motif_side least_motif greatest_length) motif.now }
+    requires proper_2 { on_strand (Proper molecule_side least_molecule greatest_length) molecule.now }
+    requires work_room { work_size (length motif.now.bases.now) (length molecule.now.bases.now) ≤ length work.old }
+    ensures { result ≡ on_pair (longest letters_match) motif.now molecule.now }
 {
-    let strands = Strands { p, pm, q, qm };
+    let strands = Strands {
+        motif: *motif,
+        molecule: *molecule,
+    };
+    let m = motif.bases.len();
+    let n = molecule.bases.len();
     let at = strands.first_arc();
-    if q.len() <= at.base || p.len() <= at.from {
+    if n <= at.base || m <= at.from {
         return at.from;
     }
-    if p.len() <= SHORT_MOTIF && q.len() <= SHORT_MOLECULE {
+    if m <= SHORT_MOTIF && n <= SHORT_MOLECULE {
         return strands.rest::<SHORT_SIZE>(at, work);
     }
     strands.rest::<LONG_SIZE>(at, work)

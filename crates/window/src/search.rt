@@ -6,9 +6,11 @@ ghost use Rattle.std.specs.Prelude.{◌≡◌, ◌+◌, ◌-◌, ◌*◌, ◌≤
 ghost use Rattle.lists.proofs.ListLaws.{Tells};
 ghost use Rattle.refusals.specs.Rules.{motif_side, molecule_side, work_size};
 ghost use Rattle.strand.specs.Strands.{Proper, least_motif, least_molecule, greatest_length};
+ghost use Rattle.strand.specs.Lent.{on_strand, on_pair};
 ghost use Rattle.window.specs.Search.{Found};
 
 use rows::tables::{LONG_SIZE, SHORT_MOLECULE, SHORT_MOTIF, SHORT_SIZE};
+use strand::Strand;
 
 // A window of the molecule: `length` bases from `start`.
 #[derive(Clone, Copy, Debug, PartialEq, Eq)]
@@ -45,13 +47,11 @@ impl Progress {
 // What is searched: a motif that has bases, and a molecule, both as the rules let them pass.
 #[derive(Clone, Copy)]
 struct Strands<'a> {
-    p: &'a [u8],
-    pm: &'a [u16],
-    q: &'a [u8],
-    qm: &'a [u16],
-    ghost motif: { Proper motif_side least_motif greatest_length p.now pm.now },
-    ghost base: { 0 < length p.now },
-    ghost molecule: { Proper molecule_side least_molecule greatest_length q.now qm.now },
+    motif: Strand<'a>,
+    molecule: Strand<'a>,
+    ghost proper: { on_strand (Proper motif_side least_motif greatest_length) motif },
+    ghost base: { 0 < length motif.bases.now },
+    ghost proper_2: { on_strand (Proper molecule_side least_molecule greatest_length) molecule },
 }
 
 impl Strands<'_> {
@@ -60,39 +60,41 @@ impl Strands<'_> {
 
     // Whether the motif's first base may stand at i: its letter fits, and i begins an arc if that base does.
     fn may_begin(&self, i: usize) -> bool
-        requires { i < length self.now.q.now }
+        requires { i < length self.now.molecule.bases.now }
         ensures { Tells result (BeginsIn self.now i) }
     {
-        if letters::letter_class(self.p[0]) != letters::letter_class(self.q[i]) {
+        if letters::letter_class(self.motif.bases[0])
+            != letters::letter_class(self.molecule.bases[i])
+        {
             return false;
         }
-        if self.pm[0] == 0 {
+        if self.motif.mates[0] == 0 {
             return true;
         }
-        i < arcs::mate(self.qm, i)
+        i < arcs::mate(self.molecule.mates, i)
     }
 
     // The lowest base from i on where the motif's first base may stand, or the molecule's length.
     fn next_begin(&self, i: usize) -> usize
-        requires { i ≤ length self.now.q.now }
+        requires { i ≤ length self.now.molecule.bases.now }
         ensures { NoneBeginsIn self.now i result }
     {
-        for j in i..self.q.len() {
+        for j in i..self.molecule.bases.len() {
             if self.may_begin(j) {
                 return j;
             }
         }
-        self.q.len()
+        self.molecule.bases.len()
     }
 
     // Whether the window lo..hi carries the motif.
     fn carries(&self, tables: &mut [u16], lo: usize, hi: usize, work: &mut [u16]) -> bool
         requires ready { ReadyIn self.now tables.old work.old }
-        requires lo_le_hi { (lo ≤ hi) × (hi ≤ length self.now.q.now) }
+        requires lo_le_hi { (lo ≤ hi) × (hi ≤ length self.now.molecule.bases.now) }
         ensures tells { Tells result (CarriedIn self.now lo hi) }
         ensures tables_for { TablesIn self.now tables.new }
     {
-        walk::carries(self.p, self.pm, tables, self.q, self.qm, lo, hi, work)
+        walk::carries(&self.motif, tables, &self.molecule, lo, hi, work)
     }
 
     // The least end of a window from `lo` that carries the motif, where the window to `most` does and none that ends before `low`.
@@ -105,7 +107,7 @@ impl Strands<'_> {
         work: &mut [u16],
     ) -> usize
         requires ready { ReadyIn self.now tables.old work.old }
-        requires lo_le_low { (lo ≤ low) × (most ≤ length self.now.q.now) }
+        requires lo_le_low { (lo ≤ low) × (most ≤ length self.now.molecule.bases.now) }
         requires ends_at { EndsIn self.now lo low most }
         ensures ends_at_2 { EndsIn self.now lo result result × ((low ≤ result) × (result ≤ most)) }
         ensures tables_for { TablesIn self.now tables.new }
@@ -133,7 +135,7 @@ impl Strands<'_> {
         work: &mut [u16],
     ) -> usize
         requires ready { ReadyIn self.now tables.old work.old }
-        requires last_le_hi { (last ≤ hi) × (hi ≤ length self.now.q.now) }
+        requires last_le_hi { (last ≤ hi) × (hi ≤ length self.now.molecule.bases.now) }
         requires starts_at { StartsIn self.now first last hi }
         ensures starts_at_2 { StartsIn self.now result result hi × ((first ≤ result) × (result ≤ last)) }
         ensures tables_for { TablesIn self.now tables.new }
@@ -161,7 +163,7 @@ impl Strands<'_> {
         work: &mut [u16],
     ) -> bool
         requires ready { ReadyIn self.now tables.old work.old }
-        requires next_le_first { (next ≤ first) × ((first ≤ end) × (end ≤ length self.now.q.now)) }
+        requires next_le_first { (next ≤ first) × ((first ≤ end) × (end ≤ length self.now.molecule.bases.now)) }
         requires carried { CarriedIn self.now next end }
         ensures tells { Tells result (CarriedIn self.now first end) }
         ensures tables_for { TablesIn self.now tables.new }
@@ -178,11 +180,11 @@ impl Strands<'_> {
         requires ready { ReadyIn self.now tables.old work.old }
         requires seek { SeekIn self.now at }
         requires ends_at { EndsIn self.now at.next end end
-            × ((end ≤ length self.now.q.now) × (0 < limit_of (length self.now.q.now) at.best)) }
+            × ((end ≤ length self.now.molecule.bases.now) × (0 < limit_of (length self.now.molecule.bases.now) at.best)) }
         ensures seek_2 { SeekIn self.now result × (result.low ≡ end + 1) }
         ensures tables_for { TablesIn self.now tables.new }
     {
-        let limit = at.limit(self.q.len());
+        let limit = at.limit(self.molecule.bases.len());
         let first = at.next.max((end + 1).saturating_sub(limit));
         let low = end + 1;
         let reach = at.reach / 2;
@@ -194,7 +196,7 @@ impl Strands<'_> {
                 ..at
             };
         }
-        let start = self.last_start(tables, first, end - self.p.len(), end, work);
+        let start = self.last_start(tables, first, end - self.motif.bases.len(), end, work);
         let best = Some(Window {
             start,
             length: end - start,
@@ -211,13 +213,13 @@ impl Strands<'_> {
     // stand there.
     fn advance(&self, at: Progress) -> Progress
         requires { SeekIn self.now at
-            × ((at.low ≤ length self.now.q.now) × (0 < limit_of (length self.now.q.now) at.best)) }
-        ensures { SeekIn self.now result × Advanced (length self.now.q.now) (length self.now.p.now) at result }
+            × ((at.low ≤ length self.now.molecule.bases.now) × (0 < limit_of (length self.now.molecule.bases.now) at.best)) }
+        ensures { SeekIn self.now result × Advanced (length self.now.molecule.bases.now) (length self.now.motif.bases.now) at result }
     {
-        let limit = at.limit(self.q.len());
+        let limit = at.limit(self.molecule.bases.len());
         let from = at.next.max((at.low + 1).saturating_sub(limit));
         let next = self.next_begin(from);
-        let low = at.low.max(next + self.p.len());
+        let low = at.low.max(next + self.motif.bases.len());
         Progress { next, low, ..at }
     }
 
@@ -225,11 +227,11 @@ impl Strands<'_> {
     fn step(&self, tables: &mut [u16], at: Progress, work: &mut [u16]) -> Progress
         requires ready { ReadyIn self.now tables.old work.old }
         requires seek { SeekIn self.now at
-            × ((at.low ≤ length self.now.q.now) × (0 < limit_of (length self.now.q.now) at.best)) }
+            × ((at.low ≤ length self.now.molecule.bases.now) × (0 < limit_of (length self.now.molecule.bases.now) at.best)) }
         ensures seek_2 { SeekIn self.now result × (at.low < result.low) }
         ensures tables_for { TablesIn self.now tables.new }
     {
-        let n = self.q.len();
+        let n = self.molecule.bases.len();
         let here = self.advance(at);
         if n < here.low {
             return here;
@@ -249,19 +251,19 @@ impl Strands<'_> {
 
     // The search with borrowed room for the tables of the motif: step by step, until every window is ruled out or none can be shorter than the best.
     fn search_lent(&self, work: &mut [u16], tables: &mut [u16]) -> Option<Window>
-        requires work_room { work_size (length self.now.p.now) (length self.now.q.now) ≤ length work.old }
-        requires table_room { 5 * (length self.now.p.now + 1) + length self.now.q.now < length tables.old }
+        requires work_room { work_size (length self.now.motif.bases.now) (length self.now.molecule.bases.now) ≤ length work.old }
+        requires table_room { 5 * (length self.now.motif.bases.now + 1) + length self.now.molecule.bases.now < length tables.old }
         ensures { FoundIn self.now result }
     {
-        walk::prepare(self.p, self.pm, tables);
+        walk::prepare(&self.motif, tables);
         let mut at = Progress {
             best: None,
             next: 0,
             low: 0,
             reach: 0,
         };
-        while at.low <= self.q.len() {
-            if at.limit(self.q.len()) <= self.p.len() {
+        while at.low <= self.molecule.bases.len() {
+            if at.limit(self.molecule.bases.len()) <= self.motif.bases.len() {
                 return at.best;
             }
             at = self.step(tables, at, work);
@@ -271,8 +273,8 @@ impl Strands<'_> {
 
     // The same, with room for SIZE numbers in the tables: those of short strands take little.
     fn search<const SIZE: usize>(&self, work: &mut [u16]) -> Option<Window>
-        requires work_room { work_size (length self.now.p.now) (length self.now.q.now) ≤ length work.old }
-        requires table_room { 5 * (length self.now.p.now + 1) + length self.now.q.now < SIZE }
+        requires work_room { work_size (length self.now.motif.bases.now) (length self.now.molecule.bases.now) ≤ length work.old }
+        requires table_room { 5 * (length self.now.motif.bases.now + 1) + length self.now.molecule.bases.now < SIZE }
         requires size { SIZE ≤ LONG_SIZE }
         ensures { FoundIn self.now result }
     {
@@ -283,20 +285,23 @@ impl Strands<'_> {
 
 // The tightest window of the molecule that carries the motif, for what the rules of the call let pass, if one does. A motif with no bases needs no search: it
 // is carried by the window of no bases at the molecule's start.
-pub fn tightest(p: &[u8], pm: &[u16], q: &[u8], qm: &[u16], work: &mut [u16]) -> Option<Window>
-    requires proper { Proper motif_side least_motif greatest_length p.now pm.now }
-    requires proper_2 { Proper molecule_side least_molecule greatest_length q.now qm.now }
-    requires work_room { work_size (length p.now) (length q.now) ≤ length work.old }
-    ensures { Found p.now pm.now q.now qm.now result }
+pub fn tightest(motif: &Strand, molecule: &Strand, work: &mut [u16]) -> Option<Window>
+    requires proper { on_strand (Proper motif_side least_motif greatest_length) motif.now }
+    requires proper_2 { on_strand (Proper molecule_side least_molecule greatest_length) molecule.now }
+    requires work_room { work_size (length motif.now.bases.now) (length molecule.now.bases.now) ≤ length work.old }
+    ensures { on_pair Found motif.now molecule.now result }
 {
-    if p.is_empty() {
+    if motif.bases.is_empty() {
         return Some(Window {
             start: 0,
             length: 0,
         });
     }
-    let strands = Strands { p, pm, q, qm };
-    if p.len() <= SHORT_MOTIF && q.len() <= SHORT_MOLECULE {
+    let strands = Strands {
+        motif: *motif,
+        molecule: *molecule,
+    };
+    if motif.bases.len() <= SHORT_MOTIF && molecule.bases.len() <= SHORT_MOLECULE {
         return strands.search::<SHORT_SIZE>(work);
     }
     strands.search::<LONG_SIZE>(work)

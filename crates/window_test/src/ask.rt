@@ -39,9 +39,8 @@ pub fn window(pair: &Pair, work: &mut Lent) -> Option<Told> {
         return None;
     }
     let Pair { motif, molecule } = pair;
-    let (p, pm) = (&motif.bases, &motif.mates);
-    let (q, qm) = (&molecule.bases, &molecule.mates);
-    Some(told(window::window(p, pm, q, qm, work.part())))
+    let answer = window::window(&motif.lent(), &molecule.lent(), work.part());
+    Some(told(answer))
 }
 
 // After a refusal no entry is changed; else none behind its part of the work slice.

@@ -6,7 +6,7 @@ use mathlib.Core.Path.{sym, ap, ◌∙◌}
 use Rattle.refusals.proofs.RuleLaws.{handed_on}
 use Rattle.calls.specs.Calls.{effect}
 use Rattle.calls.proofs.FactLaws as fact
-use Rattle.strand.specs.Strands.{strand_of}
+use Rattle.strand.specs.Lent.{lent}
 use Rattle.strand.proofs.VerdictLaws.{proper_mates}
 use Rattle.calls.proofs.Claims as claim
 use Rattle.calls.proofs.CallLaws as call
@@ -17,13 +17,13 @@ pub returns-in_err-judge_add : goal.returns-in_err-judge_add
 returns-in_err-judge_add c =
     ap (λ r. effect r c.args.catalog.now c.args.cache.now) (handed_on _ c.from_residual.ensures.1)
     ∙ sym (claim.add_refused c.args.catalog.now c.args.cache.now c.args.d
-    (strand_of c.args.bases.now c.args.mates.now) _
+    (lent c.args.molecule.now) _
     (sym c.judge_add.ensures ∙ c.in_err-judge_add.was))
 
 pub fold_of-requires : goal.fold_of-requires
 fold_of-requires c =
     let all = proper_mates (omega arith) (fact.add_facts c.args.catalog.now c.args.cache.now c.args.d
-    (strand_of c.args.bases.now c.args.mates.now) (sym c.judge_add.ensures ∙ c.in_ok-judge_add.was)).1 in record {
+    (lent c.args.molecule.now) (sym c.judge_add.ensures ∙ c.in_ok-judge_add.was)).1 in record {
       nested = all.0;
       mates_len_bound = all.1;
     }
@@ -32,11 +32,11 @@ pub returns : goal.returns
 returns c =
     let accepted = sym c.judge_add.ensures ∙ c.in_ok-judge_add.was in
     let f = fact.add_facts c.args.catalog.now c.args.cache.now c.args.d
-    (strand_of c.args.bases.now c.args.mates.now) accepted in
+    (lent c.args.molecule.now) accepted in
     call.add_done c.args.catalog.now c.args.cache.now c.args.d
-    (strand_of c.args.bases.now c.args.mates.now) c.fold_of.result c.put_molecule.new.buf
+    (lent c.args.molecule.now) c.fold_of.result c.put_molecule.new.buf
     c.clean_all.new.s accepted c.fold_of.ensures
-    (outcome.molecule_put_there c.args.d c.args.bases.now c.args.mates.now c.args.catalog.now
+    (outcome.molecule_put_there c.args.d c.args.molecule.now.bases.now c.args.molecule.now.mates.now c.args.catalog.now
     c.put_molecule.result c.put_molecule.new.buf f.0 f.1.small f.1.same
     c.put_molecule.ensures)
     c.clean_all.ensures

@@ -6,7 +6,7 @@ use mathlib.Core.Path.{sym, ap, ◌∙◌}
 use Rattle.calls.specs.Calls.{queried}
 use lib.ListN.{length}
 use Rattle.catalog.proofs.ReadyLaws as ready
-use Rattle.strand.specs.Strands.{strand_of}
+use Rattle.strand.specs.Lent.{lent}
 use Rattle.calls.proofs.Claims as claim
 use Rattle.calls.proofs.CallLaws as call
 use Rattle.refusals.proofs.RuleLaws as rule
@@ -16,7 +16,7 @@ use Rattle.catalog.proofs.query.Goals as goal
 pub returns-in_err-judge_query : goal.returns-in_err-judge_query
 returns-in_err-judge_query c = (
   ap (λ r. queried r c.args.cache.now c.args.hits.now) (rule.handed_on _ c.from_residual.ensures.1)
-      ∙ sym (claim.query_refused embeds c.args.catalog.now c.args.cache.now (strand_of c.args.p.now c.args.pm.now)
+      ∙ sym (claim.query_refused embeds c.args.catalog.now c.args.cache.now (lent c.args.motif.now)
       (length c.args.work.now) c.args.hits.now _
       (sym c.judge_query.ensures ∙ c.in_err-judge_query.was)),
   rule.work_refused _ _ _ (sym c.judge_query.ensures ∙ c.in_err-judge_query.was),
@@ -24,7 +24,7 @@ returns-in_err-judge_query c = (
 
 pub answer-requires : goal.answer-requires
 answer-requires c =
-    let f = ready.query_ready c.args.catalog.now c.args.cache.now (strand_of c.args.p.now c.args.pm.now)
+    let f = ready.query_ready c.args.catalog.now c.args.cache.now (lent c.args.motif.now)
     (length c.args.work.now) (length c.args.hits.now)
     (sym c.judge_query.ensures ∙ c.in_ok-judge_query.was) in (
       f.0,
@@ -35,7 +35,7 @@ answer-requires c =
 
 pub returns : goal.returns
 returns c = (
-  call.query_done embeds c.args.catalog.now c.args.cache.now (strand_of c.args.p.now c.args.pm.now)
+  call.query_done embeds c.args.catalog.now c.args.cache.now (lent c.args.motif.now)
       (length c.args.work.now) c.args.hits.now c.answer.result _ _ c.clean_all.new.s
       (sym c.judge_query.ensures ∙ c.in_ok-judge_query.was) c.clean_all.ensures c.answer.ensures,
   rule.work_accepted _ _ _ (sym c.judge_query.ensures ∙ c.in_ok-judge_query.was) c.answer.auto.work,

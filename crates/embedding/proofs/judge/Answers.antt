@@ -8,8 +8,8 @@ pub returns-in_err-check_pair : goal.returns-in_err-check_pair
 returns-in_err-check_pair c =
     handed_on _ c.from_residual.ensures.1 ∙ judged_pair _ _ _ _ _ _ (sym c.check_pair.ensures ∙ c.in_err-check_pair.was)
 
-pub returns-then-places-p : goal.returns-then-places-p
-returns-then-places-p c = c.refuse.ensures ∙ judged_count _ _ _ _ _ (sym c.check_pair.ensures ∙ c.in_ok-check_pair.was) c.if-places-p.true
+pub returns-then-places-motif : goal.returns-then-places-motif
+returns-then-places-motif c = c.refuse.ensures ∙ judged_count _ _ _ _ _ (sym c.check_pair.ensures ∙ c.in_ok-check_pair.was) c.if-places-motif.true
 
 pub returns : goal.returns
-returns c = judged_pass _ _ _ _ _ (sym c.check_pair.ensures ∙ c.in_ok-check_pair.was) c.if-places-p.false
+returns c = judged_pass _ _ _ _ _ (sym c.check_pair.ensures ∙ c.in_ok-check_pair.was) c.if-places-motif.false

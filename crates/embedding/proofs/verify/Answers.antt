@@ -12,7 +12,8 @@ pub is_embedding-embeds-requires : goal.is_embedding-embeds-requires
 is_embedding-embeds-requires c =
     let all = accepted_facts _ _ _ _ _ (sym c.judge.ensures ∙ c.in_ok-judge.was) in record {
       places_len = all.0;
-      pm_len = all.1.0;
+      motif_len = all.1.0.0;
+      molecule_len = all.1.0.1;
       inside = all.1.1;
     }
 

@@ -25,8 +25,8 @@ slice_bounds-query-count c = omega (arith, (law.input_few c.args.input.now c.req
 pub slice_bounds-query-start : goal.slice_bounds-query-start
 slice_bounds-query-start c = omega (arith, (law.input_few c.args.input.now c.requires.input_whole).0)
 
-pub slice_bounds-query-end-2 : goal.slice_bounds-query-end-2
-slice_bounds-query-end-2 c =
+pub slice_bounds-motif-end : goal.slice_bounds-motif-end
+slice_bounds-motif-end c =
     let f = outcome.motif_there (take 512 c.args.input.now) c.args.bases.now c.args.mates.now
     c.unwrap-n.result c.decode_motif-decoded.new.bases c.decode_motif-decoded.new.mates
     (law.motif_sound (take 512 c.args.input.now) c.requires.motif_held) c.requires.block_bases_in_bounds.0 c.requires.block_bases_in_bounds.1
@@ -38,8 +38,8 @@ slice_bounds-query-end-2 c =
       c.decode_motif-decoded.auto.bases,
     )
 
-pub slice_bounds-query-end-3 : goal.slice_bounds-query-end-3
-slice_bounds-query-end-3 c =
+pub slice_bounds-motif-end-2 : goal.slice_bounds-motif-end-2
+slice_bounds-motif-end-2 c =
     let f = outcome.motif_there (take 512 c.args.input.now) c.args.bases.now c.args.mates.now
     c.unwrap-n.result c.decode_motif-decoded.new.bases c.decode_motif-decoded.new.mates
     (law.motif_sound (take 512 c.args.input.now) c.requires.motif_held) c.requires.block_bases_in_bounds.0 c.requires.block_bases_in_bounds.1
@@ -51,8 +51,8 @@ slice_bounds-query-end-3 c =
       c.decode_motif-decoded.auto.bases,
     )))
 
-pub slice_bounds-query-end-4 : goal.slice_bounds-query-end-4
-slice_bounds-query-end-4 c =
+pub slice_bounds-motif-end-3 : goal.slice_bounds-motif-end-3
+slice_bounds-motif-end-3 c =
     let f = outcome.motif_there (take 512 c.args.input.now) c.args.bases.now c.args.mates.now
     c.unwrap-n.result c.decode_motif-decoded.new.bases c.decode_motif-decoded.new.mates
     (law.motif_sound (take 512 c.args.input.now) c.requires.motif_held) c.requires.block_bases_in_bounds.0 c.requires.block_bases_in_bounds.1
@@ -64,8 +64,8 @@ slice_bounds-query-end-4 c =
       c.decode_motif-decoded.auto.mates,
     )
 
-pub slice_bounds-query-end-5 : goal.slice_bounds-query-end-5
-slice_bounds-query-end-5 c =
+pub slice_bounds-motif-end-4 : goal.slice_bounds-motif-end-4
+slice_bounds-motif-end-4 c =
     let f = outcome.motif_there (take 512 c.args.input.now) c.args.bases.now c.args.mates.now
     c.unwrap-n.result c.decode_motif-decoded.new.bases c.decode_motif-decoded.new.mates
     (law.motif_sound (take 512 c.args.input.now) c.requires.motif_held) c.requires.block_bases_in_bounds.0 c.requires.block_bases_in_bounds.1

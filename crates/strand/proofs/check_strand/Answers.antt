@@ -28,7 +28,7 @@ returns-then-outside-mates c =
     c.if-letter-bases.false _ c.lowest_outside-outside.ensures c.if-outside-mates.true
 
 pub lowest_not_mutual-single-requires : goal.lowest_not_mutual-single-requires
-lowest_not_mutual-single-requires c = found_inside c.args.mates.now _ c.lowest_outside-outside.ensures c.if-outside-mates.false
+lowest_not_mutual-single-requires c = found_inside c.args.strand.now.mates.now _ c.lowest_outside-outside.ensures c.if-outside-mates.false
 
 pub returns-then-single-mates : goal.returns-then-single-mates
 returns-then-single-mates c =
@@ -40,8 +40,8 @@ returns-then-single-mates c =
 pub arcs_close-requires : goal.arcs_close-requires
 arcs_close-requires c =
     record {
-      inside = found_inside c.args.mates.now _ c.lowest_outside-outside.ensures c.if-outside-mates.false;
-      paired = found_paired c.args.mates.now _ c.lowest_not_mutual-single.ensures c.if-single-mates.false;
+      inside = found_inside c.args.strand.now.mates.now _ c.lowest_outside-outside.ensures c.if-outside-mates.false;
+      paired = found_paired c.args.strand.now.mates.now _ c.lowest_not_mutual-single.ensures c.if-single-mates.false;
     }
 
 pub returns-then-arcs_close : goal.returns-then-arcs_close

@@ -11,7 +11,7 @@ use Rattle.batch.proofs.answer.answer_motif.Goals as goal
 pub slot-s-requires : goal.slot-s-requires
 slot-s-requires c =
     let proper = motif.proper_at c.args.motifs.now.blocks.now c.args.motifs.now.usable c.args.t c.requires.0.below _ _
-    c.bases_at-p.ensures c.mates_at-pm.ensures in
+    c.motif_at-motif.ensures.0 c.motif_at-motif.ensures.1 in
     (proper.small, proper.same, rw c.block_count.ensures c.requires.0.planning.slots)
 
 pub hits_of-hit-requires : goal.hits_of-hit-requires
@@ -24,9 +24,10 @@ hits_of-hit-requires c = (
 pub returns : goal.returns
 returns c =
     let proper = motif.proper_at c.args.motifs.now.blocks.now c.args.motifs.now.usable c.args.t c.requires.0.below _ _
-    c.bases_at-p.ensures c.mates_at-pm.ensures in
+    c.motif_at-motif.ensures.0 c.motif_at-motif.ensures.1 in
     laws.query_answered c.args.catalog.now c.args.motifs.now.blocks.now c.args.held.now c.args.found.now c.args.cache.now c.args.t c.requires.0
-    _ _ (motif.strand_at c.args.motifs.now.blocks.now c.args.motifs.now.usable c.args.t c.requires.0.below _ _ c.bases_at-p.ensures c.mates_at-pm.ensures)
+    _ _ (motif.strand_at c.args.motifs.now.blocks.now c.args.motifs.now.usable c.args.t c.requires.0.below _ _
+    c.motif_at-motif.ensures.0 c.motif_at-motif.ensures.1)
     c.slot-s.result (rw c.block_count.ensures at c.slot-s.ensures.0) _ c.block_at.ensures c.args.hits.now c.hits_of-hit.result _ _ c.list_hits-count.result
     c.hits_of-hit.ensures (rw c.block_count-2.ensures at c.list_hits-count.ensures)
     (entry_put_there c.slot-s.result _ _ c.args.held.now c.hits_of-hit.result c.args.cache.now c.put_entry.result _ (rw c.block_count.ensures at

@@ -10,7 +10,8 @@ use Rattle.batch.proofs.plan.plan_motif.Goals as goal
 
 pub slot-s-requires : goal.slot-s-requires
 slot-s-requires c =
-    let proper = motif.proper_at c.args.motifs.now.blocks.now c.args.motifs.now.usable c.args.t c.requires.1 _ _ c.bases_at-p.ensures c.mates_at-pm.ensures in
+    let proper = motif.proper_at c.args.motifs.now.blocks.now c.args.motifs.now.usable c.args.t c.requires.1 _ _
+    c.motif_at-motif.ensures.0 c.motif_at-motif.ensures.1 in
     (proper.small, proper.same, rw c.block_count.ensures c.requires.0.slots)
 
 pub fill_todo-requires : goal.fill_todo-requires
@@ -22,8 +23,10 @@ fill_todo-requires c = (
 
 pub returns : goal.returns
 returns c =
-    let strand = motif.strand_at c.args.motifs.now.blocks.now c.args.motifs.now.usable c.args.t c.requires.1 _ _ c.bases_at-p.ensures c.mates_at-pm.ensures in
-    let proper = motif.proper_at c.args.motifs.now.blocks.now c.args.motifs.now.usable c.args.t c.requires.1 _ _ c.bases_at-p.ensures c.mates_at-pm.ensures in (
+    let strand = motif.strand_at c.args.motifs.now.blocks.now c.args.motifs.now.usable c.args.t c.requires.1 _ _
+    c.motif_at-motif.ensures.0 c.motif_at-motif.ensures.1 in
+    let proper = motif.proper_at c.args.motifs.now.blocks.now c.args.motifs.now.usable c.args.t c.requires.1 _ _
+    c.motif_at-motif.ensures.0 c.motif_at-motif.ensures.1 in (
       rw (sym strand) (laws.todo_planned c.args.held.now c.args.cache.now _ c.slot-s.result (rw c.block_count.ensures at c.slot-s.ensures.0) _
           c.keeps-same.result _
           c.block_at-entry.ensures

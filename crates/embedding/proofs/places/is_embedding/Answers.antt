@@ -7,4 +7,4 @@ pub returns : goal.returns
 returns c =
     tells_same _ (all_embed _ _ _ _ _ c.requires.places_len (c.in_order.ensures.yes c.if-not-in_order.false)
     (c.same_letters.ensures.yes c.if-not-same_letters.false))
-    (embed_arcs c.args.p.now _ c.args.q.now _ _ c.requires.places_len) c.same_arcs.ensures
+    (embed_arcs c.args.motif.now.bases.now _ c.args.molecule.now.bases.now _ _ c.requires.places_len) c.same_arcs.ensures

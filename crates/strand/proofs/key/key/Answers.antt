@@ -12,7 +12,7 @@ loop-i-preserved c = (
   c.loop-i.invariant.0,
   c.loop-i.invariant.1,
   key_more _ _ _ _ _ (omega arith) (omega arith) refl c.loop-i.invariant.2,
-  omega (arith, c.type_inv.bases c.loop-i.i, c.type_inv.mates c.loop-i.i),
+  omega (arith, c.type_inv.mates c.loop-i.i),
 )
 
 pub returns : goal.returns

@@ -10,4 +10,4 @@ invariant-loop-l l =
     WalkedIn l.self (record { base = l.l; from = l.from }) × TablesIn l.self l.tables
 
 abbrev pub decreases-loop-l : goal.decreases-loop-l
-decreases-loop-l l = length l.self.q.now - l.l
+decreases-loop-l l = length l.self.molecule.bases.now - l.l

@@ -2,7 +2,7 @@
 -- The decoder leaves the molecule at the start of the room's two arrays, and the walk, whose rules it meets, reads just that.
 use borrow.Author.Rules.{rules}
 use mathlib.Core.Path.{refl}
-use Rattle.strand.specs.Strands.{strand_of}
+use Rattle.strand.specs.Lent.{lent}
 use Rattle.calls.specs.Buffers.{molecule_at}
 use Rattle.calls.proofs.FactLaws.{held_facts}
 use Rattle.search.proofs.MatchLaws as matching
@@ -16,8 +16,8 @@ unwrap-n-requires c =
     rw (matching.found_at _ c.args.room.now.bases c.args.room.now.mates _ _ _ (search rules) (search rules) c.decode_molecule-decoded.ensures
     _ _ c.requires.0 c.requires.1 c.block_at-block.ensures) (search rules)
 
-pub shared_ref_as_front-embeds : goal.shared_ref_as_front-embeds
-shared_ref_as_front-embeds c =
+pub shared_ref_as_front-molecule : goal.shared_ref_as_front-molecule
+shared_ref_as_front-molecule c =
     (matching.read_at _ c.args.room.now.bases c.args.room.now.mates _ _ _ _ c.unwrap-n.ensures (search rules) (search rules)
     c.decode_molecule-decoded.ensures _ _ c.requires.0 c.requires.1 c.block_at-block.ensures).short
 
@@ -32,7 +32,6 @@ returns c = (
   matching.matched (molecule_at c.args.catalog.now c.args.d) _ _ _
       (matching.read_at _ c.args.room.now.bases c.args.room.now.mates _ _ _ _ c.unwrap-n.ensures (search rules) (search rules)
       c.decode_molecule-decoded.ensures _ _ c.requires.0 c.requires.1 c.block_at-block.ensures)
-      (strand_of c.args.self.now.bases.now c.args.self.now.mates.now) _ c.embeds.ensures.value,
-  refl,
+      (lent c.args.self.now.motif) _ c.embeds.ensures.value,
   refl,
 )

@@ -6,5 +6,5 @@ use Rattle.window.proofs.search.Strands.advance.Goals as goal
 
 pub returns : goal.returns
 returns c =
-    gone_on c.args.self.now.base c.args.self.now.motif.nested.inside c.requires.0 _ _ _ c.requires.1.0 (omega arith) c.next_begin-next.ensures
+    gone_on c.args.self.now.base c.args.self.now.proper.nested.inside c.requires.0 _ _ _ c.requires.1.0 (omega arith) c.next_begin-next.ensures
     (omega arith)

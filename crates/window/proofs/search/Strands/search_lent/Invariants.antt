@@ -15,4 +15,4 @@ invariant-loop-at l = record {
 }
 
 abbrev pub decreases-loop-at : goal.decreases-loop-at
-decreases-loop-at l = length l.self.q.now + length l.self.p.now + 2 - l.at.low
+decreases-loop-at l = length l.self.molecule.bases.now + length l.self.motif.bases.now + 2 - l.at.low
