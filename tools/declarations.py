@@ -108,8 +108,9 @@ def rust_types(text, kind, lengths=()):
 
 
 def rattle_source(root):
-    """Also the parameters as they are written, and a line for what is exported in a form that this script does not know."""
+    """Also the parameters as they are written but for lifetimes, which C has not, and a line for what is exported in a form that this script does not know."""
     text = '\n'.join(read(os.path.join(root, path, '*.rt')) for path in EXPORTED)
+    text = re.sub(r"&'\w+ ", '&', re.sub(r"(\bfn \w+)<'\w+(?:, '\w+)*>\(", r'\1(', text))
     written, results = {}, {}
     for one in re.finditer(r'#\[unsafe\(no_mangle\)\]\s*pub extern "C" fn (\w+)\(([^()]*)\)(?:\s*->\s*(\w+))?\s*(?:ensures|requires|\{)', text):
         written[one[1]], results[one[1]] = typed(one[2]), one[3] or '()'
