@@ -1,4 +1,5 @@
--- What contracts say of a pair: the statements of `Arcs`, and the best of `Row` of embedding, for its lists.
+-- Only the contracts and laws of this crate, placing, trace and walk need this file: what contracts say of a pair, the statements of `Arcs`, and the best of
+-- `Row` of embedding, for its lists.
 use Rattle.std.specs.Prelude.{ℕ, List, length}
 use Rattle.lists.specs.Vocabulary.{nth}
 use Rattle.embedding.specs.Embedding.{letters_fit}

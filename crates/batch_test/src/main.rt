@@ -45,7 +45,7 @@ fn step<R: Print + AllocGlobal>(
 ) -> io::Result<()> {
     match Command::of(line) {
         Some(Command::Batch) => batches.ask(rt, line, bench)?,
-        Some(Command::Put(d)) => bench.image.put(d, &lines::strand(rt.alloc(), line)?),
+        Some(Command::Put(d)) => bench.image.put(d, &lines::strand_of(rt.alloc(), line)?),
         Some(Command::EndGroup) => bench.counts.report_with_batches(rt, line)?,
         None => bench.act(rt, line)?,
     }

@@ -12,8 +12,9 @@ use mir.Val.{bool_byte}
 use lib.ListN.{length, take, drop, replicate, length-take, length-drop}
 use lib.Seq.{get_or-take, get_or-drop, take_all, length-take-le}
 use borrow.Author.Tests.{eq-eqb, eqb-true, lt-leb, le-leb}
-use Rattle.std.specs.Prelude.{Option, Some, None}
+use Rattle.std.specs.Prelude.{Option, Some, None, Result, Ok, Err}
 use Rattle.std.specs.Bool.{then_some}
+use Rattle.std.specs.Result.{result_ok}
 use Rattle.std.proofs.lemmas.Option.{none-some, same_Some}
 use Rattle.lists.specs.Vocabulary.{nth, every, all, between, choose}
 use Rattle.lists.proofs.ListLaws.{Tells, never, both_ways, every_at, every_true, zeros_at, nth_tab, length_tab, same_eq, same_all}
@@ -22,7 +23,7 @@ use Rattle.strand.proofs.VerdictLaws.{nested_yes}
 use Rattle.letters.proofs.LetterLaws.{least_none, least_next, least_end}
 use Rattle.octets.specs.Octets.{Bytes, is_zero, word16, words}
 use Rattle.block.specs.Content.{sum_to}
-use Rattle.block.specs.Walk.{low_sum, OneByte}
+use Rattle.block.specs.Walk.{low_sum, OneByte, passed}
 use Rattle.block.proofs.SumLaws.{sum_more, sum_small, term_small}
 
 -- ---- a part of a block, place by place
@@ -251,12 +252,16 @@ not_inside m out = go (is_nested m) refl
     go true e = absurd (out (nested_yes m e).inside)
     go false e = sym e
 
--- Mates whose high bytes are 0 add what they should; nested ones are such.
+-- What mates add by their low bytes. Where their high bytes are 0, that is what they should add; nested ones are such.
+pub mates_added : (s m : List ℕ) (at n : ℕ) → m ≡ words n (drop at s) → (sum : ℕ) {total : ℕ} → sum ≡ sum_to s at
+    → total ≡ sum + low_sum at m (length m) → total ≡ sum_to s at + low_sum at (words n (drop at s)) n
+mates_added s m at n is sum before added =
+    let long : length m ≡ n = ap length is ∙ length_tab (λ k. word16 (drop at s) (2 * k)) n in
+    added ∙ rw (before, long, is) refl
+
 pub mates_passed : (s m : List ℕ) (at n : ℕ) → m ≡ words n (drop at s) → Bytes s → (sum : ℕ) {total : ℕ} → sum ≡ sum_to s at
     → total ≡ sum + low_sum at m (length m) → OneByte (words n (drop at s)) n → total ≡ sum_to s (at + 2 * n)
-mates_passed s m at n is B sum before added small =
-    let long : length m ≡ n = ap length is ∙ length_tab (λ k. word16 (drop at s) (2 * k)) n in
-    added ∙ rw (before, long, is) (low_upto s at n B small n (omega arith))
+mates_passed s m at n is B sum before added small = mates_added s m at n is sum before added ∙ low_upto s at n B small n (omega arith)
 
 pub nested_small : (x : List ℕ) (n : ℕ) → n ≤ 160 → is_nested (words n x) ≡ true → OneByte (words n x) n
 nested_small x n few N i l =
@@ -320,3 +325,33 @@ hand_same false x y h = refl
 -- What a callee handed on, under the caller's rule, with the caller's sum.
 pub hand_on : (r : Option ℕ) (a b : Bool) (x y : ℕ) → r ≡ then_some a x → a ≡ b → (b ≡ true → x ≡ y) → r ≡ then_some b y
 hand_on r a b x y e q h = e ∙ ap (λ (t : Bool). then_some t x) q ∙ hand_same b x y h
+
+-- ---- a sum that is handed on with every verdict
+
+-- What a callee handed on, by another name of the verdict and of the sum.
+pub pass_on : {r : Result ℕ ℕ} {a b : Bool} {x y : ℕ} → r ≡ passed a x → a ≡ b → x ≡ y → r ≡ passed b y
+pass_on {a = a} {y = y} e q h = e ∙ ap (λ (k : ℕ). passed a k) h ∙ ap (λ (t : Bool). passed t y) q
+
+pub pass_err : (b : Bool) (v x : ℕ) → false ≡ b → v ≡ x → Err v ≡ passed b x
+unfolding passed
+pass_err b v x q h = ap (λ (k : ℕ). Err k) h ∙ ap (λ (t : Bool). passed t x) q
+
+sum_in : Result ℕ ℕ → ℕ
+sum_in (Ok x) = x
+sum_in (Err x) = x
+
+pub passed_ok : (b : Bool) (x v : ℕ) → Ok v ≡ passed b x → (b ≡ true) × (v ≡ x)
+unfolding passed sum_in
+passed_ok true x v e = (refl, ap sum_in e)
+passed_ok false x v e = let z : ◌≡◌ {A = ℕ} 0 1 = cc in absurd (omega arith)
+
+pub passed_err : (b : Bool) (x v : ℕ) → Err v ≡ passed b x → (b ≡ false) × (v ≡ x)
+unfolding passed sum_in
+passed_err true x v e = let z : ◌≡◌ {A = ℕ} 0 1 = cc in absurd (omega arith)
+passed_err false x v e = (refl, ap sum_in e)
+
+-- Of what a callee handed on the caller takes the sum where the bytes keep their rule; it may know only there what the sum is.
+pub kept : (r : Result ℕ ℕ) (b : Bool) (x y : ℕ) → r ≡ passed b x → (b ≡ true → r ≡ passed b y) → result_ok r ≡ then_some b y
+unfolding passed
+kept r true x y e h = ap result_ok (h refl)
+kept r false x y e h = ap result_ok e

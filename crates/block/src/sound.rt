@@ -20,7 +20,7 @@ fn base_bytes(s: &[u8], kind: &Kind, n: usize) -> Option<u32>
 {
     let e = kind.start + n;
     let head = walk::zeros(s, kind.blank, kind.start, walk::gather(s, 0, kind.blank, 0))?;
-    let bases = walk::bases(s, kind.side, kind.start, e, head)?;
+    let bases = walk::bases(s, kind.side, kind.start, e, head).ok()?;
     walk::zeros(s, e, kind.start + kind.most, bases)
 }
 
@@ -32,7 +32,7 @@ fn mate_bytes(s: &[u8], kind: &Kind, n: usize, sum: u32) -> Option<u32>
         result ≡ then_some (mate_bytes_ok at kind.now.most n s.now && is_nested (words n (drop at s.now))) (sum_to s.now (at + 2 * kind.now.most)) }
 {
     let at = kind.start + kind.most;
-    let mates = walk::mates(s, at, n, sum)?;
+    let mates = walk::mates(s, at, n, sum).ok()?;
     walk::zeros(s, at + 2 * n, at + 2 * kind.most, mates)
 }
 
@@ -111,7 +111,7 @@ pub fn sound_entry(s: &[u8]) -> bool
     let Some(content) = content(s, &kind::ENTRY) else {
         return false;
     };
-    let Some(sum) = walk::maps(s, content) else {
+    let Ok(sum) = walk::maps(s, content) else {
         return false;
     };
     sum == checksum_in(s)

@@ -28,7 +28,7 @@ impl Kind {
 pub enum Preparation {
     // `N a b c`: a random bases and b mates without bonds, from the seed c.
     Strand(usize, usize, usize),
-    // `A a b`: an arc.
+    // `A a b`: an arc. Its ends may lie behind the mates, too, where the input's language has the lengths and the counts (see `State::set_word`).
     Arc(usize, usize),
     // `C a b`: empty maps of a and b bytes.
     Maps(usize, usize),

@@ -55,7 +55,7 @@ fn step<R: Print + AllocGlobal>(
     counts: &mut Counts,
 ) -> io::Result<bool> {
     match Command::of(line) {
-        Some(Command::Prepare(preparation)) => state.prepare(rt.alloc(), preparation)?,
+        Some(Command::Prepare(preparation)) => state.prepare(rt.alloc(), preparation, counts)?,
         Some(Command::Ask(question)) => counts.count(rt, line, state.answer(question))?,
         Some(Command::EndGroup) => {
             counts.report(rt, line)?;

@@ -1,10 +1,10 @@
 // What lines act on.
-use super::blocks;
 use super::blocks::BLOCK;
 use super::cases::{Decoding, Encoding, Kind, Preparation, Question};
+use super::{Counts, blocks};
 use std::alloc::{AllocError, Global};
 use testing::random::{letter, next};
-use testing::slices::{bond, first, first_mut, rest, set, sum};
+use testing::slices::{entry, first, first_mut, rest, set, sum};
 use testing::strands::Strand;
 
 // Three blocks and a byte.
@@ -74,14 +74,37 @@ impl State {
         })
     }
 
-    pub fn prepare(&mut self, alloc: Global, preparation: Preparation) -> Result<(), AllocError> {
+    // Word i becomes x. In the input's language the words are the mates and, behind them, how many bases and mates calls get, how many bytes of each map,
+    // and how many answers were right and how many wrong. Past the last nothing changes.
+    fn set_word(&mut self, counts: &mut Counts, i: usize, x: u16) {
+        let number = usize::from(x);
+        match i.checked_sub(self.strand.mates.len()) {
+            Some(0) => self.bases = number,
+            Some(1) => self.mates = number,
+            Some(2) => self.searched = number,
+            Some(3) => self.hits = number,
+            Some(4) => counts.right = number,
+            Some(5) => counts.wrong = number,
+            _ => set(&mut self.strand.mates, i, x),
+        }
+    }
+
+    pub fn prepare(
+        &mut self,
+        alloc: Global,
+        preparation: Preparation,
+        counts: &mut Counts,
+    ) -> Result<(), AllocError> {
         match preparation {
             Preparation::Strand(bases, mates, seed) => {
                 self.strand = unbonded(alloc, seed)?;
                 self.bases = bases;
                 self.mates = mates;
             }
-            Preparation::Arc(i, j) => bond(&mut self.strand.mates, i, j),
+            Preparation::Arc(i, j) => {
+                self.set_word(counts, i, entry(j));
+                self.set_word(counts, j, entry(i));
+            }
             Preparation::Maps(searched, hits) => {
                 self.maps.fill(0);
                 self.searched = searched;

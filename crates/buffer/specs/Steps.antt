@@ -1,4 +1,4 @@
--- What a step that is handed a block may be relied on for, whatever it is. Only the functions inside this crate need this file.
+-- Only the functions inside this crate need this file: what a step that is handed a block may be relied on for, whatever it is.
 use Rattle.std.specs.Prelude.{ℕ, List, Bool, ◌≡◌, length}
 use Rattle.std.specs.Borrow.{MutBor}
 use Rattle.block.specs.Content.{block_size}

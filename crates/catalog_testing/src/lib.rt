@@ -90,7 +90,7 @@ impl Bench {
         let sizes = Sizes::of(line);
         self.work.begin(sizes.work);
         self.hits.begin(sizes.hits);
-        let answer = self.made(call, sizes, &lines::strand(rt.alloc(), line)?);
+        let answer = self.made(call, sizes, &lines::strand_of(rt.alloc(), line)?);
         let (kind, right) = match call {
             Call::Query => (Kind::Query, self.hold(line, answer, &self.hits)),
             _ => (Kind::Update, true),

@@ -137,12 +137,21 @@ fn mate(line: &[u8], i: usize) -> u16 {
     }
 }
 
+// Writes the strand of a line, with more bases and mates than it has, as far as there is room.
+pub fn strand(line: &[u8], bases: &mut [u8], mates: &mut [u16]) {
+    for (i, x) in bases.iter_mut().enumerate().take(STRAND_ROOM) {
+        *x = base(line, i);
+    }
+    for (i, x) in mates.iter_mut().enumerate().take(STRAND_ROOM) {
+        *x = mate(line, i);
+    }
+}
+
 // The strand of a line.
-pub fn strand(alloc: Global, line: &[u8]) -> Result<Strand, AllocError> {
+pub fn strand_of(alloc: Global, line: &[u8]) -> Result<Strand, AllocError> {
     let bases = number(line, 74..77).min(STRAND_ROOM);
     let mates = number(line, 78..81).min(STRAND_ROOM);
-    Ok(Strand {
-        bases: (0..bases).map(|i| base(line, i)).collect(alloc)?,
-        mates: (0..mates).map(|i| mate(line, i)).collect(alloc)?,
-    })
+    let mut made = Strand::blank(alloc, bases, mates)?;
+    strand(line, &mut made.bases, &mut made.mates);
+    Ok(made)
 }

@@ -1,17 +1,33 @@
 -- What the code that writes and reads the parts of a block leaves.
 use mathlib.Core.Path.{◌≡◌, sym, ap, ap₂, ◌∙◌}
 use mathlib.Core.List.{List, [], ◌∷◌, ◌++◌, append-nil, append_assoc}
-use Prim.Native.Nat.{ℕ, zero, suc, ◌+◌, ◌-◌, ◌*◌, ◌≤◌}
+use Prim.Native.Nat.{ℕ, zero, suc, ◌+◌, ◌-◌, ◌*◌, ◌<◌, ◌≤◌}
 use native.Mathlib.Omega.{arith}
 use native.Mathlib.Nat.{sub-zero, zero-sub, suc-sub-suc}
+use native.Mathlib.Numerals.{add-one}
 use borrow.Rule.Slice.PartMut.{put_mid}
 use lib.ListN.{length, set, take, drop, replicate, length-append, length-drop, drop_of_length-le}
-use lib.Seq.{take_all, take_at, drop_at, length-take-le, drop-drop}
+use lib.Seq.{drop-cons, set_at, append_snoc, take-suc, take_all, take_at, drop_at, length-take-le, drop-drop}
+use Rattle.lists.specs.Vocabulary.{nth}
 use Rattle.octets.specs.Octets.{words, bytes_of}
 use Rattle.block.specs.Content.{rechecked, molecule_kind, padded, head_of, content_of, strand_block, encode_molecule}
 use Rattle.octets.proofs.ScanLaws.{length_bytes}
 use Rattle.block.proofs.PartLaws.{length_padded, length_head, length_content, check_put}
 use Rattle.strand.specs.Strands.{strand_of}
+
+-- ---- a copy, one entry a turn
+
+pub copy_more : (i : ℕ) (s d : List ℕ) → i < length s → i < length d → set (take i s ++ drop i d) i (nth s i) ≡ take (i + 1) s ++ drop (i + 1) d
+copy_more i s d hs hd =
+    ap (λ (l : List ℕ). set (take i s ++ l) i (nth s i)) (drop-cons d i 0 hd)
+    ∙ set_at (take i s) (nth d i) (drop (suc i) d) (nth s i) i (length-take-le i s (omega arith))
+    ∙ sym (append_snoc (take i s) (nth s i) (drop (suc i) d))
+    ∙ ap (λ (l : List ℕ). l ++ drop (suc i) d) (sym (take-suc s i 0 hs))
+    ∙ ap (λ (k : ℕ). take k s ++ drop k d) (sym (add-one i))
+
+pub copy_end : (i : ℕ) (s d : List ℕ) → length s ≤ i → length d ≤ i → take i s ++ drop i d ≡ s
+copy_end i s d hs hd =
+    ap (λ (l : List ℕ). take i s ++ l) (drop_of_length-le d hd) ∙ append-nil (take i s) ∙ take_all i s hs
 
 -- ---- zeros and a head
 
@@ -20,18 +36,15 @@ drop_zeros zero n = ap (λ (m : ℕ). replicate m 0) (sym (sub-zero n))
 drop_zeros (suc k) zero = ap (λ (m : ℕ). replicate m 0) (sym (zero-sub (suc k)))
 drop_zeros (suc k) (suc n) = drop_zeros k n ∙ ap (λ (m : ℕ). replicate m 0) (sym (suc-sub-suc n k))
 
--- Byte 0 and the length written, and zeros from byte 2 on.
-pub head_is : (s p : List ℕ) (mark n : ℕ) → 2 ≤ length s
-    → p ≡ replicate (length (take (length (set (set s 0 mark) 1 n) - 2) (drop 2 (set (set s 0 mark) 1 n)))) 0
-    → put_mid 2 (length (set (set s 0 mark) 1 n) - 2) (set (set s 0 mark) 1 n) p ≡ head_of (length s) mark n []
-head_is [] p mark n h e = absurd (omega arith)
-head_is (x ∷ []) p mark n h e = absurd (omega arith)
-head_is (x ∷ y ∷ s) p mark n h e =
+-- Byte 0 and the length written, and what follows from byte 2 on.
+pub head_is : (s own p : List ℕ) (mark n : ℕ) → 2 ≤ length s
+    → p ≡ padded (length (take (length (set (set s 0 mark) 1 n) - 2) (drop 2 (set (set s 0 mark) 1 n)))) own
+    → put_mid 2 (length (set (set s 0 mark) 1 n) - 2) (set (set s 0 mark) 1 n) p ≡ head_of (length s) mark n own
+head_is [] own p mark n h e = absurd (omega arith)
+head_is (x ∷ []) own p mark n h e = absurd (omega arith)
+head_is (x ∷ y ∷ s) own p mark n h e =
     ap (λ (l : List ℕ). mark ∷ n ∷ (p ++ l)) (drop_of_length-le s {i = suc (suc (length s)) - 2} (omega arith))
-    ∙ ap (λ (l : List ℕ). mark ∷ n ∷ l) (append-nil p ∙ e ∙ ap (λ (k : ℕ). replicate k 0) count)
-  where
-    count : length (take (suc (suc (length s)) - 2) s) ≡ suc (suc (length s)) - 2 - 0
-    count = length-take-le (suc (suc (length s)) - 2) s (omega arith) ∙ sym (sub-zero (suc (suc (length s)) - 2))
+    ∙ ap (λ (l : List ℕ). mark ∷ n ∷ l) (append-nil p ∙ e ∙ ap (λ (k : ℕ). padded k own) (length-take-le (suc (suc (length s)) - 2) s (omega arith)))
 
 pub mates_is : (n : ℕ) (m z r : List ℕ) → z ≡ replicate n 0 → r ≡ bytes_of m ++ drop (2 * length m) z → r ≡ padded n (bytes_of m)
 mates_is n m z r e q =
@@ -83,14 +96,14 @@ padded_is s src p z h ep ez =
 
 -- ---- the content of a block, part by part
 
-module _ (mark start most : ℕ) (bases mates : List ℕ) (ha : 2 ≤ start) (hb : length bases ≤ most) where
+module _ (mark start most : ℕ) (own bases mates : List ℕ) (ha : 2 + length own ≤ start) (hb : length bases ≤ most) where
   pub content_put : (n : ℕ) (s H B M : List ℕ) → start + 3 * most ≤ length s → n ≡ length bases
-      → H ≡ head_of (length (take start s)) mark n []
+      → H ≡ head_of (length (take start s)) mark n own
       → B ≡ padded (length (take (start + most - start) (drop start (H ++ drop start s)))) bases
       → M ≡ padded (length (take (start + most + 2 * most - (start + most)) (drop (start + most) (put_mid start (start + most - start)
       (H ++ drop start s) B)))) (bytes_of mates)
       → put_mid (start + most) (start + most + 2 * most - (start + most)) (put_mid start (start + most - start) (H ++ drop start s) B) M
-      ≡ head_of start mark (length bases) [] ++ padded most bases ++ padded (2 * most) (bytes_of mates) ++ drop (start + 3 * most) s
+      ≡ head_of start mark (length bases) own ++ padded most bases ++ padded (2 * most) (bytes_of mates) ++ drop (start + 3 * most) s
   content_put n s H B M hs en eH eB eM =
       ap (λ (l : List ℕ). put_mid f (h - f) l M) w2
       ∙ put_next f h (H ++ B) T l_hb M
@@ -105,11 +118,11 @@ module _ (mark start most : ℕ) (bases mates : List ℕ) (ha : 2 ≤ start) (hb
       T : List ℕ
       T = drop (f - start) (drop start s)
 
-      H-is : H ≡ head_of start mark (length bases) []
-      H-is = eH ∙ ap₂ (λ (x y : ℕ). head_of x mark y []) (length-take-le start s (omega arith)) en
+      H-is : H ≡ head_of start mark (length bases) own
+      H-is = eH ∙ ap₂ (λ (x y : ℕ). head_of x mark y own) (length-take-le start s (omega arith)) en
 
       l_h : length H ≡ start
-      l_h = ap length H-is ∙ length_head start mark (length bases) [] ha
+      l_h = ap length H-is ∙ length_head start mark (length bases) own ha
 
       B-is : B ≡ padded most bases
       B-is = eB ∙ ap (λ (k : ℕ). padded k bases) (next_length start f H (drop start s) l_h (simp length-drop (omega arith)) ∙ omega arith)

@@ -160,11 +160,19 @@ module _ (s bases mates : List ℕ) where
   unfolding laid_over
   laid_some r x y size n hb hm q = ap (λ (w : Decoded). w.count) (laid_in r x y size n hb hm q)
 
-  pub laid_there : (r : ℕ) (x y : List ℕ) → length s ≡ 512 → length_in s ≤ 160 → 160 ≤ length bases → 160 ≤ length mates
+  pub laid_there : (r : Option ℕ) (x y : List ℕ) → length s ≡ 512 → length_in s ≤ 160 → 160 ≤ length bases → 160 ≤ length mates
+      → decoded r x y ≡ molecule_decoded s bases mates
+      → (r ≡ Some (length (molecule_in s).bases)) × (x ≡ (molecule_in s).bases ++ drop (length (molecule_in s).bases) bases)
+      × (y ≡ (molecule_in s).mates ++ drop (length (molecule_in s).bases) mates)
+  unfolding laid_over
+  laid_there r x y size n hb hm q =
+      let p = laid_in r x y size n hb hm q in (ap (λ (w : Decoded). w.count) p, ap (λ (w : Decoded). w.bases) p, ap (λ (w : Decoded). w.mates) p)
+
+  pub laid_at : (r : ℕ) (x y : List ℕ) → length s ≡ 512 → length_in s ≤ 160 → 160 ≤ length bases → 160 ≤ length mates
       → decoded (Some r) x y ≡ molecule_decoded s bases mates
       → (r ≡ length (molecule_in s).bases) × (x ≡ (molecule_in s).bases ++ drop r bases) × (y ≡ (molecule_in s).mates ++ drop r mates)
   unfolding laid_over
-  laid_there r x y size n hb hm q =
+  laid_at r x y size n hb hm q =
       let p = laid_in (Some r) x y size n hb hm q in
       let some : Some r ≡ Some (length (molecule_in s).bases) = ap (λ (w : Decoded). w.count) p in
       let k : r ≡ length (molecule_in s).bases = cc in (
@@ -173,15 +181,21 @@ module _ (s bases mates : List ℕ) where
         ap (λ (w : Decoded). w.mates) p ∙ ap (λ (n : ℕ). (molecule_in s).mates ++ drop n mates) (sym k),
       )
 
-  -- The same of a sound block of a catalog.
+  -- The same of a sound block of a catalog: whatever the decoder answers, the block was decoded.
+  pub decoded_there : (r : Option ℕ) (x y : List ℕ) → sound_molecule s ≡ true → 160 ≤ length bases → 160 ≤ length mates
+      → decoded r x y ≡ molecule_decoded s bases mates
+      → (r ≡ Some (length (molecule_in s).bases)) × (x ≡ (molecule_in s).bases ++ drop (length (molecule_in s).bases) bases)
+      × (y ≡ (molecule_in s).mates ++ drop (length (molecule_in s).bases) mates)
+  decoded_there r x y ok hb hm q = laid_there r x y (molecule_size s ok) (molecule_fits s ok) hb hm q
+
   pub decoded_some : (r : Option ℕ) (x y : List ℕ) → sound_molecule s ≡ true → 160 ≤ length bases → 160 ≤ length mates
       → decoded r x y ≡ molecule_decoded s bases mates → r ≡ Some (length (molecule_in s).bases)
   decoded_some r x y ok hb hm q = laid_some r x y (molecule_size s ok) (molecule_fits s ok) hb hm q
 
-  pub decoded_there : (r : ℕ) (x y : List ℕ) → sound_molecule s ≡ true → 160 ≤ length bases → 160 ≤ length mates → decoded (Some r) x y
+  pub decoded_at : (r : ℕ) (x y : List ℕ) → sound_molecule s ≡ true → 160 ≤ length bases → 160 ≤ length mates → decoded (Some r) x y
       ≡ molecule_decoded s bases mates
       → (r ≡ length (molecule_in s).bases) × (x ≡ (molecule_in s).bases ++ drop r bases) × (y ≡ (molecule_in s).mates ++ drop r mates)
-  decoded_there r x y ok hb hm q = laid_there r x y (molecule_size s ok) (molecule_fits s ok) hb hm q
+  decoded_at r x y ok hb hm q = laid_at r x y (molecule_size s ok) (molecule_fits s ok) hb hm q
 
 -- ---- decode_motif
 
@@ -191,17 +205,24 @@ module _ (s bases mates : List ℕ) where
   motif_decoded_lem = refl
 
   -- A block that holds a motif is decoded into slices of 160 places.
+  pub motif_there : (r : Option ℕ) (x y : List ℕ) → sound_motif s ≡ true → 160 ≤ length bases → 160 ≤ length mates
+      → decoded r x y ≡ motif_decoded s bases mates
+      → (r ≡ Some (length (motif_handed_in s).bases)) × (x ≡ (motif_handed_in s).bases ++ drop (length (motif_handed_in s).bases) bases)
+      × (y ≡ (motif_handed_in s).mates ++ drop (length (motif_handed_in s).bases) mates)
+  unfolding molecule_in motif_handed_in strand_in
+  motif_there r x y ok hb hm q = laid_there s bases mates r x y (motif_size s ok) (motif_fits s ok) hb hm (q ∙ sym motif_decoded_lem)
+
   pub motif_some : (r : Option ℕ) (x y : List ℕ) → sound_motif s ≡ true → 160 ≤ length bases → 160 ≤ length mates
       → decoded r x y ≡ motif_decoded s bases mates → r ≡ Some (length (motif_handed_in s).bases)
   unfolding molecule_in motif_handed_in strand_in
   motif_some r x y ok hb hm q = laid_some s bases mates r x y (motif_size s ok) (motif_fits s ok) hb hm (q ∙ sym motif_decoded_lem)
 
-  pub motif_there : (r : ℕ) (x y : List ℕ) → sound_motif s ≡ true → 160 ≤ length bases → 160 ≤ length mates
+  pub motif_at : (r : ℕ) (x y : List ℕ) → sound_motif s ≡ true → 160 ≤ length bases → 160 ≤ length mates
       → decoded (Some r) x y ≡ motif_decoded s bases mates
       → (r ≡ length (motif_handed_in s).bases) × (x ≡ (motif_handed_in s).bases ++ drop r bases) × (y ≡ (motif_handed_in s).mates ++ drop r mates)
   unfolding molecule_in motif_handed_in strand_in
-  motif_there r x y ok hb hm q =
-      laid_there s bases mates r x y (motif_size s ok) (motif_fits s ok) hb hm (q ∙ sym motif_decoded_lem)
+  motif_at r x y ok hb hm q =
+      laid_at s bases mates r x y (motif_size s ok) (motif_fits s ok) hb hm (q ∙ sym motif_decoded_lem)
 
 -- ---- keeps
 

@@ -77,7 +77,7 @@ pub fn encode_entry(s: &mut [u8], motif: &Strand, searched: &[u8], hits: &[u8]) 
     if hits.len() != layout::MAP_SIZE {
         return false;
     }
-    crate::parts::put_content(s, &kind::ENTRY, motif);
+    crate::parts::put_content(s, &kind::ENTRY, b"", motif);
     s[layout::SEARCHED_AT..layout::HIT_AT].copy_from_slice(searched);
     s[layout::HIT_AT..layout::CHECKSUM_AT].copy_from_slice(hits);
     block::checksum::put_checksum(s);

@@ -21,7 +21,7 @@ pub fn encode_molecule(s: &mut [u8], molecule: &Strand) -> bool
     ) {
         return false;
     }
-    crate::parts::put_content(s, &kind::MOLECULE, molecule);
+    crate::parts::put_content(s, &kind::MOLECULE, b"", molecule);
     block::checksum::put_checksum(s);
     true
 }

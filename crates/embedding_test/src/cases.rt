@@ -5,7 +5,7 @@ use super::ask::verify;
 use std::io;
 use std::io::Read;
 use testing::answer::{Fold, Refusal};
-use testing::input::{digits, field, word};
+use testing::input::{digits_of, field, word};
 use testing::pairs::Pair;
 use testing::strands::Strand;
 
@@ -27,13 +27,13 @@ fn say<P: Print>(out: &P, told: Result<(bool, Fold), Refusal>) -> io::Result<()>
 
 fn case<R: Print + AllocGlobal>(rt: &R, line: &[u8]) -> io::Result<()> {
     let alloc = rt.alloc();
-    let pm = digits(alloc, word(line, 5..9))?;
-    let qm = digits(alloc, word(line, 15..19))?;
+    let pm = digits_of(alloc, word(line, 5..9))?;
+    let qm = digits_of(alloc, word(line, 15..19))?;
     let pair = Pair {
         motif: Strand::new(alloc, word(line, 0..4), &pm)?,
         molecule: Strand::new(alloc, word(line, 10..14), &qm)?,
     };
-    let places = digits(alloc, word(line, 20..24))?;
+    let places = digits_of(alloc, word(line, 20..24))?;
     say(rt, verify(&pair, &places))
 }
 

@@ -23,7 +23,7 @@ use Rattle.history.specs.Examples.{shared_slot_story, empty_motif_story, spellin
 use Rattle.history.proofs.Computed as computed
 use Rattle.history.proofs.Stories.{by_runs}
 use Rattle.examples.specs.Table.{Row, story, screen_text, VerifiedAt, Holds, AllHold, a, screen_input, screen_prints, long_motif, few_hits, number_two}
-use Rattle.examples.specs.Table.{added_twice, removed_empty, empty_added, refusals, settled_rows, also, folds, windows, empty_motifs, together_story}
+use Rattle.examples.specs.Table.{added_twice, removed_empty, empty_added, numbers, refusals, settled_rows, also, folds, windows, empty_motifs, together_story}
 use Rattle.examples.specs.Table.{batches, spellings, table, TableHolds}
 use Rattle.examples.proofs.BlockRows.{a_bytes, t_bytes, gc_bytes, entry_bytes, empty_motif_bytes, empty_motif_entry_bytes}
 use Rattle.examples.proofs.BufferRows.{uneven_refused, unsound_refused}
@@ -46,6 +46,11 @@ unfolding long_motif long few_hits number_two added_twice removed_empty empty_ad
     motif_verdict work_verdict refused_by by_verdict ends_period model_result model_after start put_at is_held held_in in_range model_verdict model_answer
     model_next
 stories_ok = ((refl, refl), (refl, refl), (refl, refl), (refl, refl), (refl, refl), (refl, refl))
+
+numbers_hold : AllHold numbers
+unfolding numbers AllHold Holds
+numbers_hold =
+    refl & refl & refl & refl & refl & refl & refl & refl & refl & refl & refl & refl & refl & refl & refl & refl & refl & refl & tt
 
 refusals_hold : AllHold refusals
 unfolding refusals AllHold Holds check_verdict check_answer motif_verdict matcher.length_verdict matcher.length_answer matcher.show_verdict
@@ -216,6 +221,6 @@ screen_hold = (screen_prints_lem, settled_hold)
 pub holds : TableHolds
 unfolding table
 holds =
-    let front = both refusals _ refusals_hold screen_hold in
+    let front = both (numbers ++ refusals) _ (both numbers refusals numbers_hold refusals_hold) screen_hold in
     let requests = both _ windows (both _ folds (both _ also front also_hold) folds_hold) windows_hold in
     both _ spellings (both _ batches (both _ empty_motifs requests empty_motifs_hold) batches_hold) spellings_hold

@@ -1,4 +1,4 @@
--- All of 01's examples, in its order: the small examples of the table of refusals, row 8's with 136 entries, the printed example of the
+-- All of 01's examples, in its order: the numbers of the table of refusals and its small examples, row 8's with 136 entries, the printed example of the
 -- screen program, the nine rows of the table of settled examples, the check 1888, three blocks byte by byte, the keys 139, the story with
 -- B = 2 and S = 1, the last of the plausible and false ways, a number used again (the others are in rows 6, 3, 7 and in the story), and a
 -- story with S = 2. Behind them rows for 02, (i) to (iii), (v) and (vi). Each is a row of `table`; that they all hold is `TableHolds`, and `holds`, in
@@ -12,7 +12,7 @@ use Rattle.strand.specs.Folds.{fold_of}
 use Rattle.strand.specs.Strands.{Strand, strand_of, empty_motif, key, check_answer}
 use Rattle.refusals.specs.Rules.{unequal_lengths, no_bases, too_long, bad_letter, bad_mate, mates_not_mutual, arcs_cross, work_too_short, wrong_slice}
 use Rattle.refusals.specs.Rules.{not_whole_blocks, unsound_block, number_too_large, already_held, not_held, bad_motifs}
-use Rattle.refusals.specs.Rules.{motif_side, molecule_side, no_side, refusal, work_size}
+use Rattle.refusals.specs.Rules.{motif_side, molecule_side, no_side, number_of, number_of_side, refusal, work_size}
 use Rattle.embedding.specs.Longest.{VerifyAnswer, says_yes, says_no, verify_answer, embeds}
 use Rattle.embedding.specs.Examples.{Example, example_ok, examples}
 use Rattle.matcher.specs.Answers.{Matched, matched_prefix, length_answer, show_answer}
@@ -32,6 +32,9 @@ use Rattle.screening.specs.Screen.{screen_output}
 
 -- The kinds of example, each with what it should come to.
 pub data Row : Type 0 where
+  -- the number of a rule in the table of refusals, and of a side
+  rule_row : Rule → (number : ℕ) → Row
+  side_row : Side → (number : ℕ) → Row
   -- a strand that is refused, with the rule and the place
   refused_strand : Strand → Rule → (place : ℕ) → Row
   -- the same of a strand that is refused as a molecule alone
@@ -70,6 +73,8 @@ VerifiedAt e (v ∷ places) = verify_answer e.pb e.pm e.qb e.qm (v ∷ places) �
 
 -- The row says what the definitions say.
 unfoldable pub Holds : Row → Type 0
+Holds (rule_row rule number) = number_of rule ≡ number
+Holds (side_row side number) = number_of_side side ≡ number
 -- as the molecule of check, and as the motif of a query
 Holds (refused_strand q rule place) =
     (check_answer q.bases q.mates ≡ Err (record { rule = rule; side = molecule_side; place = place }))
@@ -205,6 +210,29 @@ bytes_of_entry =
     ++ (0 ∷ 2 ∷ zeros 61)
     ++ (128 ∷ [])
     ++ (29 ∷ 240 ∷ 1 ∷ 0 ∷ [])
+
+-- 01, Refused inputs: the table's column "No.", with 02's (v): "It refuses with 15"; and "side 0 for a motif and 1 for a molecule; the others have side 2".
+unfoldable pub numbers : List Row
+numbers =
+    rule_row unequal_lengths 1
+    ∷ rule_row no_bases 2
+    ∷ rule_row too_long 3
+    ∷ rule_row bad_letter 4
+    ∷ rule_row bad_mate 5
+    ∷ rule_row mates_not_mutual 6
+    ∷ rule_row arcs_cross 7
+    ∷ rule_row work_too_short 8
+    ∷ rule_row wrong_slice 9
+    ∷ rule_row not_whole_blocks 10
+    ∷ rule_row unsound_block 11
+    ∷ rule_row number_too_large 12
+    ∷ rule_row already_held 13
+    ∷ rule_row not_held 14
+    ∷ rule_row bad_motifs 15
+    ∷ side_row motif_side 0
+    ∷ side_row molecule_side 1
+    ∷ side_row no_side 2
+    ∷ []
 
 -- 01, Refused inputs: the small examples.
 unfoldable pub refusals : List Row
@@ -466,7 +494,8 @@ spellings =
 
 -- All rows.
 unfoldable pub table : List Row
-table = refusals ++ (screen_text screen_input screen_prints ∷ settled_rows examples) ++ also ++ folds ++ windows ++ empty_motifs ++ batches ++ spellings
+table =
+    numbers ++ refusals ++ (screen_text screen_input screen_prints ∷ settled_rows examples) ++ also ++ folds ++ windows ++ empty_motifs ++ batches ++ spellings
 
 -- The claim: every row of the table holds.
 abbrev pub TableHolds : Type 0

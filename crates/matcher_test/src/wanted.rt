@@ -25,7 +25,7 @@ pub fn of_line(line: &[u8]) -> Wanted<usize> {
 pub fn of_pair(pair: &Pair) -> Wanted<usize> {
     let mut places = [0u16; 16];
     Wanted {
-        found: Ok(brute::longest(&pair.motif, &pair.molecule, &mut places, 0, 0)),
+        found: Ok(brute::longest(&pair.motif.lent(), &pair.molecule.lent(), &mut places, 0, 0)),
         fold: None,
     }
 }

@@ -1,4 +1,4 @@
--- What contracts say of a pair: the statements of `Placing` for its lists.
+-- Only the contracts and laws of this crate and trace need this file: what contracts say of a pair, the statements of `Placing` for its lists.
 use Rattle.std.specs.Prelude.{ℕ, List, ◌+◌}
 use Rattle.lists.specs.Vocabulary.{nth}
 use Rattle.arcs.specs.declared.pair.Pair.{Pair}

@@ -5,7 +5,7 @@ use Rattle.refusals.specs.declared.Rule.{Rule}
 use Rattle.refusals.specs.declared.Rule.TheVariants.{UnequalLengths, NoBases, TooLong, BadLetter, BadMate, MatesNotMutual, ArcsCross, WorkTooShort}
 use Rattle.refusals.specs.declared.Rule.TheVariants.{WrongSlice, NotWholeBlocks, UnsoundBlock, NumberTooLarge, AlreadyHeld, NotHeld, BadMotifs}
 use Rattle.refusals.specs.declared.Side.{Side}
-use Rattle.refusals.specs.declared.Side.TheVariants.{Motif, Molecule, Neither}
+use Rattle.refusals.specs.declared.Side.TheVariants.{Motif, Molecule, Neither, Other}
 use Rattle.refusals.specs.declared.Refusal.{Refusal}
 
 -- The rules of the table.
@@ -83,11 +83,12 @@ molecule_side = Molecule
 abbrev pub no_side : Side
 no_side = Neither
 
--- Their numbers.
+-- Their numbers; any other number is a side that the table does not have.
 abbrev pub number_of_side : Side → ℕ
 number_of_side Motif = 0
 number_of_side Molecule = 1
 number_of_side Neither = 2
+number_of_side (Other number) = number
 
 -- What the rules of a call come to: `Ok tt` where nothing is refused, else a refusal.
 abbrev pub Verdict : Type 0

@@ -33,20 +33,27 @@ impl Rule {
     }
 }
 
-// Which of a call's two strands a refusal speaks of, with the table's numbers.
+// Which of a call's two strands a refusal speaks of. The table has three; what takes a side, as `check_strand` does, takes any number as one and hands it on,
+// so that there is a fourth case for the numbers that the table does not have.
 #[derive(Clone, Copy, Debug, PartialEq, Eq)]
 pub enum Side {
-    Motif = 0,
-    Molecule = 1,
-    Neither = 2,
+    Motif,
+    Molecule,
+    Neither,
+    Other(u8),
 }
 
 impl Side {
-    // The number of the side in the table.
+    // The number of the side, for the three the table's.
     pub fn number(self) -> u8
         ensures { result ≡ number_of_side self }
     {
-        self as u8
+        match self {
+            Side::Motif => 0,
+            Side::Molecule => 1,
+            Side::Neither => 2,
+            Side::Other(number) => number,
+        }
     }
 }
 

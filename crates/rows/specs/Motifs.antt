@@ -1,4 +1,4 @@
--- What contracts say of a motif with its tables.
+-- Only the contracts and laws of this crate, arcs, placing, trace and walk need this file: what contracts say of a motif with its tables.
 use Rattle.std.specs.Prelude.{ℕ, ◌≡◌, ◌≤◌, length}
 use Rattle.rows.specs.Rows.{bound_at, last_at}
 use Rattle.rows.specs.declared.motif.Motif.{Motif}

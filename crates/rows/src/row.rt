@@ -57,6 +57,18 @@ pub fn extend(motif: &Motif, from: usize, last: usize, to: usize, b: u8, row: &m
     extend_by(&motif.tables[at..], from, end, row);
 }
 
+// Copies the entries of a base's row, from `from` to before `end`. By index: `copy_from_slice` of a part of any length calls `memmove`, and the archive for C
+// asks for no other function of the C library than `memcpy` and `memset`.
+fn copy_steps(steps: &[u16], from: usize, end: usize, row: &mut [u16])
+    requires from_le_end { (from ≤ end) × ((end ≤ 4096) × (end < length row.old)) }
+    requires steps { Steps steps.now end }
+    ensures { Written (nth steps.now) row.old row.new from end }
+{
+    for j in from..end {
+        row[j] = steps[j];
+    }
+}
+
 // The row of the unbonded base b (003: initialize). Of its entries in the tables only the one for `to` may be past the segment.
 pub fn single(motif: &Motif, from: usize, last: usize, to: usize, b: u8, row: &mut [u16])
     requires segment { SegmentOf motif.now from to }
@@ -67,7 +79,7 @@ pub fn single(motif: &Motif, from: usize, last: usize, to: usize, b: u8, row: &m
 {
     let at = tables::steps_at(motif.bases.len(), b);
     let steps = &motif.tables[at..];
-    row[from..last].copy_from_slice(&steps[from..last]);
+    copy_steps(steps, from, last, row);
     row[last] = steps[last].min(to as u16);
 }
 

@@ -13,7 +13,6 @@ use Rattle.refusals.specs.declared.Rule.{Rule}
 use Rattle.refusals.specs.declared.Rule.TheVariants.{UnequalLengths, NoBases, TooLong, BadLetter, BadMate, MatesNotMutual, ArcsCross, WorkTooShort}
 use Rattle.refusals.specs.declared.Rule.TheVariants.{WrongSlice, NotWholeBlocks, UnsoundBlock, NumberTooLarge, AlreadyHeld, NotHeld, BadMotifs}
 use Rattle.refusals.specs.declared.Side.{Side}
-use Rattle.refusals.specs.declared.Side.TheVariants.{Motif, Molecule, Neither}
 use Rattle.refusals.specs.Rules.{number_of, number_of_side, motif_side, refusal, refuse_if, refuse_at_lowest, first, by_verdict, Verdict}
 use Rattle.lists.proofs.ListLaws.{lowest_upto, select_short}
 use Rattle.block.specs.Motif.{holds_motif, motif_handed_in}
@@ -45,27 +44,22 @@ rule_small AlreadyHeld = omega arith
 rule_small NotHeld = omega arith
 rule_small BadMotifs = omega arith
 
-side_small : (side : Side) → number_of_side side < 256
-side_small Motif = omega arith
-side_small Molecule = omega arith
-side_small Neither = omega arith
-
--- Accepted, or refused with a place up to m.
+-- Accepted, or refused with a side of a byte and a place up to m.
 Small : ℕ → Verdict → Type 0
 Small m (Ok u) = 0 ≤ m
-Small m (Err r) = r.place ≤ m
+Small m (Err r) = (number_of_side r.side < 256) × (r.place ≤ m)
 
-small_row : (m : ℕ) (rule : Rule) (side : Side) (b : Bool) → Small m (refuse_if rule side b)
+small_row : (m : ℕ) (rule : Rule) (side : Side) (b : Bool) → number_of_side side < 256 → Small m (refuse_if rule side b)
 unfolding Small refuse_if choose
-small_row m rule side true = omega arith
-small_row m rule side false = omega arith
+small_row m rule side true hs = (hs, omega arith)
+small_row m rule side false hs = omega arith
 
-small_at : (m : ℕ) (rule : Rule) (side : Side) (n : ℕ) (p : ℕ → Bool) → n ≤ m → Small m (refuse_at_lowest rule side n p)
+small_at : (m : ℕ) (rule : Rule) (side : Side) (n : ℕ) (p : ℕ → Bool) → number_of_side side < 256 → n ≤ m → Small m (refuse_at_lowest rule side n p)
 unfolding Small refuse_at_lowest choose
-small_at m rule side n p hn = go (ltb (lowest n p) n)
+small_at m rule side n p hs hn = go (ltb (lowest n p) n)
   where
     go : (b : Bool) → Small m (choose b (refusal rule side (lowest n p)) (Ok tt))
-    go true = omega (arith, lowest_upto p n, hn)
+    go true = (hs, omega (arith, lowest_upto p n, hn))
     go false = omega arith
 
 small_first : (m : ℕ) (v : Verdict) (vs : List Verdict) → Small m v → Small m (first vs) → Small m (first (v ∷ vs))
@@ -77,30 +71,31 @@ small_end : (m : ℕ) → Small m (first [])
 unfolding Small first
 small_end m = omega arith
 
-small_strand : (m : ℕ) (side : Side) (least greatest : ℕ) (bases mates : List ℕ) → length bases ≤ m → length mates ≤ m
+small_strand : (m : ℕ) (side : Side) (least greatest : ℕ) (bases mates : List ℕ) → number_of_side side < 256 → length bases ≤ m → length mates ≤ m
     → Small m (strand_verdict side least greatest bases mates)
 unfolding strand_verdict
-small_strand m side least greatest bases mates hb hm =
-    small_first m _ _ (small_row m _ side _)
-    (small_first m _ _ (small_row m _ side _)
-    (small_first m _ _ (small_row m _ side _)
-    (small_first m _ _ (small_at m _ side (length bases) _ hb)
-    (small_first m _ _ (small_at m _ side (length mates) _ hm)
-    (small_first m _ _ (small_at m _ side (length mates) _ hm)
-    (small_first m _ _ (small_at m _ side (length mates) _ hm) (small_end m)))))))
+small_strand m side least greatest bases mates hs hb hm =
+    small_first m _ _ (small_row m _ side _ hs)
+    (small_first m _ _ (small_row m _ side _ hs)
+    (small_first m _ _ (small_row m _ side _ hs)
+    (small_first m _ _ (small_at m _ side (length bases) _ hs hb)
+    (small_first m _ _ (small_at m _ side (length mates) _ hs hm)
+    (small_first m _ _ (small_at m _ side (length mates) _ hs hm)
+    (small_first m _ _ (small_at m _ side (length mates) _ hs hm) (small_end m)))))))
 
 small_buffers : (m : ℕ) (catalog cache : List ℕ) → block_count catalog ≤ m → Small m (buffers_verdict catalog cache)
 unfolding buffers_verdict
 small_buffers m catalog cache h =
-    small_first m _ _ (small_row m _ _ _) (small_first m _ _ (small_at m _ _ (block_count catalog) (unsound_at catalog) h) (small_end m))
+    small_first m _ _ (small_row m _ _ _ (omega arith))
+    (small_first m _ _ (small_at m _ _ (block_count catalog) (unsound_at catalog) (omega arith) h) (small_end m))
 
 small_query : (m : ℕ) (catalog cache : List ℕ) (p : Strand) (work room : ℕ) → block_count catalog ≤ m → length p.bases ≤ m → length p.mates ≤ m
     → Small m (query_verdict catalog cache p work room)
 unfolding query_verdict motif_verdict work_verdict
 small_query m catalog cache p work room h hb hm =
     small_first m _ _ (small_buffers m catalog cache h)
-    (small_first m _ _ (small_strand m motif_side least_motif most_motif_bases p.bases p.mates hb hm)
-    (small_first m _ _ (small_row m _ _ _) (small_first m _ _ (small_row m _ _ _) (small_end m))))
+    (small_first m _ _ (small_strand m motif_side least_motif most_motif_bases p.bases p.mates (omega arith) hb hm)
+    (small_first m _ _ (small_row m _ _ _ (omega arith)) (small_first m _ _ (small_row m _ _ _ (omega arith)) (small_end m))))
 
 -- ---- the text of an answer
 
@@ -109,7 +104,7 @@ unless_short : (v : Verdict) (cache hits : List ℕ) (e : QueryEffect) → Small
 unfolding Small by_verdict answer_text
 unless_short (Ok u) cache hits e a f = f
 unless_short (Err r) cache hits e a f =
-    most_refused (number_of r.rule) (number_of_side r.side) r.place (rule_small r.rule) (side_small r.side) (omega (arith, a))
+    most_refused (number_of r.rule) (number_of_side r.side) r.place (rule_small r.rule) a.0 (omega (arith, a.1))
 
 module _ (embeds : Strand → Strand → Bool) (catalog : List ℕ) (p : Strand) (few : block_count catalog ≤ most_screened) where
   entry_short : (cache entry : List ℕ) (slot : ℕ) (hits : List ℕ) → length (effect_text (query_accepted embeds catalog cache entry slot p hits)) ≤ most_output

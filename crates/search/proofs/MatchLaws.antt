@@ -16,7 +16,7 @@ use Rattle.block.specs.Block.{block_of, sound_molecule}
 use Rattle.block.specs.Content.{block_bases, is_empty, molecule_in}
 use Rattle.block.proofs.ContentLaws.{molecule_fits, molecule_count, molecule_proper}
 use Rattle.codec.specs.Outcomes.{decoded, molecule_decoded}
-use Rattle.codec.proofs.OutcomeLaws.{decoded_some, decoded_there}
+use Rattle.codec.proofs.OutcomeLaws.{decoded_some, decoded_at}
 use Rattle.calls.specs.Buffers.{most_molecule_bases, most_motif_bases, held, molecule_at}
 use Rattle.calls.proofs.FactLaws.{held_facts, molecule_at_lem}
 use Rattle.judge.specs.Judge.{SoundCatalog}
@@ -51,7 +51,7 @@ module _ (b l m x y : List ℕ) (r : Option ℕ) (n : ℕ) (er : r ≡ Some n) (
   -- The decoder leaves the molecule of a sound block that is not empty in the slices l and m.
   read_block : sound_molecule b ≡ true → is_empty b ≡ false → Read (molecule_in b) n x y
   read_block sound full =
-      let f = decoded_there b l m n x y sound hl hm (ap (λ (s : Option ℕ). decoded s x y) (sym er) ∙ e) in
+      let f = decoded_at b l m n x y sound hl hm (ap (λ (s : Option ℕ). decoded s x y) (sym er) ∙ e) in
       let z = molecule_proper b sound full in
       record {
         short = let u = molecule_count b sound in let v = molecule_fits b sound in let w = f.0 in omega arith;

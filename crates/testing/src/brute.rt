@@ -1,6 +1,6 @@
 // The longest closed prefix that embeds, by trying every list of rising places.
 use super::slices::{entry, position_at, set};
-use super::strands::Strand;
+use strand::Strand;
 
 // No arc leaves the first k positions.
 fn closed(mates: &[u16], k: usize) -> bool {
@@ -28,8 +28,8 @@ fn fits(motif: &Strand, molecule: &Strand, places: &[u16], i: usize, v: usize) -
         (Some(a), Some(b)) => {
             bases_match(*a, *b)
                 && arcs_fit(
-                    position_at(&motif.mates, i),
-                    position_at(&molecule.mates, v),
+                    position_at(motif.mates, i),
+                    position_at(molecule.mates, v),
                     places,
                     i,
                 )
@@ -40,7 +40,7 @@ fn fits(motif: &Strand, molecule: &Strand, places: &[u16], i: usize, v: usize) -
 
 // The longest closed prefix that is reached from the places of the first i positions, when later ones go to v or behind it.
 pub fn longest(motif: &Strand, molecule: &Strand, places: &mut [u16], i: usize, v: usize) -> usize {
-    let here = if closed(&motif.mates, i) { i } else { 0 };
+    let here = if closed(motif.mates, i) { i } else { 0 };
     if molecule.bases.len() <= v || motif.bases.len() <= i {
         return here;
     }

@@ -49,8 +49,18 @@ pub fn digit(letter: u8) -> u16 {
     }
 }
 
-pub fn digits(alloc: Global, letters: &[u8]) -> Result<Vec<u16>, AllocError> {
-    letters.iter().map(|letter| digit(*letter)).collect(alloc)
+// Fills the slice with the digits from a column on.
+pub fn digits(line: &[u8], column: usize, to: &mut [u16]) {
+    for (i, entry) in to.iter_mut().enumerate() {
+        *entry = digit_at(line, column.saturating_add(i));
+    }
+}
+
+// The digits of these letters.
+pub fn digits_of(alloc: Global, letters: &[u8]) -> Result<Vec<u16>, AllocError> {
+    let mut values = vec![in alloc; 0; letters.len()]?;
+    digits(letters, 0, &mut values);
+    Ok(values)
 }
 
 // The digit in a column; 0 past the end.

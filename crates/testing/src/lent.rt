@@ -46,8 +46,11 @@ impl Lent {
         &self.entries
     }
 
-    // No entry is changed behind the first n.
+    // No entry is changed behind the first n. With no way out before the end, many entries are compared at once.
     pub fn kept_behind(&self, n: usize) -> bool {
-        rest(&self.entries, n).iter().all(|x| *x == self.fill)
+        let fill = self.fill;
+        rest(&self.entries, n)
+            .iter()
+            .fold(true, |kept, x| kept & (*x == fill))
     }
 }

@@ -2,7 +2,6 @@
 // 27 such a line has the two strands (see `strands`), or from column 2 the name of a group.
 use super::answer::{Fold, Refusal};
 use super::input::field;
-use super::strands;
 use super::strands::Strand;
 use std::alloc::{AllocError, Global};
 use std::{fmt, io};
@@ -27,8 +26,8 @@ pub struct Pair {
 // The pair of a line, in a round of those that it stands for.
 pub fn make(alloc: Global, line: &[u8], round: usize) -> Result<Pair, AllocError> {
     Ok(Pair {
-        motif: strands::make(alloc, field(line, 2..26), round)?,
-        molecule: strands::make(alloc, field(line, 27..51), round)?,
+        motif: Strand::of(alloc, field(line, 2..26), round)?,
+        molecule: Strand::of(alloc, field(line, 27..51), round)?,
     })
 }
 

@@ -4,7 +4,7 @@ ghost use Rattle.std.specs.Prelude.{ℕ, ◌<◌};
 
 use super::input::{digit_at, digits, number, word};
 use super::random::letter;
-use super::slices::{bond, entry, set};
+use super::slices::{bond, entry, first_mut, set};
 use std::alloc::{AllocError, Global};
 
 // Room for a strand that has a base too many.
@@ -20,6 +20,11 @@ pub struct Strand {
     pub mates: Vec<u16>,
 }
 
+// Bases and mates as the calls take them.
+pub fn lend<'a>(bases: &'a [u8], mates: &'a [u16]) -> strand::Strand<'a> {
+    strand::Strand { bases, mates }
+}
+
 impl Strand {
     pub fn new(alloc: Global, bases: &[u8], mates: &[u16]) -> Result<Strand, AllocError> {
         Ok(Strand {
@@ -30,10 +35,7 @@ impl Strand {
 
     // The strand as the calls take it.
     pub fn lent(&self) -> strand::Strand<'_> {
-        strand::Strand {
-            bases: &self.bases,
-            mates: &self.mates,
-        }
+        lend(&self.bases, &self.mates)
     }
 
     // So many bases A, each with the mate 0.
@@ -42,6 +44,25 @@ impl Strand {
             bases: vec![in alloc; b'A'; n]?,
             mates: vec![in alloc; 0; n]?,
         })
+    }
+
+    // Room for so many bases and so many mates.
+    pub fn blank(alloc: Global, bases: usize, mates: usize) -> Result<Strand, AllocError> {
+        Ok(Strand {
+            bases: vec![in alloc; 0; bases]?,
+            mates: vec![in alloc; 0; mates]?,
+        })
+    }
+
+    // The strand that `make` writes for a field; what is behind the room is cut off.
+    pub fn of(alloc: Global, field: &[u8], round: usize) -> Result<Strand, AllocError> {
+        let (bases, mates) = match Shape::of_field(field) {
+            Some(_) => by_rule_lengths(field),
+            None => written_lengths(field),
+        };
+        let mut strand = Strand::blank(alloc, bases.min(STRAND_ROOM), mates.min(STRAND_ROOM))?;
+        make(field, round, &mut strand.bases, &mut strand.mates);
+        Ok(strand)
     }
 }
 
@@ -77,6 +98,11 @@ impl Shape {
             b'4' | b'7'..=b'9' => Some(Shape::Arcs(u16::from(digit - b'0'))),
             _ => None,
         }
+    }
+
+    // The shape of the rule of a field; None where it spells a strand out.
+    fn of_field(field: &[u8]) -> Option<Shape> {
+        field.first().copied().and_then(Shape::of)
     }
 }
 
@@ -209,34 +235,50 @@ impl Rule {
     }
 }
 
-// The strand of a rule, its seed that of the field plus the round; what is behind the room is cut off.
-fn by_rule(alloc: Global, field: &[u8], shape: Shape, round: usize) -> Result<Strand, AllocError> {
+// How many bases a rule has, and how many mates.
+fn by_rule_lengths(field: &[u8]) -> (usize, usize) {
+    (number(field, 2..8), number(field, 9..15))
+}
+
+// Writes the strand of a rule, its seed that of the field plus the round.
+fn by_rule(field: &[u8], shape: Shape, round: usize, bases: &mut [u8], mates: &mut [u16]) {
     let rule = Rule {
         shape,
         seed: number(field, 16..22) % 65536 + round % 65536,
         letters: digit_at(field, 23),
     };
-    let bases = (0..number(field, 2..8).min(STRAND_ROOM))
-        .map(|i| rule.base(i))
-        .collect(alloc)?;
-    let length = number(field, 9..15);
-    let mut mates = vec![in alloc; 0; length.min(STRAND_ROOM)]?;
-    rule.fold(0, length, &mut mates);
-    Ok(Strand { bases, mates })
+    let (most, length) = by_rule_lengths(field);
+    for (i, base) in bases.iter_mut().enumerate().take(most) {
+        *base = rule.base(i);
+    }
+    rule.fold(0, length, mates);
+}
+
+// How many bases a field spells out, and how many mates.
+fn written_lengths(field: &[u8]) -> (usize, usize) {
+    (word(field, 0..10).len(), word(field, 11..21).len())
+}
+
+// Writes what stands in the columns of a field that spells a strand out.
+fn write_out(field: &[u8], bases: &mut [u8], mates: &mut [u16]) {
+    for i in 0..10 {
+        set(bases, i, field.get(i).copied().unwrap_or(0));
+    }
+    digits(field, 11, first_mut(mates, 10));
 }
 
 // The strand that a field spells out.
 pub fn written(alloc: Global, field: &[u8]) -> Result<Strand, AllocError> {
-    Ok(Strand {
-        bases: word(field, 0..10).to_vec(alloc)?,
-        mates: digits(alloc, word(field, 11..21))?,
-    })
+    let (bases, mates) = written_lengths(field);
+    let mut strand = Strand::blank(alloc, bases, mates)?;
+    write_out(field, &mut strand.bases, &mut strand.mates);
+    Ok(strand)
 }
 
-// The strand of a field, in a round of those that a line stands for.
-pub fn make(alloc: Global, field: &[u8], round: usize) -> Result<Strand, AllocError> {
-    match field.first().copied().and_then(Shape::of) {
-        Some(shape) => by_rule(alloc, field, shape, round),
-        None => written(alloc, field),
+// Writes the strand of a field, in a round of those that a line stands for, as far as there is room.
+pub fn make(field: &[u8], round: usize, bases: &mut [u8], mates: &mut [u16]) {
+    match Shape::of_field(field) {
+        Some(shape) => by_rule(field, shape, round, bases, mates),
+        None => write_out(field, bases, mates),
     }
 }

@@ -1,4 +1,5 @@
--- What the contracts of the walk say of its strands: the statements of Walk and Placing, the best of Row and the length for their lists.
+-- Only the functions inside this crate need this file: what the contracts of the walk say of its strands, the statements of Walk and Placing, the best of Row
+-- and the length for their lists.
 use Rattle.std.specs.Prelude.{ℕ, List, length}
 use Rattle.lists.specs.Vocabulary.{nth}
 use Rattle.strand.specs.Lent.{on_strand, on_pair}

@@ -109,6 +109,8 @@ fn next_end(pair: &Pair, from: usize, l: usize, r: usize) -> usize
 }
 
 // How far the arc l, r, with no arc inside, takes the motif from `from` on: the two entries of its inner row that it needs are walked, and no row is made.
+// Always in line: called, it has the pair in memory, and a molecule of small hairpins takes two fifths more instructions.
+#[inline(always)]
 fn hairpin_end(pair: &Pair, from: usize, l: usize, r: usize) -> usize
     requires from_in_bounds { from < length pair.now.motif.bases.now }
     requires l_lt_r { (l < r) × ((r < length pair.now.q.now) × (nth pair.now.qm.now l ≡ r)) }

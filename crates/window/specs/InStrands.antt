@@ -1,4 +1,5 @@
--- The statements of Search, and those of walk that it rests on, for the motif and the molecule that are searched.
+-- Only the functions inside this crate need this file: the statements of Search, and those of walk that it rests on, for the motif and the molecule that are
+-- searched.
 use Rattle.std.specs.Prelude.{ℕ, List, length, Option}
 use Rattle.strand.specs.Lent.{on_strand, on_pair}
 use Rattle.walk.specs.Walk.{TablesFor, Carried}

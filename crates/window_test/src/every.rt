@@ -1,10 +1,9 @@
 // The tightest window by trying every one: the shorter before the longer, of one length the earlier before the later. Each is cut out as a molecule of its
 // own, and it carries the motif where brute force finds an embedding of it there. For molecules of up to 16 bases.
-use std::alloc::{AllocError, Global};
 use testing::brute;
 use testing::pairs::Pair;
 use testing::slices::{entry, first, position_at, rest};
-use testing::strands::Strand;
+use testing::strands::lend;
 use window::Window;
 
 // Room for the mates and the places.
@@ -18,45 +17,46 @@ fn mate_inside(window: Window, i: usize, mate: Option<usize>) -> u16 {
     }
 }
 
-// A window as a molecule of its own.
-fn cut(alloc: Global, molecule: &Strand, window: Window) -> Result<Strand, AllocError> {
-    let bases = first(rest(&molecule.bases, window.start), window.length);
-    let mates = rest(&molecule.mates, window.start);
-    Ok(Strand {
-        bases: bases.to_vec(alloc)?,
-        mates: (0..window.length.min(ROOM))
-            .map(|i| mate_inside(window, i, position_at(mates, i)))
-            .collect(alloc)?,
-    })
+// Writes the mates of a window as a molecule of its own.
+fn cut(mates: &[u16], window: Window, to: &mut [u16]) {
+    let inside = rest(mates, window.start);
+    for (i, mate) in to.iter_mut().enumerate().take(window.length) {
+        *mate = mate_inside(window, i, position_at(inside, i));
+    }
 }
 
-fn carries(alloc: Global, pair: &Pair, window: Window) -> Result<bool, AllocError> {
-    let molecule = cut(alloc, &pair.molecule, window)?;
-    let found = brute::longest(&pair.motif, &molecule, &mut [0u16; ROOM], 0, 0);
-    Ok(found == pair.motif.bases.len())
+fn carries(pair: &Pair, window: Window) -> bool {
+    let mut mates = [0u16; ROOM];
+    cut(&pair.molecule.mates, window, &mut mates);
+    let molecule = lend(
+        first(rest(&pair.molecule.bases, window.start), window.length),
+        first(&mates, window.length),
+    );
+    let found = brute::longest(&pair.motif.lent(), &molecule, &mut [0u16; ROOM], 0, 0);
+    found == pair.motif.bases.len()
 }
 
 // The first window of so many bases that carries the motif.
-fn first_window(alloc: Global, pair: &Pair, length: usize) -> Result<Option<Window>, AllocError> {
+fn first_window(pair: &Pair, length: usize) -> Option<Window> {
     let n = pair.molecule.bases.len();
     for start in 0..n {
         if n - start < length {
             break;
         }
         let window = Window { start, length };
-        if carries(alloc, pair, window)? {
-            return Ok(Some(window));
+        if carries(pair, window) {
+            return Some(window);
         }
     }
-    Ok(None)
+    None
 }
 
-pub fn tightest(alloc: Global, pair: &Pair) -> Result<Option<Window>, AllocError> {
+pub fn tightest(pair: &Pair) -> Option<Window> {
     for length in 0..=pair.molecule.bases.len() {
-        let window = first_window(alloc, pair, length)?;
+        let window = first_window(pair, length);
         if window.is_some() {
-            return Ok(window);
+            return window;
         }
     }
-    Ok(None)
+    None
 }

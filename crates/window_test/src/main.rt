@@ -76,9 +76,8 @@ impl Bench {
     ) -> io::Result<()> {
         for round in 0..rounds {
             let pair = pairs::make(rt.alloc(), line, round)?;
-            let found = every::tightest(rt.alloc(), &pair)?;
             let wanted = Wanted {
-                found: Ok(ask::Place(found)),
+                found: Ok(ask::Place(every::tightest(&pair))),
                 fold: None,
             };
             self.call(rt, line, &pair, wanted)?;

@@ -27,7 +27,7 @@ slice_bounds-query-start c = omega (arith, (law.input_few c.args.input.now c.req
 
 pub slice_bounds-motif-end : goal.slice_bounds-motif-end
 slice_bounds-motif-end c =
-    let f = outcome.motif_there (take 512 c.args.input.now) c.args.bases.now c.args.mates.now
+    let f = outcome.motif_at (take 512 c.args.input.now) c.args.bases.now c.args.mates.now
     c.unwrap-n.result c.decode_motif-decoded.new.bases c.decode_motif-decoded.new.mates
     (law.motif_sound (take 512 c.args.input.now) c.requires.motif_held) c.requires.block_bases_in_bounds.0 c.requires.block_bases_in_bounds.1
     (rw c.unwrap-n.ensures at c.decode_motif-decoded.ensures) in
@@ -40,7 +40,7 @@ slice_bounds-motif-end c =
 
 pub slice_bounds-motif-end-2 : goal.slice_bounds-motif-end-2
 slice_bounds-motif-end-2 c =
-    let f = outcome.motif_there (take 512 c.args.input.now) c.args.bases.now c.args.mates.now
+    let f = outcome.motif_at (take 512 c.args.input.now) c.args.bases.now c.args.mates.now
     c.unwrap-n.result c.decode_motif-decoded.new.bases c.decode_motif-decoded.new.mates
     (law.motif_sound (take 512 c.args.input.now) c.requires.motif_held) c.requires.block_bases_in_bounds.0 c.requires.block_bases_in_bounds.1
     (rw c.unwrap-n.ensures at c.decode_motif-decoded.ensures) in
@@ -53,7 +53,7 @@ slice_bounds-motif-end-2 c =
 
 pub slice_bounds-motif-end-3 : goal.slice_bounds-motif-end-3
 slice_bounds-motif-end-3 c =
-    let f = outcome.motif_there (take 512 c.args.input.now) c.args.bases.now c.args.mates.now
+    let f = outcome.motif_at (take 512 c.args.input.now) c.args.bases.now c.args.mates.now
     c.unwrap-n.result c.decode_motif-decoded.new.bases c.decode_motif-decoded.new.mates
     (law.motif_sound (take 512 c.args.input.now) c.requires.motif_held) c.requires.block_bases_in_bounds.0 c.requires.block_bases_in_bounds.1
     (rw c.unwrap-n.ensures at c.decode_motif-decoded.ensures) in
@@ -66,7 +66,7 @@ slice_bounds-motif-end-3 c =
 
 pub slice_bounds-motif-end-4 : goal.slice_bounds-motif-end-4
 slice_bounds-motif-end-4 c =
-    let f = outcome.motif_there (take 512 c.args.input.now) c.args.bases.now c.args.mates.now
+    let f = outcome.motif_at (take 512 c.args.input.now) c.args.bases.now c.args.mates.now
     c.unwrap-n.result c.decode_motif-decoded.new.bases c.decode_motif-decoded.new.mates
     (law.motif_sound (take 512 c.args.input.now) c.requires.motif_held) c.requires.block_bases_in_bounds.0 c.requires.block_bases_in_bounds.1
     (rw c.unwrap-n.ensures at c.decode_motif-decoded.ensures) in
@@ -79,7 +79,7 @@ slice_bounds-motif-end-4 c =
 
 pub returns : goal.returns
 returns c =
-    let f = outcome.motif_there (take 512 c.args.input.now) c.args.bases.now c.args.mates.now
+    let f = outcome.motif_at (take 512 c.args.input.now) c.args.bases.now c.args.mates.now
     c.unwrap-n.result c.decode_motif-decoded.new.bases c.decode_motif-decoded.new.mates
     (law.motif_sound (take 512 c.args.input.now) c.requires.motif_held) c.requires.block_bases_in_bounds.0 c.requires.block_bases_in_bounds.1
     (rw c.unwrap-n.ensures at c.decode_motif-decoded.ensures) in (

@@ -2,7 +2,7 @@
 use native.Mathlib.Omega.{arith}
 use mathlib.Core.Path.{refl}
 use Rattle.letters.specs.Letters.{is_letter}
-use Rattle.block.proofs.WalkLaws.{hand_on, part_length, tested_none, tested_next, tested_end}
+use Rattle.block.proofs.WalkLaws.{pass_on, part_length, tested_none, tested_next, tested_end}
 use Rattle.block.proofs.walk.bases.Goals as goal
 
 pub loop-b-init : goal.loop-b-init
@@ -23,4 +23,4 @@ pub returns : goal.returns
 returns c =
     let long = part_length c.args.s.now c.args.a c.args.e (omega arith) (omega arith) in
     let all = tested_end (is_letter c.args.side) c.args.s.now _ _ _ _ _ c.loop-b.invariant.1 (omega arith) (omega arith) (omega (arith, long)) in
-    hand_on _ _ _ _ _ c.then_some.ensures all.0 (λ e. all.1)
+    pass_on c.passed.ensures all.0 all.1

@@ -5,7 +5,7 @@ use mathlib.Core.Path.{◌∙◌}
 use Rattle.letters.proofs.LetterLaws.{least_none, least_next, least_end}
 use Rattle.block.proofs.SumLaws.{sum_small}
 use Rattle.block.proofs.SoundLaws.{hit_byte, hits_bytes}
-use Rattle.block.proofs.WalkLaws.{hand_on, maps_none, maps_small, maps_next, maps_end}
+use Rattle.block.proofs.WalkLaws.{pass_on, maps_none, maps_small, maps_next, maps_end}
 use Rattle.block.proofs.walk.maps.Goals as goal
 
 pub loop-i-init : goal.loop-i-init
@@ -28,5 +28,5 @@ loop-i-preserved c =
 pub returns : goal.returns
 returns c =
     let s = c.args.s.now in
-    hand_on _ _ _ _ _ c.then_some.ensures (least_end (hit_byte s) 64 _ c.loop-i.invariant.2 (omega arith) (omega arith) ∙ hits_bytes s)
-    (λ e. maps_end s _ _ c.loop-i.invariant.0 (omega arith) (omega arith))
+    pass_on c.passed.ensures (least_end (hit_byte s) 64 _ c.loop-i.invariant.2 (omega arith) (omega arith) ∙ hits_bytes s)
+    (maps_end s _ _ c.loop-i.invariant.0 (omega arith) (omega arith))

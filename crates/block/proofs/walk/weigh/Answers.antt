@@ -4,7 +4,7 @@ use mathlib.Core.Path.{◌∙◌, sym, ap}
 use Prim.Native.Nat.{ℕ, ◌+◌}
 use Rattle.lists.specs.Vocabulary.{nth}
 use Rattle.block.specs.Walk.{low_sum}
-use Rattle.block.proofs.WalkLaws.{low_none, low_small, low_next, counted_none, counted_next, counted_end, handed, not_handed}
+use Rattle.block.proofs.WalkLaws.{low_none, low_small, low_next, counted_none, counted_next, counted_end, passed_ok, passed_err}
 use Rattle.block.proofs.walk.weigh.Goals as goal
 
 pub loop-mate-init : goal.loop-mate-init
@@ -26,9 +26,8 @@ loop-mate-preserved c =
 pub returns : goal.returns
 returns c =
     let t = counted_end c.args.mates.now _ _ _ c.loop-mate.invariant.3 (omega arith) (omega arith) in
+    let all = c.loop-mate.invariant.1 ∙ ap (λ (k : ℕ). c.args.sum + low_sum c.args.at c.args.mates.now k) (omega arith) in
     record {
-      none = λ e. t.no (not_handed _ _ (sym e ∙ c.then_some.ensures));
-      some = λ total e.
-          let h = handed _ _ total (sym e ∙ c.then_some.ensures) in
-          (t.yes h.0, h.1 ∙ c.loop-mate.invariant.1 ∙ ap (λ (k : ℕ). c.args.sum + low_sum c.args.at c.args.mates.now k) (omega arith));
+      inside = λ total e. let p = passed_ok _ _ total (sym e ∙ c.passed.ensures) in (t.yes p.0, p.1 ∙ all);
+      outside = λ total e. let p = passed_err _ _ total (sym e ∙ c.passed.ensures) in (t.no p.0, p.1 ∙ all);
     }

@@ -19,7 +19,7 @@ returns-then-hits-ne-MAP_SIZE c = law.entry_hits_size _ _ _ _ _ (sym c.strand_fi
 pub put_content-requires : goal.put_content-requires
 put_content-requires c =
     let f = law.fits_all 120 _ _ _ (sym c.strand_fits.ensures ∙ c.if-not-strand_fits.false) in
-    (omega (arith, f.0), f.1, f.2)
+    (omega arith, omega (arith, f.0), f.1, f.2)
 
 pub slice_bounds-copy_from_slice-end : goal.slice_bounds-copy_from_slice-end
 slice_bounds-copy_from_slice-end c =

@@ -12,7 +12,7 @@ returns-then-not-strand_fits c = law.molecule_not _ _ _ (sym c.strand_fits.ensur
 pub put_content-requires : goal.put_content-requires
 put_content-requires c =
     let f = law.fits_all 160 _ _ _ (sym c.strand_fits.ensures ∙ c.if-not-strand_fits.false) in
-    (omega (arith, f.0), f.1, f.2)
+    (omega arith, omega (arith, f.0), f.1, f.2)
 
 pub returns : goal.returns
 returns c =

@@ -11,6 +11,6 @@ pub returns : goal.returns
 unfolding content_of
 returns c =
     let kind = c.args.kind.now in
-    laws.content_put kind.mark kind.start kind.most c.args.strand.now.bases.now c.args.strand.now.mates.now (omega arith) (search rules)
+    laws.content_put kind.mark kind.start kind.most c.args.own.now c.args.strand.now.bases.now c.args.strand.now.mates.now (omega arith) (search rules)
     (length c.args.strand.now.bases.now) c.args.s.now c.put_head.new.s c.put_padded.new.s c.put_mates.new.s (search rules) refl
     c.put_head.ensures c.put_padded.ensures c.put_mates.ensures
