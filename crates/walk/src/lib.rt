@@ -219,27 +219,30 @@ impl Strands<'_> {
         arc_end(&pair, from, most, l, r, work)
     }
 
-    // How far the whole motif is taken by the whole molecule, where the walk has come to `at`. By a while: it goes on behind each arc.
+    // How far the whole motif is taken by the whole molecule, where the walk has come to `at`. By a while: it goes on behind each arc. The strands are copied
+    // before the loop: behind a reference their slices would be read again at each base.
     fn whole_end(&self, tables: &mut [u16], at: Place, work: &mut [u16]) -> usize
         requires walked { WalkedIn self.now at }
         requires work_room { work_size (length self.now.motif.bases.now) (length self.now.molecule.bases.now) ≤ length work.old }
         requires tables_for { TablesIn self.now tables.old }
         ensures { result ≡ longest_in self.now }
     {
-        let m = self.motif.bases.len();
+        let motif = self.motif;
+        let molecule = self.molecule;
+        let m = motif.bases.len();
         let mut from = at.from;
         let mut l = at.base;
-        while l < self.molecule.bases.len() {
+        while l < molecule.bases.len() {
             if m <= from {
                 return from;
             }
-            let r = arcs::mate(self.molecule.mates, l);
+            let r = arcs::mate(molecule.mates, l);
             if l < r {
                 from = self.top_arc_end(tables, from, l, r, work);
                 l = r + 1;
             } else {
-                let pair = pair_of(self.motif, tables, self.molecule);
-                from = row::next_of(&pair.motif, from, self.molecule.bases[l]);
+                let pair = pair_of(motif, tables, molecule);
+                from = row::next_of(&pair.motif, from, molecule.bases[l]);
                 l += 1;
             }
         }
@@ -287,7 +290,7 @@ fn arc_within(qm: &[u16], l: usize, hi: usize) -> usize
 
 // Whether the window lo..hi of the molecule takes the whole motif, with tables of the motif that were filled before. A base whose arc leaves the window is
 // unbonded there. The walk stops where the rest of the window cannot take the rest of the motif: it has fewer bases, or the bound behind an arc with arcs
-// inside says so. By a while: it goes on behind each arc.
+// inside says so. By a while: it goes on behind each arc. The strands are copied before the loop, as in `whole_end`.
 pub fn carries<'a>(
     motif: &Strand<'a>,
     tables: &mut [u16],
@@ -304,6 +307,8 @@ pub fn carries<'a>(
     ensures tells { Tells result (on_pair Carried motif.now molecule.now lo hi) }
     ensures tables_for_2 { on_strand TablesFor motif.now (length molecule.now.bases.now) tables.new }
 {
+    let motif = *motif;
+    let molecule = *molecule;
     let m = motif.bases.len();
     let mut from = 0;
     let mut l = lo;
@@ -317,7 +322,7 @@ pub fn carries<'a>(
         let r = arc_within(molecule.mates, l, hi);
         if l < r {
             if unbonded(molecule.mates, l + 1, r) {
-                let pair = pair_of(*motif, tables, *molecule);
+                let pair = pair_of(motif, tables, molecule);
                 from = hairpin_end(&pair, from, l, r);
             } else {
                 let most = bounds::fill(
@@ -332,12 +337,12 @@ pub fn carries<'a>(
                 if most + (hi - (r + 1)) < m {
                     return false;
                 }
-                let pair = pair_of(*motif, tables, *molecule);
+                let pair = pair_of(motif, tables, molecule);
                 from = arc_end(&pair, from, most, l, r, work);
             }
             l = r + 1;
         } else {
-            let pair = pair_of(*motif, tables, *molecule);
+            let pair = pair_of(motif, tables, molecule);
             from = row::next_of(&pair.motif, from, molecule.bases[l]);
             l += 1;
         }
