@@ -31,7 +31,7 @@ use Rattle.calls.proofs.Claims.{query_accepted_lem}
 use Rattle.calls.proofs.MotifLaws.{motif_proper}
 use Rattle.calls.proofs.BatchLaws.{batch_facts}
 use Rattle.calls.proofs.BatchLaws as law
-use Rattle.calls.proofs.BatchRefusing.{batch_accepts, motifs_refuse, batch_order, batch_refuses, batch_keeps, batch_no_numbers}
+use Rattle.calls.proofs.BatchRefusing.{batch_accepts, motifs_refuse, batch_order, batch_refuses, motifs_sides, batch_sides, batch_keeps, batch_no_numbers}
 use Rattle.calls.proofs.BatchSlots.{slots_shared}
 
 -- ---- counts
@@ -297,6 +297,8 @@ claims embeds =
       motifs_refuse = motifs_refuse;
       batch_order = batch_order;
       batch_refuses = batch_refuses embeds;
+      motifs_sides = motifs_sides;
+      batch_sides = batch_sides;
       batch_keeps = batch_keeps embeds;
       batch_no_numbers = batch_no_numbers embeds;
       batch_accepted = λ catalog cache motifs work hits. batch_accepted embeds catalog motifs work cache hits;

@@ -11,9 +11,9 @@ use Rattle.lists.specs.Vocabulary.{lowest}
 use Rattle.lists.proofs.ListLaws.{lowest_all, lowest_found}
 use Rattle.strand.specs.Strands.{Strand}
 use Rattle.refusals.specs.Rules.{motif_side, no_side, bad_motifs, too_long, Keeps, RefusesBy, BatchNumbered, of_table, of_motifs, of_long, work_size}
-use Rattle.refusals.specs.Rules.{Verdict, wrong_slice}
+use Rattle.refusals.specs.Rules.{Verdict, wrong_slice, TableSide, is_motif, is_neither, TableSides}
 use Rattle.refusals.proofs.Refusing.{Numbering, NumberingBy, call_number, if_numbered, work_numbered, when_by, lowest_by, none_by, first_by, refuses_by}
-use Rattle.refusals.proofs.Refusing.{keeps_by}
+use Rattle.refusals.proofs.Refusing.{keeps_by, when_side, lowest_side, none_side, first_side, work_sides}
 use Rattle.refusals.specs.declared.Refusal.{Refusal}
 use Rattle.block.specs.Block.{block_count}
 use Rattle.calls.specs.Answers.{BatchRead}
@@ -24,7 +24,7 @@ use Rattle.calls.specs.BatchStatements.{BatchAccepts, MotifBlocks, MotifsRefuse,
 use Rattle.calls.proofs.ReadingLaws.{whole_is}
 use Rattle.calls.proofs.FactLaws.{whole_facts}
 use Rattle.calls.proofs.Accepting.{usable_pass}
-use Rattle.calls.proofs.Refusing.{buffers_numbered}
+use Rattle.calls.proofs.Refusing.{buffers_numbered, buffers_sides}
 use Rattle.calls.proofs.MotifLaws.{no_motif_is, long_at, short_at, motifs_not_whole, no_motif, long_motif_lem, usable_motifs, longest_least, longest_bound}
 use Rattle.calls.proofs.BatchLaws.{batch_facts}
 use Rattle.calls.proofs.BatchLaws as law
@@ -103,6 +103,23 @@ batch_numbered catalog cache motifs work room =
     (first_by BatchNumbered _ _ (motifs_numbered motifs)
     (first_by BatchNumbered _ _ (of_table_lem _ (if_numbered wrong_slice no_side (call_number 9 0 (omega arith) (omega arith) (λ n. refl)) _))
     (first_by BatchNumbered _ _ (of_table_lem _ (work_numbered (longest_motif motifs) most_molecule_bases work)) (none_by BatchNumbered))))
+
+-- The sides
+
+pub motifs_sides : (motifs : List ℕ) → TableSides (motifs_verdict motifs)
+unfolding motifs_verdict
+motifs_sides motifs =
+    first_side TableSide _ _ (when_side TableSide bad_motifs motif_side _ (is_motif refl))
+    (first_side TableSide _ _ (lowest_side TableSide bad_motifs motif_side _ _ (is_motif refl))
+    (first_side TableSide _ _ (lowest_side TableSide too_long motif_side _ _ (is_motif refl)) (none_side TableSide)))
+
+pub batch_sides : (catalog cache motifs : List ℕ) (work room : ℕ) → TableSides (batch_verdict catalog cache motifs work room)
+unfolding batch_verdict
+batch_sides catalog cache motifs work room =
+    first_side TableSide _ _ (buffers_sides catalog cache)
+    (first_side TableSide _ _ (motifs_sides motifs)
+    (first_side TableSide _ _ (when_side TableSide wrong_slice no_side _ (is_neither refl))
+    (first_side TableSide _ _ (work_sides (longest_motif motifs) most_molecule_bases work) (none_side TableSide))))
 
 module _ (embeds : Strand → Strand → Bool) (catalog cache motifs : List ℕ) (work : ℕ) (hits : List ℕ) where
   apart_batch : (n : ℕ) (r : Refusal) → ◌≡◌ {A = BatchRead} (Ok n) (Err r) → ⊥

@@ -36,6 +36,7 @@ use Rattle.calls.specs.Statements.{AllSound, OnlyAt, AddLeaves, RemoveLeaves, Qu
 use Rattle.calls.proofs.Accepting.{add_accepts, remove_accepts, query_accepts}
 use Rattle.calls.proofs.CallLaws.{add_says}
 use Rattle.calls.proofs.Refusing.{add_refuses, add_keeps, remove_refuses, remove_keeps, query_refuses, query_keeps}
+use Rattle.calls.proofs.Refusing.{buffers_sides, add_sides, remove_sides, query_sides}
 use Rattle.calls.proofs.BlockUse as leaf
 use Rattle.calls.proofs.ReadingLaws as read
 use Rattle.calls.proofs.FactLaws.{add_facts, remove_facts, query_facts}
@@ -328,6 +329,10 @@ claims embeds =
       add_accepts = add_accepts;
       remove_accepts = remove_accepts;
       query_accepts = query_accepts;
+      buffers_sides = buffers_sides;
+      add_sides = add_sides;
+      remove_sides = remove_sides;
+      query_sides = query_sides;
       add_refuses = add_refuses;
       add_keeps = add_keeps;
       remove_refuses = remove_refuses;

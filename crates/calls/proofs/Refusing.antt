@@ -9,11 +9,11 @@ use lib.ListN.{length}
 use Rattle.strand.specs.Folds.{fold_of}
 use Rattle.strand.specs.Strands.{Strand, least_motif, least_molecule}
 use Rattle.refusals.specs.Rules.{motif_side, molecule_side, no_side, wrong_slice, not_whole_blocks, unsound_block, number_too_large, already_held, not_held}
-use Rattle.refusals.specs.Rules.{refuse_if, Refuses, Keeps}
+use Rattle.refusals.specs.Rules.{refuse_if, Refuses, Keeps, TableSide, is_motif, is_molecule, is_neither, TableSides}
 use Rattle.refusals.proofs.Refusing.{Numbering, call_number, if_numbered, lowest_numbered, none_numbered, first_numbered, work_numbered, refuses_by}
-use Rattle.refusals.proofs.Refusing.{keeps_by}
+use Rattle.refusals.proofs.Refusing.{keeps_by, when_side, lowest_side, none_side, first_side, work_sides}
 use Rattle.refusals.specs.declared.Refusal.{Refusal}
-use Rattle.strand.proofs.VerdictLaws.{strand_numbered}
+use Rattle.strand.proofs.VerdictLaws.{strand_numbered, strand_side}
 use Rattle.calls.specs.Answers.{Added, Removed, Queried, hits_of}
 use Rattle.calls.specs.Buffers.{most_molecule_bases, most_motif_bases, molecule_verdict, motif_verdict, work_verdict, buffers_verdict}
 use Rattle.calls.specs.Calls.{Effect, add_verdict, add_outcome, remove_verdict, remove_outcome, QueryEffect, query_verdict, query_accepted}
@@ -61,6 +61,45 @@ query_numbered catalog cache p work room =
     (first_numbered _ _ (motif_numbered p)
     (first_numbered _ _ (if_numbered wrong_slice no_side (call_number 9 0 (omega arith) (omega arith) (λ n. refl)) _)
     (first_numbered _ _ (work_numbered (length p.bases) most_molecule_bases work) none_numbered)))
+
+-- ---- their sides
+
+pub buffers_sides : (catalog cache : List ℕ) → TableSides (buffers_verdict catalog cache)
+unfolding buffers_verdict
+buffers_sides catalog cache =
+    first_side TableSide _ _ (when_side TableSide not_whole_blocks no_side _ (is_neither refl))
+    (first_side TableSide _ _ (lowest_side TableSide unsound_block no_side _ _ (is_neither refl)) (none_side TableSide))
+
+molecule_sides : (q : Strand) → TableSides (molecule_verdict q)
+unfolding molecule_verdict
+molecule_sides q = strand_side TableSide molecule_side least_molecule most_molecule_bases q.bases q.mates (is_molecule refl)
+
+motif_sides : (p : Strand) → TableSides (motif_verdict p)
+unfolding motif_verdict
+motif_sides p = strand_side TableSide motif_side least_motif most_motif_bases p.bases p.mates (is_motif refl)
+
+pub add_sides : (catalog cache : List ℕ) (d : ℕ) (q : Strand) → TableSides (add_verdict catalog cache d q)
+unfolding add_verdict
+add_sides catalog cache d q =
+    first_side TableSide _ _ (buffers_sides catalog cache)
+    (first_side TableSide _ _ (when_side TableSide number_too_large no_side _ (is_neither refl))
+    (first_side TableSide _ _ (when_side TableSide already_held no_side _ (is_neither refl))
+    (first_side TableSide _ _ (molecule_sides q) (none_side TableSide))))
+
+pub remove_sides : (catalog cache : List ℕ) (d : ℕ) → TableSides (remove_verdict catalog cache d)
+unfolding remove_verdict
+remove_sides catalog cache d =
+    first_side TableSide _ _ (buffers_sides catalog cache)
+    (first_side TableSide _ _ (when_side TableSide number_too_large no_side _ (is_neither refl))
+    (first_side TableSide _ _ (when_side TableSide not_held no_side _ (is_neither refl)) (none_side TableSide)))
+
+pub query_sides : (catalog cache : List ℕ) (p : Strand) (work room : ℕ) → TableSides (query_verdict catalog cache p work room)
+unfolding query_verdict work_verdict
+query_sides catalog cache p work room =
+    first_side TableSide _ _ (buffers_sides catalog cache)
+    (first_side TableSide _ _ (motif_sides p)
+    (first_side TableSide _ _ (when_side TableSide wrong_slice no_side _ (is_neither refl))
+    (first_side TableSide _ _ (work_sides (length p.bases) most_molecule_bases work) (none_side TableSide))))
 
 -- ---- the calls
 

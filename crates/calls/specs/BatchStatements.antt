@@ -3,6 +3,7 @@ use Rattle.std.specs.Prelude.{ℕ, suc, ◌*◌, ◌≤◌, ◌<◌, ◌≡◌, 
 use Rattle.lists.specs.Vocabulary.{nth, piece, select}
 use Rattle.strand.specs.Strands.{Strand, same_strand}
 use Rattle.refusals.specs.Rules.{motif_side, no_side, too_long, work_too_short, wrong_slice, bad_motifs, refusal, RefusesBy, BatchNumbered, Keeps, work_size}
+use Rattle.refusals.specs.Rules.{TableSides}
 use Rattle.refusals.specs.declared.Refusal.{Refusal}
 use Rattle.block.specs.Content.{block_size}
 use Rattle.block.specs.Block.{block_of, block_count}
@@ -155,6 +156,9 @@ pub record BatchClaims (embeds : Strand → Strand → Bool) : Type 0 where
   pub batch_no_numbers : (catalog cache motifs : List ℕ) (work : ℕ) (hits : List ℕ)
       → Keeps Err (batch_outcome embeds catalog motifs work cache hits).answer.read (replicate most_motifs 0) (replicate most_motifs 0)
       (batch_outcome embeds catalog motifs work cache hits).answer.counts (batch_outcome embeds catalog motifs work cache hits).answer.searched
+  -- the side of its refusal is one of the table's three, and so is that of a refusal of its motif buffer
+  pub motifs_sides : (motifs : List ℕ) → TableSides (motifs_verdict motifs)
+  pub batch_sides : (catalog cache motifs : List ℕ) (work room : ℕ) → TableSides (batch_verdict catalog cache motifs work room)
   -- an accepted batch
   pub batch_accepted : (catalog cache motifs : List ℕ) (work : ℕ) (hits : List ℕ) → batch_verdict catalog cache motifs work (length hits) ≡ Ok tt
       → BatchLeaves embeds catalog motifs work cache hits (batch_outcome embeds catalog motifs work cache hits)

@@ -6,7 +6,7 @@ use Rattle.strand.specs.Strands.{Strand, empty_motif}
 use Rattle.octets.specs.Octets.{Bytes, map_bits}
 use Rattle.block.specs.Block.{block_of, sound_molecule, sound_entry, cleaned, forgot, block_count}
 use Rattle.block.specs.Content.{empty_block, encode_entry, keeps_motif, searched_in, hit_in}
-use Rattle.refusals.specs.Rules.{no_side, wrong_slice, first, refuse_if, work_rule, Refuses, Keeps}
+use Rattle.refusals.specs.Rules.{no_side, wrong_slice, first, refuse_if, work_rule, Refuses, Keeps, TableSides}
 use Rattle.calls.specs.Answers.{Added, Removed, hits_of}
 use Rattle.calls.specs.Buffers.{most_molecule_bases, buffers_verdict, held, molecule_at, slot_of, clean_cache}
 use Rattle.calls.specs.Calls.{Effect, add_verdict, add_outcome, remove_verdict, remove_outcome, QueryEffect, query_verdict, to_search}
@@ -103,6 +103,11 @@ pub record Claims (embeds : Strand → Strand → Bool) : Type 0 where
   pub query_keeps : (catalog cache : List ℕ) (p : Strand) (work : ℕ) (hits : List ℕ)
       → Keeps Err (query_outcome embeds catalog cache p work hits).answer cache hits
       (query_outcome embeds catalog cache p work hits).cache (query_outcome embeds catalog cache p work hits).hits
+  -- the side of a refusal is one of the table's three
+  pub buffers_sides : (catalog cache : List ℕ) → TableSides (buffers_verdict catalog cache)
+  pub add_sides : (catalog cache : List ℕ) (d : ℕ) (q : Strand) → TableSides (add_verdict catalog cache d q)
+  pub remove_sides : (catalog cache : List ℕ) (d : ℕ) → TableSides (remove_verdict catalog cache d)
+  pub query_sides : (catalog cache : List ℕ) (p : Strand) (work room : ℕ) → TableSides (query_verdict catalog cache p work room)
   -- hits are held numbers
   pub hit_held : (catalog entry : List ℕ) (p : Strand) (d : ℕ) → is_hit embeds catalog entry p d ≡ true → held catalog d ≡ true
   -- an entry of another motif is not trusted, whatever its key: the hits are the held numbers that embed, and all held are searched

@@ -38,6 +38,14 @@ any_input =
       remove_keeps = (calls.claims embeds).remove_keeps;
       query_keeps = (calls.claims embeds).query_keeps;
       batch_keeps = (batches.claims embeds).batch_keeps;
+      check_sides = (strand.claims).check_sides;
+      length_sides = (matcher.claims).length_sides;
+      show_sides = (matcher.claims).show_sides;
+      verify_sides = (embedding.claims).verify_sides;
+      add_sides = (calls.claims embeds).add_sides;
+      remove_sides = (calls.claims embeds).remove_sides;
+      query_sides = (calls.claims embeds).query_sides;
+      batch_sides = (batches.claims embeds).batch_sides;
     }
 
 right_answer : RightAnswer

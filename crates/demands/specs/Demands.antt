@@ -5,7 +5,7 @@
 -- screen program (screening) and the examples (examples).
 use Rattle.std.specs.Prelude.{ℕ, ◌≡◌, true, List, length as len, Ok, Err}
 use Rattle.lists.specs.Vocabulary.{nth}
-use Rattle.refusals.specs.Rules.{Refuses, RefusesBy, BatchNumbered, Keeps}
+use Rattle.refusals.specs.Rules.{Refuses, RefusesBy, BatchNumbered, Keeps, TableSides}
 use Rattle.refusals.specs.declared.Side.{Side}
 use Rattle.letters.specs.Letters.{letters_match, ReadAlike}
 use Rattle.letters.specs.Statements.{LetterSays, MatchSays}
@@ -67,6 +67,15 @@ pub record AnyInput : Type 0 where
   -- which of them it is: the order of its rules, and the place in the motif buffer
   pub motifs_refuse : (motifs : List ℕ) → MotifsRefuse motifs
   pub batch_order : (catalog cache motifs : List ℕ) (work room : ℕ) → BatchOrder catalog cache motifs work room
+  -- 1.13: whatever call refuses (window by the rules of length), the side of the refusal is one of the table's three
+  pub check_sides : (bases mates : List ℕ) → TableSides (check_verdict bases mates)
+  pub length_sides : (p pm q qm : List ℕ) (work : ℕ) → TableSides (length_verdict p pm q qm work)
+  pub show_sides : (p pm q qm : List ℕ) (places work : ℕ) → TableSides (show_verdict p pm q qm places work)
+  pub verify_sides : (p pm q qm v : List ℕ) → TableSides (verify_verdict p pm q qm v)
+  pub add_sides : (catalog cache : List ℕ) (d : ℕ) (q : Strand) → TableSides (add_verdict catalog cache d q)
+  pub remove_sides : (catalog cache : List ℕ) (d : ℕ) → TableSides (remove_verdict catalog cache d)
+  pub query_sides : (catalog cache : List ℕ) (p : Strand) (work room : ℕ) → TableSides (query_verdict catalog cache p work room)
+  pub batch_sides : (catalog cache motifs : List ℕ) (work room : ℕ) → TableSides (batch_verdict catalog cache motifs work room)
 
 -- Demand 2, the right answer. (2.5, in Meets: the first L places that show leaves are an embedding of that prefix, and later ones keep their values.)
 pub record RightAnswer : Type 0 where

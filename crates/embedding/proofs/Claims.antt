@@ -22,7 +22,7 @@ use Rattle.embedding.specs.Longest.{closed_to, places_ok, longest, verified, ver
 use Rattle.embedding.specs.Row.{Closed}
 use Rattle.embedding.specs.Statements.{VerifiedSays, EmptyMotifEmbeds, Claims}
 use Rattle.embedding.proofs.Answers.{not_true_is, tells_yes}
-use Rattle.embedding.proofs.VerifyLaws.{answer_refused, answer_accepted, tells_verified, verify_says, verify_accepts, verify_refuses}
+use Rattle.embedding.proofs.VerifyLaws.{answer_refused, answer_accepted, tells_verified, verify_says, verify_accepts, verify_refuses, verify_sides}
 use Rattle.embedding.proofs.Computed.{closed_iff, longest_best, verified_iff}
 use Rattle.embedding.proofs.Tightest.{windows_say}
 use Rattle.embedding.proofs.Spellings.{same_found, not_told_apart, embed_alike, verify_alike}
@@ -120,6 +120,7 @@ claims =
       verify_says = verify_says;
       verify_accepts = verify_accepts;
       verify_refuses = verify_refuses;
+      verify_sides = verify_sides;
       empty_motif_lem = empty_motif_lem;
       empty_motif_verified = empty_motif_verified;
       empty_motif_test = empty_motif_test;

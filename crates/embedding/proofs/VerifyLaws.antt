@@ -13,12 +13,12 @@ use Rattle.strand.specs.declared.Fold.{Fold}
 use Rattle.strand.specs.Folds.{fold_of, IsFold}
 use Rattle.letters.specs.Letters.{letters_match}
 use Rattle.strand.specs.Strands.{Inside, Nested, greatest_length, pair_verdict}
-use Rattle.refusals.specs.Rules.{Verdict, wrong_slice, no_side, refusal, Refuses}
+use Rattle.refusals.specs.Rules.{Verdict, wrong_slice, no_side, refusal, Refuses, TableSide, is_neither, TableSides}
 use Rattle.lists.proofs.ListLaws.{Tells, not_not}
 use Rattle.refusals.proofs.RuleLaws.{first_one, first_pass, first_skip, first_stop, rule_yes, rule_no, rule_pass, by_refused, by_accepted}
-use Rattle.refusals.proofs.Refusing.{Numbering, call_number, if_numbered, none_numbered, first_numbered, refuses_by}
+use Rattle.refusals.proofs.Refusing.{Numbering, call_number, if_numbered, none_numbered, first_numbered, refuses_by, when_side, none_side, first_side}
 use Rattle.strand.proofs.FoldLaws.{fold_is, fold_only}
-use Rattle.strand.proofs.VerdictLaws.{pair_proper, proper_pair, proper_mates, pair_numbered}
+use Rattle.strand.proofs.VerdictLaws.{pair_proper, proper_pair, proper_mates, pair_numbered, pair_sides}
 use Rattle.embedding.specs.declared.Verified.{Verified}
 use Rattle.embedding.specs.Longest.{verified, verify_verdict, VerifyAnswer, verify_answer, EmbedsAt, VerifySays, VerifyAccepts}
 use Rattle.embedding.proofs.Answers.{not_true_is, tells_yes, tells_no}
@@ -110,6 +110,12 @@ module _ (p pm q qm v : List ℕ) where
   verify_numbered =
       first_numbered _ _ (pair_numbered p pm q qm)
       (first_numbered _ _ (if_numbered wrong_slice no_side (call_number 9 0 (omega arith) (omega arith) (λ n. refl)) _) none_numbered)
+
+  pub verify_sides : TableSides (verify_verdict p pm q qm v)
+  unfolding verify_verdict
+  verify_sides =
+      first_side TableSide _ _ (pair_sides p pm q qm)
+      (first_side TableSide _ _ (when_side TableSide wrong_slice no_side _ (is_neither refl)) (none_side TableSide))
 
   -- It tells a refusal exactly where the rules refuse.
   pub verify_refuses : Refuses (verify_verdict p pm q qm v) Err (verify_answer p pm q qm v)

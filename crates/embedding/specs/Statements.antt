@@ -1,7 +1,7 @@
 -- What is claimed of these definitions, for every letter rule and all lists; `claims`, in proofs/Claims, proves it.
 use Rattle.std.specs.Prelude.{ℕ, ◌≤◌, ◌<◌, ◌≡◌, Bool, true, false, ◌↔◌, List, [], length, Err}
 use Rattle.lists.specs.Vocabulary.{nth}
-use Rattle.refusals.specs.Rules.{Refuses}
+use Rattle.refusals.specs.Rules.{Refuses, TableSides}
 use Rattle.letters.specs.Letters.{letters_match, ReadAlike}
 use Rattle.strand.specs.Strands.{Strand, empty_motif, Respelled, Inside}
 use Rattle.embedding.specs.Embedding.{fits, Emb, ClosedPrefix, IsLongest, EmbedsIn}
@@ -64,6 +64,7 @@ pub record Claims : Type 0 where
   pub verify_says : (p pm q qm v : List ℕ) → VerifySays p pm q qm v (verify_answer p pm q qm v)
   pub verify_accepts : (p pm q qm v : List ℕ) → VerifyAccepts p pm q qm v
   pub verify_refuses : (p pm q qm v : List ℕ) → Refuses (verify_verdict p pm q qm v) Err (verify_answer p pm q qm v)
+  pub verify_sides : (p pm q qm v : List ℕ) → TableSides (verify_verdict p pm q qm v)
   pub empty_motif_lem : (rule : ℕ → ℕ → Bool) (qb qm : List ℕ) → EmptyMotifEmbeds rule qb qm
   pub empty_motif_verified : (q qm v : List ℕ) → EmptyMotifVerified q qm v
   -- the test of a query says yes to it

@@ -8,11 +8,12 @@ use lib.Dec.{ltb}
 use lib.ListN.{length}
 use lib.Seq.{ext_get_or}
 use borrow.Author.Tests.{le-ltb}
-use Rattle.refusals.specs.Rules.{Verdict, no_side, wrong_slice, by_verdict, Refuses}
+use Rattle.refusals.specs.Rules.{Verdict, no_side, wrong_slice, by_verdict, Refuses, TableSide, is_neither, TableSides}
 use Rattle.refusals.proofs.RuleLaws.{first_without, rule_no, by_refused, by_accepted}
 use Rattle.refusals.proofs.Refusing.{Numbering, call_number, if_numbered, none_numbered, first_numbered, work_numbered, refuses_by}
+use Rattle.refusals.proofs.Refusing.{when_side, none_side, first_side, work_sides}
 use Rattle.strand.proofs.FoldLaws.{fold_is, fold_only}
-use Rattle.strand.proofs.VerdictLaws.{pair_proper, proper_pair, pair_numbered}
+use Rattle.strand.proofs.VerdictLaws.{pair_proper, proper_pair, pair_numbered, pair_sides}
 use Rattle.lists.specs.Vocabulary.{nth}
 use Rattle.strand.specs.declared.Fold.{Fold}
 use Rattle.strand.specs.Folds.{fold_of, IsFold}
@@ -90,12 +91,24 @@ length_numbered : (p pm q qm : List ℕ) (work : ℕ) → Numbering (length_verd
 unfolding length_verdict
 length_numbered p pm q qm work = first_numbered _ _ (pair_numbered p pm q qm) (first_numbered _ _ (work_numbered (length p) (length q) work) none_numbered)
 
+length_sides : (p pm q qm : List ℕ) (work : ℕ) → TableSides (length_verdict p pm q qm work)
+unfolding length_verdict
+length_sides p pm q qm work =
+    first_side TableSide _ _ (pair_sides p pm q qm) (first_side TableSide _ _ (work_sides (length p) (length q) work) (none_side TableSide))
+
 show_numbered : (p pm q qm : List ℕ) (places work : ℕ) → Numbering (show_verdict p pm q qm places work)
 unfolding show_verdict
 show_numbered p pm q qm places work =
     first_numbered _ _ (pair_numbered p pm q qm)
     (first_numbered _ _ (if_numbered wrong_slice no_side (call_number 9 0 (omega arith) (omega arith) (λ n. refl)) _)
     (first_numbered _ _ (work_numbered (length p) (length q) work) none_numbered))
+
+show_sides : (p pm q qm : List ℕ) (places work : ℕ) → TableSides (show_verdict p pm q qm places work)
+unfolding show_verdict
+show_sides p pm q qm places work =
+    first_side TableSide _ _ (pair_sides p pm q qm)
+    (first_side TableSide _ _ (when_side TableSide wrong_slice no_side _ (is_neither refl))
+    (first_side TableSide _ _ (work_sides (length p) (length q) work) (none_side TableSide)))
 
 -- ---- the motif with no bases
 
@@ -165,6 +178,7 @@ claims =
       );
       length_refuses = λ p pm q qm work.
           prefix_refuses p pm q qm (length_verdict p pm q qm work) (λ e. (length_rules p pm q qm work e).0) (length_numbered p pm q qm work);
+      length_sides = length_sides;
       show_says = λ p pm q qm places work. prefix_says p pm q qm (show_verdict p pm q qm places work) (λ e. (show_rules p pm q qm work places e).0);
       show_whole = λ p pm q qm places work. whole_says p pm q qm (show_verdict p pm q qm places work) (λ e. (show_rules p pm q qm work places e).0);
       show_accepts = λ p pm q qm places work. (
@@ -176,4 +190,5 @@ claims =
       show_respelled = λ p pm q qm p' q' places work P Q. alike_show P Q pm qm places work;
       show_refuses = λ p pm q qm places work.
           prefix_refuses p pm q qm (show_verdict p pm q qm places work) (λ e. (show_rules p pm q qm work places e).0) (show_numbered p pm q qm places work);
+      show_sides = show_sides;
     }

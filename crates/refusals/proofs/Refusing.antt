@@ -13,14 +13,55 @@ use Rattle.refusals.specs.declared.Side.{Side}
 use Rattle.std.specs.Prelude.{Ok, Err}
 use Rattle.refusals.specs.Rules.{number_of, number_of_side, no_bases, bad_letter, unsound_block, arcs_cross, not_held, molecule_side, work_too_short, no_side}
 use Rattle.refusals.specs.Rules.{Verdict, refusal, refuse_if, refuse_at_lowest, first, by_verdict, Numbered, RefusesBy, Keeps, work_rule}
+use Rattle.refusals.specs.Rules.{TableSide, is_neither, TableSides}
 use Rattle.refusals.proofs.RuleLaws.{unrefused, by_accepted, by_refused}
 
--- Every refusal that a verdict can be is one of a table; of the table of every call but batch.
+-- What is said of every refusal that a verdict can be.
+abbrev pub RefusalsBy : (Refusal → Type 0) → Verdict → Type 0
+RefusalsBy said v = (r : Refusal) → v ≡ Err r → said r
+
+-- That it is one of a table; of the table of every call but batch.
 abbrev pub NumberingBy : (ℕ → ℕ → ℕ → Type 0) → Verdict → Type 0
-NumberingBy table v = (r : Refusal) → v ≡ Err r → table (number_of r.rule) (number_of_side r.side) r.place
+NumberingBy table v = RefusalsBy (λ r. table (number_of r.rule) (number_of_side r.side) r.place) v
 
 abbrev pub Numbering : Verdict → Type 0
 Numbering v = NumberingBy Numbered v
+
+-- That its side is such a one.
+abbrev pub SidesBy : (Side → Type 0) → Verdict → Type 0
+SidesBy said v = RefusalsBy (λ r. said r.side) v
+
+-- ---- rule by rule
+
+module _ (said : Refusal → Type 0) where
+  refusal_said : (rule : Rule) (side : Side) (place : ℕ) → said (record { rule = rule; side = side; place = place }) → RefusalsBy said (refusal rule side place)
+  refusal_said rule side place ok r e = let same : ◌≡◌ {A = Refusal} (record { rule = rule; side = side; place = place }) r = cc in rw same at ok
+
+  -- a rule that names no place; where it applies it must give a refusal of which this is said
+  pub when_said : (rule : Rule) (side : Side) (b : Bool) → (b ≡ true → said (record { rule = rule; side = side; place = 0 }))
+      → RefusalsBy said (refuse_if rule side b)
+  unfolding refuse_if choose
+  when_said rule side true ok r e = refusal_said rule side 0 (ok refl) r e
+  when_said rule side false ok r e = absurd (unrefused r (sym e))
+
+  -- a rule that names the lowest place
+  pub lowest_said : (rule : Rule) (side : Side) → ((place : ℕ) → said (record { rule = rule; side = side; place = place })) → (n : ℕ) (p : ℕ → Bool)
+      → RefusalsBy said (refuse_at_lowest rule side n p)
+  unfolding refuse_at_lowest choose
+  lowest_said rule side ok n p = go (ltb (lowest n p) n)
+    where
+      go : (b : Bool) → RefusalsBy said (choose b (refusal rule side (lowest n p)) (Ok tt))
+      go true r e = refusal_said rule side (lowest n p) (ok (lowest n p)) r e
+      go false r e = absurd (unrefused r (sym e))
+
+  pub none_said : RefusalsBy said (first [])
+  unfolding first
+  none_said r e = absurd (unrefused r (sym e))
+
+  pub first_said : (v : Verdict) (vs : List Verdict) → RefusalsBy said v → RefusalsBy said (first vs) → RefusalsBy said (first (v ∷ vs))
+  unfolding first
+  first_said (Ok u) vs a b = b
+  first_said (Err x) vs a b = a
 
 pub strand_number : (number side place : ℕ) → 1 ≤ number → number ≤ number_of arcs_cross → side ≤ number_of_side molecule_side
     → (number ≡ number_of no_bases → side ≡ number_of_side molecule_side) → (number < number_of bad_letter → place ≡ 0) → Numbered number side place
@@ -48,38 +89,37 @@ call_number number place a b d =
       late = λ h n. d n;
     }
 
+-- The same of a table.
 module _ (table : ℕ → ℕ → ℕ → Type 0) where
-  refusal_by : (rule : Rule) (side : Side) (place : ℕ) → table (number_of rule) (number_of_side side) place → NumberingBy table (refusal rule side place)
-  refusal_by rule side place ok r e =
-      let a : rule ≡ r.rule = cc in
-      let b : side ≡ r.side = cc in
-      let c : place ≡ r.place = cc in
-      rw (a, b, c) at ok
-
-  -- a rule that names no place; where it applies it must give a refusal of the table
   pub when_by : (rule : Rule) (side : Side) (b : Bool) → (b ≡ true → table (number_of rule) (number_of_side side) 0) → NumberingBy table (refuse_if rule side b)
-  unfolding refuse_if choose
-  when_by rule side true ok r e = refusal_by rule side 0 (ok refl) r e
-  when_by rule side false ok r e = absurd (unrefused r (sym e))
+  when_by rule side b ok = when_said (λ r. table (number_of r.rule) (number_of_side r.side) r.place) rule side b ok
 
-  -- a rule that names the lowest place
   pub lowest_by : (rule : Rule) (side : Side) → ((place : ℕ) → table (number_of rule) (number_of_side side) place) → (n : ℕ) (p : ℕ → Bool)
       → NumberingBy table (refuse_at_lowest rule side n p)
-  unfolding refuse_at_lowest choose
-  lowest_by rule side ok n p = go (ltb (lowest n p) n)
-    where
-      go : (b : Bool) → NumberingBy table (choose b (refusal rule side (lowest n p)) (Ok tt))
-      go true r e = refusal_by rule side (lowest n p) (ok (lowest n p)) r e
-      go false r e = absurd (unrefused r (sym e))
+  lowest_by rule side ok n p = lowest_said (λ r. table (number_of r.rule) (number_of_side r.side) r.place) rule side ok n p
 
   pub none_by : NumberingBy table (first [])
-  unfolding first
-  none_by r e = absurd (unrefused r (sym e))
+  none_by = none_said (λ r. table (number_of r.rule) (number_of_side r.side) r.place)
 
   pub first_by : (v : Verdict) (vs : List Verdict) → NumberingBy table v → NumberingBy table (first vs) → NumberingBy table (first (v ∷ vs))
-  unfolding first
-  first_by (Ok u) vs a b = b
-  first_by (Err x) vs a b = a
+  first_by v vs a b = first_said (λ r. table (number_of r.rule) (number_of_side r.side) r.place) v vs a b
+
+-- The same of sides.
+module _ (said : Side → Type 0) where
+  pub when_side : (rule : Rule) (side : Side) (b : Bool) → said side → SidesBy said (refuse_if rule side b)
+  when_side rule side b ok = when_said (λ r. said r.side) rule side b (λ e. ok)
+
+  pub lowest_side : (rule : Rule) (side : Side) (n : ℕ) (p : ℕ → Bool) → said side → SidesBy said (refuse_at_lowest rule side n p)
+  lowest_side rule side n p ok = lowest_said (λ r. said r.side) rule side (λ place. ok) n p
+
+  pub none_side : SidesBy said (first [])
+  none_side = none_said (λ r. said r.side)
+
+  pub first_side : (v : Verdict) (vs : List Verdict) → SidesBy said v → SidesBy said (first vs) → SidesBy said (first (v ∷ vs))
+  first_side v vs a b = first_said (λ r. said r.side) v vs a b
+
+pub work_sides : (m n work : ℕ) → TableSides (work_rule m n work)
+work_sides m n work = when_side TableSide work_too_short no_side _ (is_neither refl)
 
 -- The same by the table of every call but batch.
 module _ (rule : Rule) (side : Side) where

@@ -140,6 +140,16 @@ pub record RefusesBy (table : ℕ → ℕ → ℕ → Type 0) {A : Type 0} (v : 
   pub numbered : (r : Refusal) → v ≡ Err r → table (number_of r.rule) (number_of_side r.side) r.place
   pub exactly : (r : Refusal) → (v ≡ Err r) ↔ (answer ≡ refused r)
 
+-- One of the table's three sides, and not `Other`, whatever its number.
+pub data TableSide (side : Side) : Type 0 where
+  is_motif : side ≡ motif_side → TableSide side
+  is_molecule : side ≡ molecule_side → TableSide side
+  is_neither : side ≡ no_side → TableSide side
+
+-- Every refusal that a verdict can be has one of these.
+abbrev pub TableSides : Verdict → Type 0
+TableSides v = (r : Refusal) → v ≡ Err r → TableSide r.side
+
 -- The refusals of every call but batch.
 abbrev pub Refuses : {A : Type 0} → Verdict → (Refusal → A) → A → Type 0
 Refuses v refused answer = RefusesBy Numbered v refused answer

@@ -1,6 +1,8 @@
 // Refusals: an answer with rule, side and place, and the verdict of a call's rules.
 #![tactic(auto)]
 
+pub mod numbers;
+
 ghost use Rattle.std.specs.Prelude.{◌≡◌};
 ghost use Rattle.refusals.specs.Rules.{refusal, number_of, number_of_side};
 
@@ -34,7 +36,7 @@ impl Rule {
 }
 
 // Which of a call's two strands a refusal speaks of. The table has three; what takes a side, as `check_strand` does, takes any number as one and hands it on,
-// so that there is a fourth case for the numbers that the table does not have.
+// so that there is a fourth case for the numbers that the table does not have. No call answers that case (1.13 of crate demands).
 #[derive(Clone, Copy, Debug, PartialEq, Eq)]
 pub enum Side {
     Motif,
@@ -49,9 +51,9 @@ impl Side {
         ensures { result ≡ number_of_side self }
     {
         match self {
-            Side::Motif => 0,
-            Side::Molecule => 1,
-            Side::Neither => 2,
+            Side::Motif => numbers::MOTIF,
+            Side::Molecule => numbers::MOLECULE,
+            Side::Neither => numbers::NEITHER,
             Side::Other(number) => number,
         }
     }

@@ -13,11 +13,11 @@ use Rattle.refusals.proofs.Refusing.{refuses_by}
 use Rattle.strand.specs.declared.Fold.{Fold}
 use Rattle.strand.specs.Folds.{fold_of}
 use Rattle.strand.specs.Strands.{Checked, Strand, same_strand, key, least_molecule, greatest_length, check_verdict, check_answer, CheckAccepts, CheckSays}
-use Rattle.strand.specs.Statements.{NestedSays, StrandSays, LowestSays, EmptyMotifSays, FoldSays, Claims}
+use Rattle.strand.specs.Statements.{NestedSays, StrandSays, SideSays, LowestSays, EmptyMotifSays, FoldSays, Claims}
 use Rattle.lists.proofs.ListLaws.{lowest_before, lowest_upto, lowest_passes}
 use Rattle.strand.proofs.FoldLaws.{arcs_most, depth_most, fold_is, fold_only, depth_none}
 use Rattle.strand.proofs.VerdictLaws.{nested_yes, nested_test, accepted_proper, proper_accepted, check_numbered, empty_passes, empty_pair}
-use Rattle.strand.proofs.VerdictLaws.{same_strand_eq}
+use Rattle.strand.proofs.VerdictLaws.{same_strand_eq, strand_side, check_sides}
 use Rattle.lists.proofs.ListLaws.{same_refl}
 use Rattle.strand.proofs.Spellings.{alike_verdict, alike_check}
 
@@ -35,6 +35,9 @@ nested_answered : (v : Verdict) (f g : Fold) → ◌≡◌ {A = Checked} (by_ver
 unfolding by_verdict
 nested_answered (Ok u) f g e = (refl, cc)
 nested_answered (Err x) f g e = cc
+
+side_says : (side : Side) (least greatest : ℕ) (bases mates : List ℕ) → SideSays side least greatest bases mates
+side_says side least greatest bases mates = strand_side (λ (s : Side). s ≡ side) side least greatest bases mates refl
 
 check_accepts : (bases mates : List ℕ) → CheckAccepts bases mates
 unfolding check_verdict
@@ -74,9 +77,11 @@ claims =
     record {
       nested_says = nested_says;
       strand_says = strand_says;
+      side_says = side_says;
       check_accepts = check_accepts;
       check_says = check_says;
       check_refuses = check_refuses;
+      check_sides = check_sides;
       empty_motif_says = empty_motif_says;
       fold_says = fold_says;
       same_says = λ p q. (same_strand_eq p q, (λ e. rw e (same_strand_refl q)));

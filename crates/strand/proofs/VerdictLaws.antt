@@ -13,8 +13,9 @@ use Rattle.letters.specs.Letters.{not_letter}
 use Rattle.strand.specs.Strands.{Strand, same_strand, mate_outside, not_mutual, crossed_at, is_nested, Nested, Proper, strand_verdict}
 use Rattle.strand.specs.Strands.{check_verdict, pair_verdict, Pair, least_motif, least_molecule, greatest_length}
 use Rattle.refusals.specs.Rules.{unequal_lengths, no_bases, too_long, bad_letter, bad_mate, mates_not_mutual, arcs_cross}
-use Rattle.refusals.specs.Rules.{number_of, number_of_side, motif_side, molecule_side, first, Numbered}
+use Rattle.refusals.specs.Rules.{number_of, number_of_side, motif_side, molecule_side, first, Numbered, TableSide, is_motif, is_molecule, TableSides}
 use Rattle.refusals.proofs.Refusing.{Numbering, strand_number, when_numbered, if_numbered, lowest_numbered, none_numbered, first_numbered}
+use Rattle.refusals.proofs.Refusing.{SidesBy, when_side, lowest_side, none_side, first_side}
 use Rattle.refusals.proofs.RuleLaws.{first_one, first_pass, rule_pass, rule_at_pass}
 use Rattle.lists.proofs.ListLaws.{and_true, not_not, true_not, every_true, some_no, some_none, lowest_all, same_eq}
 use Rattle.strand.proofs.NestingLaws.{uncrossed_apart, apart_uncrossed, inside_of, paired_of}
@@ -184,3 +185,27 @@ unfolding pair_verdict
 pair_numbered p pm q qm =
     first_numbered _ _ (strand_numbered motif_side (omega arith) least_motif greatest_length p pm (λ h. absurd (omega arith)))
     (first_numbered _ _ (strand_numbered molecule_side (omega arith) least_molecule greatest_length q qm (λ h. refl)) none_numbered)
+
+-- ---- their sides: rules 1 to 7 hand on the one that they are given
+
+pub strand_side : (said : Side → Type 0) (side : Side) (least greatest : ℕ) (bases mates : List ℕ) → said side
+    → SidesBy said (strand_verdict side least greatest bases mates)
+unfolding strand_verdict
+strand_side said side least greatest bases mates ok =
+    first_side said _ _ (when_side said unequal_lengths side _ ok)
+    (first_side said _ _ (when_side said no_bases side _ ok)
+    (first_side said _ _ (when_side said too_long side _ ok)
+    (first_side said _ _ (lowest_side said bad_letter side _ _ ok)
+    (first_side said _ _ (lowest_side said bad_mate side _ _ ok)
+    (first_side said _ _ (lowest_side said mates_not_mutual side _ _ ok)
+    (first_side said _ _ (lowest_side said arcs_cross side _ _ ok) (none_side said)))))))
+
+pub check_sides : (bases mates : List ℕ) → TableSides (check_verdict bases mates)
+unfolding check_verdict
+check_sides bases mates = strand_side TableSide molecule_side least_molecule greatest_length bases mates (is_molecule refl)
+
+pub pair_sides : (p pm q qm : List ℕ) → TableSides (pair_verdict p pm q qm)
+unfolding pair_verdict
+pair_sides p pm q qm =
+    first_side TableSide _ _ (strand_side TableSide motif_side least_motif greatest_length p pm (is_motif refl))
+    (first_side TableSide _ _ (strand_side TableSide molecule_side least_molecule greatest_length q qm (is_molecule refl)) (none_side TableSide))

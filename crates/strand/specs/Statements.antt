@@ -2,7 +2,8 @@
 use Rattle.std.specs.Prelude.{ℕ, ◌≤◌, ◌<◌, ◌≡◌, Bool, true, false, ◌↔◌, List, [], length, Ok, Err}
 use Rattle.lists.specs.Vocabulary.{nth, lowest}
 use Rattle.refusals.specs.declared.Side.{Side}
-use Rattle.refusals.specs.Rules.{motif_side, Refuses}
+use Rattle.refusals.specs.declared.Refusal.{Refusal}
+use Rattle.refusals.specs.Rules.{motif_side, Refuses, TableSides}
 use Rattle.letters.specs.Letters.{ReadAlike}
 use Rattle.strand.specs.declared.Fold.{Fold}
 use Rattle.strand.specs.Folds.{arc_count, depth_of, fold_of, IsArcCount, IsDepth, IsFold}
@@ -17,6 +18,10 @@ NestedSays mates = (is_nested mates ≡ true) ↔ Nested (nth mates) (length mat
 abbrev pub StrandSays : Side → ℕ → ℕ → List ℕ → List ℕ → Type 0
 StrandSays side least greatest bases mates =
     (strand_verdict side least greatest bases mates ≡ Ok tt) ↔ Proper side least greatest bases mates
+
+-- Where they refuse it, the refusal has the side that they are given.
+abbrev pub SideSays : Side → ℕ → ℕ → List ℕ → List ℕ → Type 0
+SideSays side least greatest bases mates = (r : Refusal) → strand_verdict side least greatest bases mates ≡ Err r → r.side ≡ side
 
 -- The place that a rule names: the test passes there, and nowhere below. It is n where the test passes nowhere.
 pub record LowestSays (n : ℕ) (test : ℕ → Bool) : Type 0 where
@@ -47,9 +52,11 @@ pub record FoldSays (mates : List ℕ) : Type 0 where
 pub record Claims : Type 0 where
   pub nested_says : (mates : List ℕ) → NestedSays mates
   pub strand_says : (side : Side) (least greatest : ℕ) (bases mates : List ℕ) → StrandSays side least greatest bases mates
+  pub side_says : (side : Side) (least greatest : ℕ) (bases mates : List ℕ) → SideSays side least greatest bases mates
   pub check_accepts : (bases mates : List ℕ) → CheckAccepts bases mates
   pub check_says : (bases mates : List ℕ) → CheckSays bases mates (check_answer bases mates)
   pub check_refuses : (bases mates : List ℕ) → Refuses (check_verdict bases mates) Err (check_answer bases mates)
+  pub check_sides : (bases mates : List ℕ) → TableSides (check_verdict bases mates)
   pub empty_motif_says : EmptyMotifSays
   pub fold_says : (mates : List ℕ) → FoldSays mates
   -- 02, (vi): "the shelf still compares motifs byte by byte": two motifs are the same for it exactly when all their bytes and mates are
