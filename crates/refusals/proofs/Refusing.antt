@@ -20,16 +20,22 @@ use Rattle.refusals.proofs.RuleLaws.{unrefused, by_accepted, by_refused}
 abbrev pub RefusalsBy : (Refusal → Type 0) → Verdict → Type 0
 RefusalsBy said v = (r : Refusal) → v ≡ Err r → said r
 
--- That it is one of a table; of the table of every call but batch.
+-- That its numbers are in a table; in the table of every call but batch.
+abbrev pub InTable : (ℕ → ℕ → ℕ → Type 0) → Refusal → Type 0
+InTable table r = table (number_of r.rule) (number_of_side r.side) r.place
+
 abbrev pub NumberingBy : (ℕ → ℕ → ℕ → Type 0) → Verdict → Type 0
-NumberingBy table v = RefusalsBy (λ r. table (number_of r.rule) (number_of_side r.side) r.place) v
+NumberingBy table v = RefusalsBy (InTable table) v
 
 abbrev pub Numbering : Verdict → Type 0
 Numbering v = NumberingBy Numbered v
 
--- That its side is such a one.
+-- That this holds of its side.
+abbrev pub OfSide : (Side → Type 0) → Refusal → Type 0
+OfSide said r = said r.side
+
 abbrev pub SidesBy : (Side → Type 0) → Verdict → Type 0
-SidesBy said v = RefusalsBy (λ r. said r.side) v
+SidesBy said v = RefusalsBy (OfSide said) v
 
 -- ---- rule by rule
 
@@ -92,31 +98,31 @@ call_number number place a b d =
 -- The same of a table.
 module _ (table : ℕ → ℕ → ℕ → Type 0) where
   pub when_by : (rule : Rule) (side : Side) (b : Bool) → (b ≡ true → table (number_of rule) (number_of_side side) 0) → NumberingBy table (refuse_if rule side b)
-  when_by rule side b ok = when_said (λ r. table (number_of r.rule) (number_of_side r.side) r.place) rule side b ok
+  when_by rule side b ok = when_said (InTable table) rule side b ok
 
   pub lowest_by : (rule : Rule) (side : Side) → ((place : ℕ) → table (number_of rule) (number_of_side side) place) → (n : ℕ) (p : ℕ → Bool)
       → NumberingBy table (refuse_at_lowest rule side n p)
-  lowest_by rule side ok n p = lowest_said (λ r. table (number_of r.rule) (number_of_side r.side) r.place) rule side ok n p
+  lowest_by rule side ok n p = lowest_said (InTable table) rule side ok n p
 
   pub none_by : NumberingBy table (first [])
-  none_by = none_said (λ r. table (number_of r.rule) (number_of_side r.side) r.place)
+  none_by = none_said (InTable table)
 
   pub first_by : (v : Verdict) (vs : List Verdict) → NumberingBy table v → NumberingBy table (first vs) → NumberingBy table (first (v ∷ vs))
-  first_by v vs a b = first_said (λ r. table (number_of r.rule) (number_of_side r.side) r.place) v vs a b
+  first_by v vs a b = first_said (InTable table) v vs a b
 
 -- The same of sides.
 module _ (said : Side → Type 0) where
   pub when_side : (rule : Rule) (side : Side) (b : Bool) → said side → SidesBy said (refuse_if rule side b)
-  when_side rule side b ok = when_said (λ r. said r.side) rule side b (λ e. ok)
+  when_side rule side b ok = when_said (OfSide said) rule side b (λ e. ok)
 
   pub lowest_side : (rule : Rule) (side : Side) (n : ℕ) (p : ℕ → Bool) → said side → SidesBy said (refuse_at_lowest rule side n p)
-  lowest_side rule side n p ok = lowest_said (λ r. said r.side) rule side (λ place. ok) n p
+  lowest_side rule side n p ok = lowest_said (OfSide said) rule side (λ place. ok) n p
 
   pub none_side : SidesBy said (first [])
-  none_side = none_said (λ r. said r.side)
+  none_side = none_said (OfSide said)
 
   pub first_side : (v : Verdict) (vs : List Verdict) → SidesBy said v → SidesBy said (first vs) → SidesBy said (first (v ∷ vs))
-  first_side v vs a b = first_said (λ r. said r.side) v vs a b
+  first_side v vs a b = first_said (OfSide said) v vs a b
 
 pub work_sides : (m n work : ℕ) → TableSides (work_rule m n work)
 work_sides m n work = when_side TableSide work_too_short no_side _ (is_neither refl)

@@ -19,7 +19,7 @@ abbrev pub StrandSays : Side → ℕ → ℕ → List ℕ → List ℕ → Type 
 StrandSays side least greatest bases mates =
     (strand_verdict side least greatest bases mates ≡ Ok tt) ↔ Proper side least greatest bases mates
 
--- Where they refuse it, the refusal has the side that they are given.
+-- Where rules 1 to 7 refuse a strand, the refusal has the side that they are given.
 abbrev pub SideSays : Side → ℕ → ℕ → List ℕ → List ℕ → Type 0
 SideSays side least greatest bases mates = (r : Refusal) → strand_verdict side least greatest bases mates ≡ Err r → r.side ≡ side
 
